@@ -1,0 +1,55 @@
+-- How `get` goes, as the code takes it: by a list that is known by its first element, with the bytes left counted.
+--
+-- In order: each way through the code; what is read where at most eight bytes may follow has room for seven bits more.
+use mathlib.Core.Path.{_≡_, refl, ap, _∙_}
+use mathlib.Core.List.{List, [], _∷_}
+use Prim.Native.Nat.{ℕ, zero, suc, _-_, _*_, _+_, _%_, _^_, _<_, _≤_}
+use native.Mathlib.Nat.{pow-le-pow-right}
+use native.Mathlib.Numerals.{sub-one}
+use native.Mathlib.Omega.{arith}
+use lib.Dec.{ltb, lit<}
+use lib.ListN.{length, getD, drop}
+use borrow.Author.Tests.{lt-ltb, le-ltb}
+use Rattle.prelude.specs.Pick.{pick}
+use Rattle.prelude.specs.Answer.{Res, got, bad, then, error, measured}
+use Rattle.prelude.proofs.Tests.{split}
+use Rattle.prelude.proofs.Readers.{measured-guard, measured-ok}
+use Rattle.leb128.specs.Leb.{get, TRUNC}
+use Rattle.leb128.specs.Told.{told, last, tenth, raised, valueOf}
+use Rattle.leb128.specs.declared.GetResult.{GetResult}
+use Rattle.leb128.specs.declared.GetResult.the-variants.{Ok, Trunc, Range, Overlong}
+use Rattle.leb128.proofs.Laws.{get-ends}
+
+raised-then : (d : ℕ) (r : Res ℕ ℕ) → raised d (measured r) ≡ measured (then r (λ n rest. got (d + 128 * n) rest))
+unfolding then measured
+raised-then d (got n s) = refl
+raised-then d (bad e) = refl
+
+pub get-nil : (k least : ℕ) (s : List ℕ) → length s ≡ 0 → error TRUNC ≡ measured (get k least s)
+unfolding get measured
+get-nil zero least [] e = refl
+get-nil (suc k) least [] e = refl
+get-nil k least (b ∷ s) e = absurd (omega arith)
+
+pub get-tenth : (k least : ℕ) (s : List ℕ) → (length s ≡ 0 → ⊥) → k ≡ 0 → tenth least (getD s 0 0) (length s - 1) ≡ measured (get k least s)
+unfolding get measured
+get-tenth k least [] ne e = absurd (ne refl)
+get-tenth zero least (b ∷ s) ne e = rw (measured-guard, measured-guard, sub-one)
+get-tenth (suc k) least (b ∷ s) ne e = absurd (omega arith)
+
+pub get-step : (k least : ℕ) (s : List ℕ) → (length s ≡ 0 → ⊥) → (k ≡ 0 → ⊥)
+    → measured (get k least s) ≡ pick (ltb (getD s 0 0) 128) (last least (getD s 0 0) (length s - 1)) (raised (getD s 0 0 % 128) (measured (get (k - 1) 1 (drop 1 s))))
+unfolding get measured
+get-step k least [] ne nk = absurd (ne refl)
+get-step zero least (b ∷ s) ne nk = absurd (nk refl)
+get-step (suc k) least (b ∷ s) ne nk =
+    rw (sub-one (suc k), sub-one (suc (length s)))
+    (split b 128 (λ small. rw (lt-ltb b 128 small, measured-guard)) (λ large. rw (le-ltb b 128 large, raised-then)))
+
+-- of at most eight bytes after the first
+pub get-small : (k least : ℕ) (s : List ℕ) (r : GetResult) → told r ≡ measured (get k least s) → k ≤ 8 → valueOf r < 2 ^ 57
+get-small k least s (Ok n left) e h =
+    measured-ok (get k least s) e (λ rest q l. omega (arith, get-ends k least n s rest q .below, pow-le-pow-right {n = 128} (lit< tt) {i = k} {j = 8} h))
+get-small k least s Trunc e h = omega arith
+get-small k least s Range e h = omega arith
+get-small k least s Overlong e h = omega arith

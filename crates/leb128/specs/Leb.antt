@@ -1,0 +1,39 @@
+-- LEB128 numbers (document 01, "Row of a file"): seven bits a byte, the lowest first, the high bit set on all but the last.
+--
+--   put k n          the shortest bytes of n, where k may follow the first; 9 for n below 2 ^ 64
+--   get k least s    the number at the front of s and the bytes after it, where k bytes may follow the first; or the first fault:
+--                    TRUNC where the bytes end before a wanted one, RANGE of a last allowed byte over 1, OVERLONG of a last byte
+--                    below `least`, which is 0 at the first byte and 1 after it. `get 9 0` reads a number
+--   top k            what `put k` and `get k` reach: every number below it
+use Prim.Native.Nat.{ℕ, zero, suc, _+_, _*_, _/_, _%_, _^_}
+use mathlib.Core.List.{List, [], _∷_}
+use lib.Dec.{ltb, leb}
+use Rattle.prelude.specs.Pick.{pick}
+use Rattle.prelude.specs.Answer.{Res, got, bad, guard, then}
+
+-- numbers of errors, from document 01's table
+
+abbrev pub TRUNC : ℕ
+TRUNC = 3
+
+abbrev pub OVERLONG : ℕ
+OVERLONG = 5
+
+abbrev pub RANGE : ℕ
+RANGE = 6
+
+abbrev pub top : ℕ → ℕ
+top k = 2 * 128 ^ k
+
+unfoldable pub put : ℕ → ℕ → List ℕ
+put zero n = n ∷ []
+put (suc k) n = let more = (n % 128 + 128) ∷ put k (n / 128) in pick (ltb n 128) (n ∷ []) more
+
+-- the last byte of a number
+abbrev pub lastOf : ℕ → ℕ → List ℕ → Res ℕ ℕ
+lastOf least b s = guard (leb least b) OVERLONG (got b s)
+
+unfoldable pub get : ℕ → ℕ → List ℕ → Res ℕ ℕ
+get k least [] = bad TRUNC
+get zero least (b ∷ s) = guard (ltb b 2) RANGE (lastOf least b s)
+get (suc k) least (b ∷ s) = pick (ltb b 128) (lastOf least b s) (then (get k 1 s) (λ n rest. got (b % 128 + 128 * n) rest))

@@ -1,0 +1,4 @@
+-- the numbers: `put`, `get`
+pub mod Leb
+-- what the code's answers mean
+pub mod Told

@@ -1,0 +1,129 @@
+// LEB128 numbers of up to 64 bits (document 01, "Row of a file"), in the shortest form alone.
+ghost use mathlib.Core.Path.{_≡_};
+ghost use Prim.Native.Nat.{_≤_, _<_, _^_};
+ghost use lib.ListN.{length};
+ghost use Rattle.prelude.specs.Answer.{measured};
+ghost use Rattle.prelude.specs.Bytes.{store, stored};
+ghost use Rattle.prelude.proofs.Parts.{Put};
+ghost use Rattle.leb128.specs.Leb.{put, get};
+ghost use Rattle.leb128.specs.Told.{told, last, tenth, raised, valueOf};
+
+// The answer of `get`.
+pub enum GetResult {
+    // The number, and how many bytes are left after it.
+    Ok { value: u64, left: usize },
+    // The bytes end inside the number.
+    Trunc,
+    // The tenth byte is over 1.
+    Range,
+    // The last byte is 0 and not the first.
+    Overlong,
+}
+
+fn wide(b: u8) -> u64
+    ensures { λ r. ⌜ r ≡ b ⌝ }
+{
+    b as u64
+}
+
+// A last byte, which is at least `least`: 0 where it is the first too, and else 1.
+fn last_byte(b: u8, least: u8, left: usize) -> GetResult
+    ensures { λ r. ⌜ told r ≡ last least b left ⌝ }
+{
+    // OVERLONG: a last byte 0 after others
+    if b < least {
+        return GetResult::Overlong;
+    }
+    GetResult::Ok {
+        value: wide(b),
+        left,
+    }
+}
+
+fn tenth_byte(b: u8, least: u8, left: usize) -> GetResult
+    ensures { λ r. ⌜ told r ≡ tenth least b left ⌝ }
+{
+    // RANGE: the tenth byte is over 1
+    if 1 < b {
+        return GetResult::Range;
+    }
+    last_byte(b, least, left)
+}
+
+// Seven bits below the number that follows them.
+fn with_low(low: u8, high: GetResult) -> GetResult
+    requires { ⌜ (valueOf high < 2 ^ 57) × (low < 128) ⌝ }
+    ensures { λ r. ⌜ told r ≡ raised low (told high) ⌝ }
+{
+    match high {
+        GetResult::Ok { value, left } => GetResult::Ok {
+            value: wide(low) + 128 * value,
+            left,
+        },
+        GetResult::Trunc => GetResult::Trunc,
+        GetResult::Range => GetResult::Range,
+        GetResult::Overlong => GetResult::Overlong,
+    }
+}
+
+// Reads a number of which k bytes more than the first are allowed.
+fn get_from(s: &[u8], k: usize, least: u8) -> GetResult
+    requires { ⌜ k ≤ 9 ⌝ }
+    ensures { λ r. ⌜ told r ≡ measured (get k least (now (s .entry))) ⌝ }
+{
+    // TRUNC: a byte is wanted at the end
+    if s.len() == 0 {
+        return GetResult::Trunc;
+    }
+    let b = s[0];
+    let left = s.len() - 1;
+    if k == 0 {
+        return tenth_byte(b, least, left);
+    }
+    if b < 128 {
+        return last_byte(b, least, left);
+    }
+    with_low(b % 128, get_from(&s[1..], k - 1, 1))
+}
+
+// Reads the number at the front of s.
+pub fn get(s: &[u8]) -> GetResult
+    ensures { λ r. ⌜ told r ≡ measured (get 9 0 (now (s .entry))) ⌝ }
+{
+    get_from(s, 9, 0)
+}
+
+// How many bytes n takes.
+pub fn size(n: u64) -> usize
+    ensures { λ r. ⌜ r ≡ length (put 9 n) ⌝ }
+{
+    if n == 0 {
+        return 1;
+    }
+    ((70 - u64::leading_zeros(n)) / 7) as usize
+}
+
+fn put_within(rest: &mut [u8], n: u64) -> usize
+    requires { ⌜ length (put 9 n) ≤ length (now rest) ⌝ }
+    ensures { λ r. ⌜ Put (put 9 n) (now (rest .entry)) (now (rest .exit)) r ⌝ }
+{
+    let mut i: usize = 0;
+    let mut m = n;
+    while 128 <= m {
+        rest[i] = (m % 128 + 128) as u8;
+        m = m / 128;
+        i += 1;
+    }
+    rest[i] = m as u8;
+    i + 1
+}
+
+// Writes n at the front of rest and answers how many bytes that took; where it does not fit, writes nothing and answers 0.
+pub fn put(rest: &mut [u8], n: u64) -> usize
+    ensures { λ r. ⌜ stored r (now (rest .exit)) ≡ store (put 9 n) (now (rest .entry)) ⌝ }
+{
+    if rest.len() < size(n) {
+        return 0;
+    }
+    put_within(rest, n)
+}

@@ -1,0 +1,83 @@
+-- Parts of slices, and stores into them.
+--
+-- In order: the part `&s[k..]`; `sets d i p` of `lib.Seq`, the list d with p stored from index i on; `Put`, what a function ensures that
+-- stores p at the front of a part with room for it; the way between `Put` and `store`.
+use mathlib.Core.Path.{_≡_, refl, sym, ap, _∙_}
+use mathlib.Core.List.{List, [], _∷_, _++_, append-nil}
+use Prim.Native.Nat.{ℕ, zero, suc, _+_, _-_, _≤_, _<_}
+use native.Mathlib.Nat.{zero-add, add-zero, add-suc, suc-add, le-add-right}
+use native.Mathlib.Omega.{arith}
+use lib.ListN.{length, take, drop, set, length-drop, length-append, take-append-drop, drop-of-length-le}
+use lib.Seq.{sets, sets-eq, length-sets, take-all, drop-set-add, take-set-le}
+use borrow.Author.Tests.{le-leb, lt-leb}
+use borrow.Rule.Slice.PartMut.{putMid}
+use Rattle.prelude.specs.Pick.{pick}
+use Rattle.prelude.specs.Bytes.{Bytes, stored, store}
+
+-- ---- the part from k on
+
+pub part-from : (k : ℕ) (s : List ℕ) → take (length s - k) (drop k s) ≡ drop k s
+part-from k s = take-all (length s - k) (drop k s) (simp length-drop (omega arith))
+
+pub length-part : (k : ℕ) (s : List ℕ) → length (take (length s - k) (drop k s)) ≡ length s - k
+length-part k s = rw (part-from k s, length-drop)
+
+pub bytes-drop : (k : ℕ) (s : List ℕ) → Bytes s → Bytes (drop k s)
+bytes-drop zero s b = b
+bytes-drop (suc k) [] b = tt
+bytes-drop (suc k) (x ∷ s) b = bytes-drop k s (b .1)
+
+pub bytes-after : (p s : List ℕ) → Bytes (p ++ s) → Bytes s
+bytes-after [] s b = b
+bytes-after (x ∷ p) s b = bytes-after p s (b .1)
+
+-- ---- stores
+
+pub sets-append : (p q d : List ℕ) (i : ℕ) → sets d i (p ++ q) ≡ sets (sets d i p) (i + length p) q
+sets-append [] q d i = rw add-zero
+sets-append (a ∷ p) q d i = sets-append p q (set d i a) (suc i) ∙ simp (add-suc, suc-add)
+
+sets-front : (p d : List ℕ) → length p ≤ length d → sets d 0 p ≡ p ++ drop (length p) d
+sets-front p d h = sets-eq p d 0 (omega arith) ∙ simp zero-add
+
+sets-drop : (p d : List ℕ) (w i : ℕ) → take w d ++ sets (drop w d) i p ≡ sets d (w + i) p
+sets-drop [] d w i = take-append-drop w d
+sets-drop (a ∷ p) d w i =
+    rw (← take-set-le w d (w + i) a (le-add-right w i), ← drop-set-add w d i a)
+    (sets-drop p (set d (w + i) a) w (suc i) ∙ rw add-suc)
+
+-- the part from w on comes back with p stored at its front
+sets-part : (p d : List ℕ) (w : ℕ) → w ≤ length d → putMid w (length d - w) d (sets (take (length d - w) (drop w d)) 0 p) ≡ sets d w p
+sets-part p d w h =
+    rw (part-from w d, drop-of-length-le (drop w d) {i = length d - w} (rw length-drop (omega arith)), append-nil)
+    (sets-drop p d w 0 ∙ rw add-zero)
+
+-- ---- Put
+
+-- p stored at the front of d is e; r is how many bytes that is
+pub record Put (p d e : List ℕ) (r : ℕ) : Type 0 where
+  pub size : r ≡ length p
+  pub bytes : e ≡ sets d 0 p
+
+pub put-same : (p d e : List ℕ) (r : ℕ) → Put p d e r → length e ≡ length d
+put-same p d e r put = rw (put .bytes) (length-sets d 0 p)
+
+-- p stored at the front of the part from w on
+pub put-part : (p d e : List ℕ) (w r : ℕ) → w ≤ length d → Put p (take (length d - w) (drop w d)) e r → putMid w (length d - w) d e ≡ sets d w p
+put-part p d e w r h put = rw (put .bytes) (sets-part p d w h)
+
+-- p at the front, and then q at the front of what is left
+pub put-then : (p q d e f : List ℕ) (r s : ℕ) → Put p d e r → r ≤ length e → Put q (take (length e - r) (drop r e)) f s
+    → Put (p ++ q) d (putMid r (length e - r) e f) (s + r)
+put-then p q d e f r s put h next = record {
+  size = omega (arith, length-append p q, put .size, next .size);
+  bytes = put-part q e f r s h next ∙ cc (sets-append p q d 0, zero-add (length p), put .size, put .bytes);
+}
+
+pub store-put : (p d e : List ℕ) (r : ℕ) → length p ≤ length d → Put p d e r → stored r e ≡ store p d
+unfolding store
+store-put p d e r h put = rw (le-leb _ _ h, put .size, put .bytes, sets-front p d h)
+
+pub store-none : (p d : List ℕ) → length d < length p → stored 0 d ≡ store p d
+unfolding store
+store-none p d h = rw (lt-leb _ _ h)

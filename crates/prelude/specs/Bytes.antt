@@ -1,0 +1,24 @@
+-- Bytes, and bytes stored at the front of a buffer.
+--
+--   Bytes s      each element of s is a byte
+--   store p d    p stored at the front of d where it fits, and how many bytes that is; else d as it is, and 0
+--   stored r e   what a call that stores tells: r bytes, and the buffer e that it leaves
+use Prim.Native.Nat.{ℕ, _<_}
+use mathlib.Core.List.{List, [], _∷_, _++_}
+use lib.Dec.{leb}
+use lib.ListN.{length, drop}
+use Rattle.prelude.specs.Pick.{pick}
+
+abbrev pub Bytes : List ℕ → Type 0
+Bytes [] = Unit {0}
+Bytes (b ∷ s) = (b < 256) × Bytes s
+
+pub record Stored : Type 0 where
+  pub size : ℕ
+  pub bytes : List ℕ
+
+abbrev pub stored : ℕ → List ℕ → Stored
+stored r e = record { size = r; bytes = e }
+
+unfoldable pub store : List ℕ → List ℕ → Stored
+store p d = pick (leb (length p) (length d)) (stored (length p) (p ++ drop (length p) d)) (stored 0 d)

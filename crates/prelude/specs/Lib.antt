@@ -1,0 +1,8 @@
+-- the choice by a test
+pub mod Pick
+-- what a call answers, and what a reader of bytes answers
+pub mod Answer
+-- bytes, and bytes stored at the front of a buffer
+pub mod Bytes
+-- a loop as a definition
+pub mod Loop
