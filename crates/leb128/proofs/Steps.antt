@@ -14,7 +14,8 @@ use Rattle.prelude.specs.Pick.{pick}
 use Rattle.prelude.specs.Answer.{Res, got, bad, then, error, measured}
 use Rattle.prelude.proofs.Tests.{split}
 use Rattle.prelude.proofs.Readers.{measured-guard, measured-ok}
-use Rattle.leb128.specs.Leb.{get, TRUNC}
+use Rattle.error.specs.Error.{TRUNC}
+use Rattle.leb128.specs.Leb.{get}
 use Rattle.leb128.specs.Told.{told, last, tenth, raised, valueOf}
 use Rattle.leb128.specs.declared.GetResult.{GetResult}
 use Rattle.leb128.specs.declared.GetResult.the-variants.{Ok, Trunc, Range, Overlong}

@@ -10,17 +10,7 @@ use mathlib.Core.List.{List, [], _∷_}
 use lib.Dec.{ltb, leb}
 use Rattle.prelude.specs.Pick.{pick}
 use Rattle.prelude.specs.Answer.{Res, got, bad, guard, then}
-
--- numbers of errors, from document 01's table
-
-abbrev pub TRUNC : ℕ
-TRUNC = 3
-
-abbrev pub OVERLONG : ℕ
-OVERLONG = 5
-
-abbrev pub RANGE : ℕ
-RANGE = 6
+use Rattle.error.specs.Error.{TRUNC, OVERLONG, RANGE}
 
 abbrev pub top : ℕ → ℕ
 top k = 2 * 128 ^ k

@@ -8,7 +8,7 @@ use Prim.Native.Nat.{ℕ, _+_, _*_}
 use lib.Dec.{ltb, leb}
 use Rattle.prelude.specs.Pick.{pick}
 use Rattle.prelude.specs.Answer.{Answer, ok, error}
-use Rattle.leb128.specs.Leb.{TRUNC, OVERLONG, RANGE}
+use Rattle.error.specs.Error.{TRUNC, OVERLONG, RANGE}
 use Rattle.leb128.specs.declared.GetResult.{GetResult}
 use Rattle.leb128.specs.declared.GetResult.the-variants.{Ok, Trunc, Range, Overlong}
 

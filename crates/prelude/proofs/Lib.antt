@@ -1,5 +1,7 @@
 -- `pick`, tests as equations, and the rulesets
 pub mod Tests
+-- tables: what all rows have, and rows that stand for others
+pub mod Tables
 -- readers that answered: what their parts answered
 pub mod Readers
 -- parts of slices, and stores into them

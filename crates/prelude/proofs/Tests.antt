@@ -1,15 +1,12 @@
 -- Tests as equations, both ways, and `pick`.
 --
--- In order: a property of both arms of a `pick`; one order or the other, inside a term; tests joined by `&&`; a test that all
--- rows of a table pass; the rulesets. The tests themselves (`lt-ltb`, `ltb-true`, ..) are those of `borrow.Author.Tests`.
+-- In order: a property of both arms of a `pick`; one order or the other, inside a term; tests joined by `&&`; the rulesets. The tests themselves (`lt-ltb`, `ltb-true`, ..) are those of `borrow.Author.Tests`.
 use mathlib.Core.Path.{_≡_, refl}
 use mathlib.Core.Bool.{Bool, true, false, _&&_, false≢true}
-use mathlib.Core.List.{List, [], _∷_}
-use Prim.Native.Nat.{ℕ, zero, suc, _≤_, _<_}
+use Prim.Native.Nat.{ℕ, _≤_, _<_}
 use native.Mathlib.Decide.{decLe}
 use native.Mathlib.Nat.{lt-of-not-le}
 use native.Mathlib.Omega.{arith}
-use lib.ListN.{getD}
 use borrow.Author.Needs.{needs}
 use borrow.Author.Tests.{ltb-true, ltb-false, leb-true, leb-false, eqb-true, lt-ltb, le-ltb, le-leb, lt-leb, eq-eqb, ne-eqb}
 use Rattle.prelude.specs.Pick.{pick}
@@ -29,16 +26,6 @@ and-l false b e = e
 pub and-r : (a b : Bool) → a && b ≡ true → b ≡ true
 and-r true b e = e
 and-r false b e = absurd (false≢true e)
-
-abbrev pub every : {A : Type 0} → (A → Bool) → List A → Bool
-every p [] = true
-every p (x ∷ xs) = p x && every p xs
-
--- what all rows of a table pass, and the row for what is past them, each row that is looked up passes
-pub every-getD : {A : Type 0} (p : A → Bool) (xs : List A) (k : ℕ) (d : A) → every p xs ≡ true → p d ≡ true → p (getD xs k d) ≡ true
-every-getD p [] k d e ed = ed
-every-getD p (x ∷ xs) zero d e ed = and-l (p x) _ e
-every-getD p (x ∷ xs) (suc k) d e ed = every-getD p xs k d (and-r (p x) _ e) ed
 
 -- for `rw` and `simp`: a test's value from the fact
 pub ruleset tests = (lt-ltb, le-ltb, le-leb, lt-leb, eq-eqb, ne-eqb)

@@ -1,0 +1,2 @@
+-- the errors: numbers, names, and what the code's error tells
+pub mod Error

@@ -1,0 +1,114 @@
+// The eighteen errors of document 01 ("Numbers of refusal"): their numbers and their names.
+ghost use mathlib.Core.Path.{_≡_};
+ghost use Prim.Native.Nat.{_<_};
+ghost use lib.ListN.{take};
+ghost use Rattle.error.specs.Error.{numberOf, nameOf};
+
+// What went wrong. The variants stand in the order of their numbers, from 1.
+pub enum ErrorKind {
+    // The file has no bytes.
+    Empty,
+    // The file is over 16,777,216 bytes long.
+    TooLong,
+    // The region ends inside a number or a fixed body, a length or count exceeds the bytes left, or an item is wanted at the region's end.
+    Trunc,
+    // A reserved kind or low nibble.
+    Reserved,
+    // The last byte of a number is 0 and not its first.
+    Overlong,
+    // A number over its kind's bound or over 64 bits.
+    Range,
+    // An item of a kind that is no immediate.
+    Nested,
+    // A text that is not text.
+    BadText,
+    // A target that is no start of a value that ended before.
+    BadTarget,
+    // One value more than the table has words.
+    Full,
+    // The delta byte names no start of a value.
+    BadEntry,
+    // The asked offset is not in the region.
+    Outside,
+    // An item number at or past the count, or a key that is not there.
+    NoItem,
+    // The query does not fit the value's kind.
+    WrongKind,
+    // Writer: the output has no room.
+    NoRoom,
+    // Writer: items are still pending (document 01: "owed").
+    Owed,
+    // Writer: already closed.
+    Closed,
+    // Writer: a state that fits neither the output nor the table.
+    BadState,
+}
+
+// What went wrong, and where: the offset that document 01 calls its place.
+pub struct Error {
+    pub kind: ErrorKind,
+    pub place: usize,
+}
+
+// A name in the paper's spelling: the first `len` bytes of `text`.
+pub struct ErrorName {
+    pub text: [u8; 10],
+    pub len: usize,
+}
+
+// The number of an error, 1 to 18.
+pub fn number(kind: ErrorKind) -> u32
+    ensures { λ r. ⌜ (r ≡ numberOf kind) × (r < 19) ⌝ }
+{
+    match kind {
+        ErrorKind::Empty => 1,
+        ErrorKind::TooLong => 2,
+        ErrorKind::Trunc => 3,
+        ErrorKind::Reserved => 4,
+        ErrorKind::Overlong => 5,
+        ErrorKind::Range => 6,
+        ErrorKind::Nested => 7,
+        ErrorKind::BadText => 8,
+        ErrorKind::BadTarget => 9,
+        ErrorKind::Full => 10,
+        ErrorKind::BadEntry => 11,
+        ErrorKind::Outside => 12,
+        ErrorKind::NoItem => 13,
+        ErrorKind::WrongKind => 14,
+        ErrorKind::NoRoom => 15,
+        ErrorKind::Owed => 16,
+        ErrorKind::Closed => 17,
+        ErrorKind::BadState => 18,
+    }
+}
+
+// The names by number; no error has the number 0.
+const NAMES: [ErrorName; 19] = [
+    ErrorName { text: *b"          ", len: 0 },
+    ErrorName { text: *b"EMPTY     ", len: 5 },
+    ErrorName { text: *b"TOO_LONG  ", len: 8 },
+    ErrorName { text: *b"TRUNC     ", len: 5 },
+    ErrorName { text: *b"RESERVED  ", len: 8 },
+    ErrorName { text: *b"OVERLONG  ", len: 8 },
+    ErrorName { text: *b"RANGE     ", len: 5 },
+    ErrorName { text: *b"NESTED    ", len: 6 },
+    ErrorName { text: *b"BAD_TEXT  ", len: 8 },
+    ErrorName { text: *b"BAD_TARGET", len: 10 },
+    ErrorName { text: *b"FULL      ", len: 4 },
+    ErrorName { text: *b"BAD_ENTRY ", len: 9 },
+    ErrorName { text: *b"OUTSIDE   ", len: 7 },
+    ErrorName { text: *b"NO_ITEM   ", len: 7 },
+    ErrorName { text: *b"WRONG_KIND", len: 10 },
+    ErrorName { text: *b"NO_ROOM   ", len: 7 },
+    ErrorName { text: *b"OWED      ", len: 4 },
+    ErrorName { text: *b"CLOSED    ", len: 6 },
+    ErrorName { text: *b"BAD_STATE ", len: 9 },
+];
+
+// The name of an error, as `BAD_TARGET`.
+pub fn name(kind: ErrorKind) -> ErrorName
+    ensures { λ r. ⌜ take (r .len) (r .text) ≡ nameOf kind ⌝ }
+{
+    let i = number(kind) as usize;
+    NAMES[i]
+}

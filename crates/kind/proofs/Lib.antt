@@ -1,0 +1,2 @@
+-- laws of the table
+pub mod Laws

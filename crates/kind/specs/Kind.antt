@@ -1,0 +1,65 @@
+-- The kind table (document 01, "Row of a file"), as numbers, so that no definition goes kind by kind.
+--
+--   table           the sixteen rules, in the order of the kinds
+--   rule k          the rule of kind k; that of a reserved kind past the table
+--   size r n        how many bytes the body has
+--   counted r n a   the items that the file counts, by n or by a second number a
+--   pending r n a   all items: those, and the one of a tag or a variant of one
+--   immediate r     whether a value of this rule has no items, and so may be one
+use Prim.Native.Nat.{ℕ, _+_, _-_, _*_, _^_}
+use mathlib.Core.Bool.{Bool, true, false, not, _&&_}
+use mathlib.Core.List.{List, [], _∷_}
+use lib.Dec.{eqb}
+use lib.ListN.{getD}
+use Rattle.kind.specs.declared.Rule.{Rule}
+
+abbrev pub row : ℕ → ℕ → ℕ → ℕ → ℕ → ℕ → Bool → Rule
+row lows most fixed scale single each args = record {
+  lows = lows;
+  most = most;
+  fixed = fixed;
+  scale = scale;
+  single = single;
+  each = each;
+  args = args;
+}
+
+abbrev pub reserved : Rule
+reserved = row 0 0 0 0 0 0 false
+
+-- the low nibbles in use; the most that n may be; the body's bytes, and its bytes for each n; items, and items for each n; whether
+-- a second number counts items
+abbrev pub table : List Rule
+table =
+    row 3 2 0 0 0 0 false  -- 0: false, true, null
+    ∷ row 16 (2 ^ 63 - 1) 0 0 0 0 false  -- 1: the integer n
+    ∷ row 16 (2 ^ 63 - 1) 0 0 0 0 false  -- 2: the integer -n-1
+    ∷ row 2 1 4 4 0 0 false  -- 3: a float of 4 or 8 bytes
+    ∷ row 16 (2 ^ 64 - 1) 0 1 0 0 false  -- 4: text
+    ∷ row 16 (2 ^ 64 - 1) 0 1 0 0 false  -- 5: byte string
+    ∷ row 16 (2 ^ 64 - 1) 0 0 0 1 false  -- 6: array
+    ∷ row 16 (2 ^ 64 - 1) 0 0 0 2 false  -- 7: map
+    ∷ row 16 (2 ^ 64 - 1) 0 0 1 0 false  -- 8: tag
+    ∷ reserved
+    ∷ row 16 (2 ^ 32 - 1) 0 0 0 0 false  -- 10: variant of none
+    ∷ row 16 (2 ^ 32 - 1) 0 0 1 0 false  -- 11: variant of one
+    ∷ row 16 (2 ^ 32 - 1) 0 0 0 0 true  -- 12: variant of many
+    ∷ reserved
+    ∷ row 16 (2 ^ 64 - 1) 0 0 0 0 false  -- 14: reference
+    ∷ row 16 (2 ^ 64 - 1) 0 0 0 0 false  -- 15: pointer
+    ∷ []
+
+unfoldable pub rule : ℕ → Rule
+rule k = getD table k reserved
+
+abbrev pub size : Rule → ℕ → ℕ
+size r n = r .fixed + r .scale * n
+
+abbrev pub counted : Rule → ℕ → ℕ → ℕ
+counted r n a = r .each * n + a
+
+abbrev pub pending : Rule → ℕ → ℕ → ℕ
+pending r n a = r .single + counted r n a
+
+abbrev pub immediate : Rule → Bool
+immediate r = eqb (r .single) 0 && eqb (r .each) 0 && not (r .args)

@@ -1,0 +1,22 @@
+-- The code's packed form of a rule: sixteen bits.
+--
+--   bound c     what n may be at most, of a code below 8: c itself below 3; 32, 63 and 64 bits for 3, 4 and 5
+--   unpack c    the rule of the packed form c
+use Prim.Native.Nat.{ℕ, _-_, _*_, _/_, _%_, _^_}
+use lib.Dec.{eqb}
+use Rattle.prelude.specs.Pick.{pick}
+use Rattle.kind.specs.declared.Rule.{Rule}
+
+unfoldable pub bound : ℕ → ℕ
+bound c = pick (eqb c 5) (2 ^ 64 - 1) (pick (eqb c 4) (2 ^ 63 - 1) (pick (eqb c 3) (2 ^ 32 - 1) c))
+
+unfoldable pub unpack : ℕ → Rule
+unpack c = record {
+  lows = c % 32;
+  most = bound (c / 32 % 8);
+  fixed = c / 256 % 2 * 4;
+  scale = c / 512 % 8;
+  single = c / 4096 % 2;
+  each = c / 8192 % 4;
+  args = eqb (c / 32768) 1;
+}

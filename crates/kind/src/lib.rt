@@ -1,0 +1,107 @@
+// The kind table (document 01, "Row of a file"): one constant table of sixteen entries, by the high nibble of a header.
+ghost use mathlib.Core.Path.{_≡_};
+ghost use Rattle.kind.specs.Kind.{rule, immediate};
+ghost use Rattle.kind.specs.Packed.{unpack, bound};
+
+// What a kind may hold.
+pub struct Rule {
+    // How many low nibbles are in use, from 0: none of a reserved kind, 16 where low 15 says that a number follows.
+    pub lows: u8,
+    // n is at most this.
+    pub most: u64,
+    // The body has `fixed` bytes, and `scale` for each n.
+    pub fixed: u64,
+    pub scale: u64,
+    // `single` item follows, `each` for each n, and as many as a second number says where `args` is true.
+    pub single: u64,
+    pub each: u64,
+    pub args: bool,
+}
+
+// Where the fields of a rule stand in its packed form; `lows` is the lowest.
+const BOUND: u16 = 32;
+const FIXED: u16 = 256;
+const SCALE: u16 = 512;
+const SINGLE: u16 = 4096;
+const EACH: u16 = 8192;
+const ARGS: u16 = 32768;
+
+// The bounds that no small number says.
+const BITS_32: u16 = 3 * BOUND;
+const BITS_63: u16 = 4 * BOUND;
+const BITS_64: u16 = 5 * BOUND;
+
+const KINDS: [u16; 16] = [
+    // false, true, null
+    3 + 2 * BOUND,
+    // integers: n, and -n-1
+    16 + BITS_63,
+    16 + BITS_63,
+    // floats of 4 and 8 bytes
+    2 + BOUND + FIXED + 4 * SCALE,
+    // text, byte string
+    16 + BITS_64 + SCALE,
+    16 + BITS_64 + SCALE,
+    // array, map
+    16 + BITS_64 + EACH,
+    16 + BITS_64 + 2 * EACH,
+    // tag
+    16 + BITS_64 + SINGLE,
+    // reserved
+    0,
+    // variants of none, of one, of many
+    16 + BITS_32,
+    16 + BITS_32 + SINGLE,
+    16 + BITS_32 + ARGS,
+    // reserved
+    0,
+    // reference, pointer
+    16 + BITS_64,
+    16 + BITS_64,
+];
+
+fn most(code: u16) -> u64
+    ensures { λ r. ⌜ r ≡ bound code ⌝ }
+{
+    if code == 5 {
+        return 0xffff_ffff_ffff_ffff;
+    }
+    if code == 4 {
+        return 0x7fff_ffff_ffff_ffff;
+    }
+    if code == 3 {
+        return 0xffff_ffff;
+    }
+    code as u64
+}
+
+fn unpacked(c: u16) -> Rule
+    ensures { λ r. ⌜ r ≡ unpack c ⌝ }
+{
+    Rule {
+        lows: (c % 32) as u8,
+        most: most(c / BOUND % 8),
+        fixed: (c / FIXED % 2 * 4) as u64,
+        scale: (c / SCALE % 8) as u64,
+        single: (c / SINGLE % 2) as u64,
+        each: (c / EACH % 4) as u64,
+        args: c / ARGS == 1,
+    }
+}
+
+// The rule of a kind; of a number over 15 that of a reserved one.
+pub fn rule_of(kind: u8) -> Rule
+    ensures { λ r. ⌜ r ≡ rule kind ⌝ }
+{
+    if 15 < kind {
+        return unpacked(0);
+    }
+    unpacked(KINDS[kind as usize])
+}
+
+// Whether a value of this rule may be an item.
+pub fn is_immediate(rule: Rule) -> bool
+    ensures { λ r. ⌜ r ≡ immediate rule ⌝ }
+{
+    (rule.single == 0) & (rule.each == 0) & !rule.args
+}

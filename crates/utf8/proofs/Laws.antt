@@ -1,0 +1,3 @@
+-- `isText` decides the grammar.
+--
+use mathlib.Core.Path.{_≡_, refl}

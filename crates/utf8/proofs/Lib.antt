@@ -1,0 +1,6 @@
+-- `isText` decides the grammar
+pub mod Laws
+-- how the test goes on, as the code takes it
+mod Steps
+-- the definitions on examples
+mod Samples

@@ -1,0 +1,4 @@
+-- the rule of text: the table of forms, the grammar, `isText`
+pub mod Text
+-- what the code's states mean
+pub mod Told

@@ -1,0 +1,74 @@
+-- Text (document 01, "Text"): characters of one to four bytes, one after the other.
+--
+--   Range          the numbers from lo to hi, both in it
+--   forms          the forms of a character, a range for each byte: the one table
+--   Matches f p    p has a byte in each range of f, and no other
+--   Text s         s is a text: no bytes, or bytes that match a form and then a text
+--   within r b     whether b is in r
+--   begun fs b     the ranges after the first, of the first form of fs whose first range has b; none where no form has
+--   after due b    the ranges still due after b, where `due` were due before it; none where b cannot stand there
+--   textFrom       whether bytes fill the ranges still due, and then are a text
+--   isText s       whether s is a text
+use Prim.Native.Nat.{ℕ, _≤_}
+use mathlib.Core.Bool.{Bool, true, false, _&&_}
+use mathlib.Core.List.{List, [], _∷_, _++_, List·Memᴰ}
+use mathlib.Core.Option.{Option, some, none}
+use lib.Dec.{leb}
+use Rattle.prelude.specs.Pick.{pick}
+
+pub record Range : Type 0 where
+  pub lo : ℕ
+  pub hi : ℕ
+
+abbrev pub range : ℕ → ℕ → Range
+range a b = record { lo = a; hi = b }
+
+-- the bytes after the first of a character
+abbrev pub trail : Range
+trail = range 0x80 0xBF
+
+abbrev pub forms : List (List Range)
+forms =
+    (range 0x00 0x7F ∷ [])
+    ∷ (range 0xC2 0xDF ∷ trail ∷ [])
+    ∷ (range 0xE0 0xEF ∷ trail ∷ trail ∷ [])
+    ∷ (range 0xF0 0xF4 ∷ trail ∷ trail ∷ trail ∷ [])
+    ∷ []
+
+-- ---- the grammar
+
+pub data Matches : List Range → List ℕ → Type 0 where
+  end : Matches [] []
+  byte : {r : Range} {rs : List Range} {b : ℕ} {p : List ℕ} → r .lo ≤ b → b ≤ r .hi → Matches rs p → Matches (r ∷ rs) (b ∷ p)
+
+pub data Text : List ℕ → Type 0 where
+  empty : Text []
+  character : {f : List Range} {p s : List ℕ} → List·Memᴰ f forms → Matches f p → Text s → Text (p ++ s)
+
+-- ---- the test
+
+abbrev pub within : Range → ℕ → Bool
+within r b = leb (r .lo) b && leb b (r .hi)
+
+unfoldable pub begun : List (List Range) → ℕ → Option (List Range)
+begun [] b = none
+begun ([] ∷ fs) b = begun fs b
+begun ((r ∷ rs) ∷ fs) b = pick (within r b) (some rs) (begun fs b)
+
+unfoldable pub after : Option (List Range) → ℕ → Option (List Range)
+after none b = none
+after (some []) b = begun forms b
+after (some (r ∷ rs)) b = pick (within r b) (some rs) none
+
+-- whether nothing is due
+abbrev pub complete : Option (List Range) → Bool
+complete none = false
+complete (some []) = true
+complete (some (r ∷ rs)) = false
+
+unfoldable pub textFrom : Option (List Range) → List ℕ → Bool
+textFrom due [] = complete due
+textFrom due (b ∷ s) = textFrom (after due b) s
+
+abbrev pub isText : List ℕ → Bool
+isText s = textFrom (some []) s

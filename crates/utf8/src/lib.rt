@@ -1,0 +1,56 @@
+// Whether bytes are text (document 01, "Text").
+ghost use mathlib.Core.Path.{_≡_};
+ghost use Prim.Native.Nat.{_<_};
+ghost use Rattle.utf8.specs.Text.{forms, begun, after, isText};
+ghost use Rattle.utf8.specs.Told.{dueOf};
+
+// How many bytes are due after b, the first of a character; 4 where b begins none.
+fn lead(b: u8) -> u8
+    ensures { λ r. ⌜ dueOf r ≡ begun forms b ⌝ }
+{
+    if b <= 0x7F {
+        return 0;
+    }
+    if (0xC2 <= b) & (b <= 0xDF) {
+        return 1;
+    }
+    if (0xE0 <= b) & (b <= 0xEF) {
+        return 2;
+    }
+    if (0xF0 <= b) & (b <= 0xF4) {
+        return 3;
+    }
+    4
+}
+
+// How many bytes are due after b, where `due` were before it; 4 where b cannot stand there.
+fn next_due(due: u8, b: u8) -> u8
+    requires { ⌜ due < 4 ⌝ }
+    ensures { λ r. ⌜ dueOf r ≡ after (dueOf due) b ⌝ }
+{
+    if due == 0 {
+        return lead(b);
+    }
+    if (0x80 <= b) & (b <= 0xBF) {
+        return due - 1;
+    }
+    4
+}
+
+// Whether s is text.
+pub fn is_text(s: &[u8]) -> bool
+    ensures { λ r. ⌜ r ≡ isText (now (s .entry)) ⌝ }
+{
+    let mut due: u8 = 0;
+    let mut i: usize = 0;
+    while i < s.len() {
+        due = next_due(due, s[i]);
+        // BAD_TEXT: a byte that cannot stand there
+        if 3 < due {
+            return false;
+        }
+        i += 1;
+    }
+    // BAD_TEXT: the last character is cut
+    due == 0
+}
