@@ -1,0 +1,35 @@
+-- The definitions on examples: what is read, and what is refused.
+use mathlib.Core.Path.{_≡_, refl}
+use mathlib.Core.List.{List, [], _∷_, map}
+use Prim.Native.Nat.{ℕ}
+use lib.ListN.{length}
+use Rattle.prelude.specs.Answer.{Res, got, bad, guard, then}
+use Rattle.error.specs.Error.{TRUNC, OVERLONG, RANGE}
+use Rattle.leb128.specs.Leb.{get, put}
+
+reads : map (get 9 0) ((0xe5 ∷ 0x8e ∷ 0x26 ∷ 7 ∷ []) ∷ (0 ∷ 0 ∷ []) ∷ (255 ∷ 255 ∷ 255 ∷ 255 ∷ 255 ∷ 255 ∷ 255 ∷ 255 ∷ 255 ∷ 1 ∷ []) ∷ [])
+    ≡ got 624485 (7 ∷ []) ∷ got 0 (0 ∷ []) ∷ got 0xffff_ffff_ffff_ffff [] ∷ []
+unfolding get guard then
+reads = refl
+
+-- no byte, a cut number, a last byte 0, a tenth byte 0, 2 and 80, and the end before the tenth
+refuses : map (get 9 0)
+    ([]
+    ∷ (255 ∷ 255 ∷ [])
+    ∷ (0x80 ∷ 0 ∷ [])
+    ∷ (128 ∷ 128 ∷ 128 ∷ 128 ∷ 128 ∷ 128 ∷ 128 ∷ 128 ∷ 128 ∷ 0 ∷ [])
+    ∷ (128 ∷ 128 ∷ 128 ∷ 128 ∷ 128 ∷ 128 ∷ 128 ∷ 128 ∷ 128 ∷ 2 ∷ [])
+    ∷ (128 ∷ 128 ∷ 128 ∷ 128 ∷ 128 ∷ 128 ∷ 128 ∷ 128 ∷ 128 ∷ 128 ∷ [])
+    ∷ (128 ∷ 128 ∷ 128 ∷ 128 ∷ 128 ∷ 128 ∷ 128 ∷ 128 ∷ 128 ∷ [])
+    ∷ [])
+    ≡ bad TRUNC ∷ bad TRUNC ∷ bad OVERLONG ∷ bad OVERLONG ∷ bad RANGE ∷ bad RANGE ∷ bad TRUNC ∷ []
+unfolding get guard then
+refuses = refl
+
+writes : map (put 9) (0 ∷ 127 ∷ 128 ∷ 624485 ∷ []) ≡ (0 ∷ []) ∷ (127 ∷ []) ∷ (128 ∷ 1 ∷ []) ∷ (0xe5 ∷ 0x8e ∷ 0x26 ∷ []) ∷ []
+unfolding put
+writes = refl
+
+longest : length (put 9 0xffff_ffff_ffff_ffff) ≡ 10
+unfolding put
+longest = refl

@@ -18,7 +18,7 @@ use Rattle.error.specs.Error.{TRUNC}
 use Rattle.leb128.specs.Leb.{get}
 use Rattle.leb128.specs.Told.{told, last, tenth, raised, valueOf}
 use Rattle.leb128.specs.declared.GetResult.{GetResult}
-use Rattle.leb128.specs.declared.GetResult.the-variants.{Ok, Trunc, Range, Overlong}
+use Rattle.leb128.specs.declared.GetResult.the-variants.{Ok, Err}
 use Rattle.leb128.proofs.Laws.{get-ends}
 
 raised-then : (d : ℕ) (r : Res ℕ ℕ) → raised d (measured r) ≡ measured (then r (λ n rest. got (d + 128 * n) rest))
@@ -51,6 +51,4 @@ get-step (suc k) least (b ∷ s) ne nk =
 pub get-small : (k least : ℕ) (s : List ℕ) (r : GetResult) → told r ≡ measured (get k least s) → k ≤ 8 → valueOf r < 2 ^ 57
 get-small k least s (Ok n left) e h =
     measured-ok (get k least s) e (λ rest q l. omega (arith, get-ends k least n s rest q .below, pow-le-pow-right {n = 128} (lit< tt) {i = k} {j = 8} h))
-get-small k least s Trunc e h = omega arith
-get-small k least s Range e h = omega arith
-get-small k least s Overlong e h = omega arith
+get-small k least s (Err f) e h = omega arith

@@ -8,15 +8,13 @@ use Prim.Native.Nat.{ℕ, _+_, _*_}
 use lib.Dec.{ltb, leb}
 use Rattle.prelude.specs.Pick.{pick}
 use Rattle.prelude.specs.Answer.{Answer, ok, error}
-use Rattle.error.specs.Error.{TRUNC, OVERLONG, RANGE}
+use Rattle.error.specs.Error.{OVERLONG, RANGE, numberOf}
 use Rattle.leb128.specs.declared.GetResult.{GetResult}
-use Rattle.leb128.specs.declared.GetResult.the-variants.{Ok, Trunc, Range, Overlong}
+use Rattle.leb128.specs.declared.GetResult.the-variants.{Ok, Err}
 
 abbrev pub told : GetResult → Answer ℕ (ℕ × ℕ)
 told (Ok n left) = ok (n, left)
-told Trunc = error TRUNC
-told Range = error RANGE
-told Overlong = error OVERLONG
+told (Err k) = error (numberOf k)
 
 abbrev pub last : ℕ → ℕ → ℕ → Answer ℕ (ℕ × ℕ)
 last least b left = pick (leb least b) (ok (b, left)) (error OVERLONG)
@@ -30,6 +28,4 @@ raised d (error e) = error e
 
 abbrev pub valueOf : GetResult → ℕ
 valueOf (Ok n left) = n
-valueOf Trunc = 0
-valueOf Range = 0
-valueOf Overlong = 0
+valueOf (Err k) = 0

@@ -1,4 +1,5 @@
 // LEB128 numbers of up to 64 bits (document 01, "Row of a file"), in the shortest form alone.
+use error::ErrorKind;
 ghost use mathlib.Core.Path.{_≡_};
 ghost use Prim.Native.Nat.{_≤_, _<_, _^_};
 ghost use lib.ListN.{length};
@@ -12,12 +13,8 @@ ghost use Rattle.leb128.specs.Told.{told, last, tenth, raised, valueOf};
 pub enum GetResult {
     // The number, and how many bytes are left after it.
     Ok { value: u64, left: usize },
-    // The bytes end inside the number.
-    Trunc,
-    // The tenth byte is over 1.
-    Range,
-    // The last byte is 0 and not the first.
-    Overlong,
+    // TRUNC, RANGE or OVERLONG.
+    Err(ErrorKind),
 }
 
 fn wide(b: u8) -> u64
@@ -32,7 +29,7 @@ fn last_byte(b: u8, least: u8, left: usize) -> GetResult
 {
     // OVERLONG: a last byte 0 after others
     if b < least {
-        return GetResult::Overlong;
+        return GetResult::Err(ErrorKind::Overlong);
     }
     GetResult::Ok {
         value: wide(b),
@@ -45,7 +42,7 @@ fn tenth_byte(b: u8, least: u8, left: usize) -> GetResult
 {
     // RANGE: the tenth byte is over 1
     if 1 < b {
-        return GetResult::Range;
+        return GetResult::Err(ErrorKind::Range);
     }
     last_byte(b, least, left)
 }
@@ -60,9 +57,7 @@ fn with_low(low: u8, high: GetResult) -> GetResult
             value: wide(low) + 128 * value,
             left,
         },
-        GetResult::Trunc => GetResult::Trunc,
-        GetResult::Range => GetResult::Range,
-        GetResult::Overlong => GetResult::Overlong,
+        GetResult::Err(kind) => GetResult::Err(kind),
     }
 }
 
@@ -73,7 +68,7 @@ fn get_from(s: &[u8], k: usize, least: u8) -> GetResult
 {
     // TRUNC: a byte is wanted at the end
     if s.len() == 0 {
-        return GetResult::Trunc;
+        return GetResult::Err(ErrorKind::Trunc);
     }
     let b = s[0];
     let left = s.len() - 1;

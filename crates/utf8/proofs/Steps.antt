@@ -1,18 +1,18 @@
 -- How the test goes on, as the code takes it.
 --
 -- In order: a first byte, row by row of the table; a byte at each state; the bytes from an index on.
-use mathlib.Core.Path.{_≡_, refl}
+use mathlib.Core.Path.{_≡_, refl, sym, _∙_}
 use mathlib.Core.Bool.{Bool, true, false}
 use mathlib.Core.List.{List, [], _∷_}
 use mathlib.Core.Option.{Option, some, none}
 use Prim.Native.Nat.{ℕ, zero, suc, _+_, _-_, _≤_, _<_}
 use native.Mathlib.Numerals.{add-one, sub-one}
 use native.Mathlib.Omega.{arith}
-use lib.Dec.{eqb, leb·zero}
+use lib.Dec.{eqb, leb·zero, eqb·suc-zero}
 use lib.ListN.{length, getD, drop, drop-of-length-le}
 use lib.Seq.{drop-cons}
 use borrow.Author.Tests.{le-leb, lt-leb, lt-ltb, le-ltb}
-use Rattle.utf8.specs.Text.{Range, range, trail, forms, within, begun, after, textFrom}
+use Rattle.utf8.specs.Text.{Range, range, trail, forms, within, begun, after, complete, textFrom}
 use Rattle.utf8.specs.Told.{dueOf}
 
 module _ (b : ℕ) where
@@ -39,24 +39,26 @@ pub ruleset rows = (within-up-to, within-above, begun-here, begun-later, begun-n
 
 -- ---- a byte at the state d
 
-module _ (d b : ℕ) where
-  pub after-first : {due : Option (List Range)} → d ≡ 0 → due ≡ begun forms b → due ≡ after (dueOf d) b
-  unfolding dueOf after
-  after-first z e = rw z e
+pub after-first : (d b : ℕ) {due : Option (List Range)} → d ≡ 0 → due ≡ begun forms b → due ≡ after (dueOf d) b
+unfolding dueOf after
+after-first d b z e = rw z e
 
-  module _ (l : d < 4) (nz : d ≡ 0 → ⊥) where
-    pub after-trail : within trail b ≡ true → dueOf (d - 1) ≡ after (dueOf d) b
-    unfolding dueOf after
-    after-trail e =
-        let p : d ≡ suc (d - 1) = omega arith in
-        let less : d - 1 < 4 = omega arith in
-        rw (lt-ltb d 4 l, lt-ltb (d - 1) 4 less) (rw p ?)
+pub after-trail : (d b : ℕ) → (d ≡ 0 → ⊥) → d < 4 → within trail b ≡ true → dueOf (d - 1) ≡ after (dueOf d) b
+unfolding dueOf after
+after-trail zero b nz l e = absurd (nz refl)
+after-trail (suc d) b nz l e = let less : d < 4 = omega arith in rw (sub-one (suc d), lt-ltb d 4 less, lt-ltb (suc d) 4 l, e)
 
-    pub after-bad : within trail b ≡ false → dueOf 4 ≡ after (dueOf d) b
-    unfolding dueOf after
-    after-bad e = ?
+pub after-bad : (d b : ℕ) → (d ≡ 0 → ⊥) → d < 4 → within trail b ≡ false → dueOf 4 ≡ after (dueOf d) b
+unfolding dueOf after
+after-bad zero b nz l e = absurd (nz refl)
+after-bad (suc d) b nz l e = rw (lt-ltb (suc d) 4 l, e)
 
 -- ---- the bytes from i on
+
+complete-due : (d : ℕ) → d < 4 → complete (dueOf d) ≡ eqb d 0
+unfolding dueOf
+complete-due zero l = refl
+complete-due (suc d) l = rw (lt-ltb (suc d) 4 l, eqb·suc-zero)
 
 text-none : (s : List ℕ) → textFrom none s ≡ false
 unfolding textFrom after
@@ -71,8 +73,8 @@ module _ (s : List ℕ) (i : ℕ) {a : Bool} (d : ℕ) (inv : textFrom (dueOf d)
 
     pub text-bad : 3 < next → false ≡ a
     unfolding dueOf
-    text-bad l = sym (rw (le-ltb next 4 l) at text-on) ∙ text-none _ 
+    text-bad l = sym (text-none _) ∙ (rw (le-ltb next 4 l) at text-on)
 
   pub text-end : d < 4 → length s ≤ i → eqb d 0 ≡ a
   unfolding textFrom dueOf
-  text-end l h = ?
+  text-end l h = rw (← inv, drop-of-length-le, ← complete-due d l)

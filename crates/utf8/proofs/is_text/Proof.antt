@@ -26,9 +26,9 @@ is-text-spec =
     (λ c. search needs)  -- loop-holds
     (λ c. search needs)  -- shared-slice-read-next-due
     (λ c κs. search needs)  -- next-due-requires
-    (λ c. ?)  -- returns
+    (λ c. search (text-bad, arith))  -- returns
     (λ c. search needs)  -- add-i
     (λ c. search needs)  -- loop-less
-    (λ c. ?)  -- loop-again
-    (λ c. ?)  -- returns-2
+    (λ c. (omega arith, search (text-on, arith)))  -- loop-again
+    (λ c. search (text-end, arith))  -- returns-2
     )
