@@ -1,10 +1,32 @@
 -- Laws of the kind table, each one computed test over all rows.
 use mathlib.Core.Path.{_≡_, refl}
-use Prim.Native.Nat.{ℕ, _+_, _*_, _^_, _≤_, _<_}
+use Prim.Native.Nat.{ℕ, _+_, _-_, _*_, _^_, _≤_, _<_, min}
 use native.Mathlib.Omega.{arith}
+use lib.Dec.{leb, ltb}
 use lib.ListN.{length, getD, List·getD-eq-default}
+use borrow.Author.Tests.{leb-true, ltb-true}
+use Rattle.prelude.proofs.Tables.{every-getD}
 use Rattle.kind.specs.Kind.{rule, table, reserved}
+use Rattle.kind.specs.declared.Rule.{Rule}
 
 pub rule-past : (k : ℕ) → 15 < k → rule k ≡ reserved
 unfolding rule
 rule-past k h = List·getD-eq-default table reserved {n = k} (omega arith)
+
+pub most-fits : (k : ℕ) → rule k .most < 2 ^ 64
+unfolding rule
+most-fits k = ltb-true _ _ (every-getD (λ r. ltb (r .most) (2 ^ 64)) table k reserved refl refl)
+
+-- what code may rely on to reckon with a rule in 64 bits
+pub record Row (r : Rule) : Type 0 where
+  pub single : r .single ≤ 1
+  pub unit : r .scale + r .each ≤ 4
+  pub need : r .fixed + (r .scale + r .each) * min (r .most) (2 ^ 63 - 1) < 2 ^ 64
+
+pub rule-row : (k : ℕ) → Row (rule k)
+unfolding rule
+rule-row k = record {
+  single = leb-true _ _ (every-getD (λ r. leb (r .single) 1) table k reserved refl refl);
+  unit = leb-true _ _ (every-getD (λ r. leb (r .scale + r .each) 4) table k reserved refl refl);
+  need = ltb-true _ _ (every-getD (λ r. ltb (r .fixed + (r .scale + r .each) * min (r .most) (2 ^ 63 - 1)) (2 ^ 64)) table k reserved refl refl);
+}

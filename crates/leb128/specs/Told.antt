@@ -4,6 +4,7 @@
 --   last, tenth       what a last byte makes, with `left` bytes after it; and what a last allowed one makes
 --   raised d a        the answer a with the seven bits d below its number
 --   valueOf r         the number of an answer, or 0
+--   leftOf r          the bytes left of an answer, or 0
 use Prim.Native.Nat.{ℕ, _+_, _*_}
 use lib.Dec.{ltb, leb}
 use Rattle.prelude.specs.Pick.{pick}
@@ -29,3 +30,7 @@ raised d (error e) = error e
 abbrev pub valueOf : GetResult → ℕ
 valueOf (Ok n left) = n
 valueOf (Err k) = 0
+
+abbrev pub leftOf : GetResult → ℕ
+leftOf (Ok n left) = left
+leftOf (Err k) = 0

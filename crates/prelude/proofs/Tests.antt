@@ -1,12 +1,14 @@
 -- Tests as equations, both ways, and `pick`.
 --
--- In order: a property of both arms of a `pick`; one order or the other, inside a term; tests joined by `&&`; the rulesets. The tests themselves (`lt-ltb`, `ltb-true`, ..) are those of `borrow.Author.Tests`.
-use mathlib.Core.Path.{_≡_, refl}
+-- In order: a property of both arms of a `pick`, and equal arms; one order or the other, inside a term; tests joined by `&&`; tests
+-- that a flag tells, and that follow from each other; the rulesets. The tests themselves (`lt-ltb`, `ltb-true`, ..) are those of `borrow.Author.Tests`.
+use mathlib.Core.Path.{_≡_, refl, sym, _∙_}
 use mathlib.Core.Bool.{Bool, true, false, _&&_, false≢true}
 use Prim.Native.Nat.{ℕ, _≤_, _<_}
 use native.Mathlib.Decide.{decLe}
 use native.Mathlib.Nat.{lt-of-not-le}
 use native.Mathlib.Omega.{arith}
+use lib.Dec.{leb}
 use borrow.Author.Needs.{needs}
 use borrow.Author.Tests.{ltb-true, ltb-false, leb-true, leb-false, eqb-true, lt-ltb, le-ltb, le-leb, lt-leb, eq-eqb, ne-eqb}
 use Rattle.prelude.specs.Pick.{pick}
@@ -14,6 +16,10 @@ use Rattle.prelude.specs.Pick.{pick}
 pub pick-elim : {A : Type 0} (P : A → Type 0) (t : Bool) {x y : A} → (t ≡ true → P x) → (t ≡ false → P y) → P (pick t x y)
 pick-elim P true f g = f refl
 pick-elim P false f g = g refl
+
+pub pick-cong : {A : Type 0} (t : Bool) {x y x′ y′ : A} → (t ≡ true → x ≡ x′) → (t ≡ false → y ≡ y′) → pick t x y ≡ pick t x′ y′
+pick-cong true f g = f refl
+pick-cong false f g = g refl
 
 -- case analysis inside a term, so that a recursive call may stand in a branch
 pub split : {X : Type 0} (a b : ℕ) → (a < b → X) → (b ≤ a → X) → X
@@ -26,6 +32,19 @@ and-l false b e = e
 pub and-r : (a b : Bool) → a && b ≡ true → b ≡ true
 and-r true b e = e
 and-r false b e = absurd (false≢true e)
+
+-- a test that a flag tells
+pub le-of-flag : (a b : ℕ) {t : Bool} → t ≡ leb a b → t ≡ true → a ≤ b
+le-of-flag a b e h = leb-true a b (sym e ∙ h)
+
+-- two tests that follow from each other
+pub leb-cong : (a b c d : ℕ) → (a ≤ b → c ≤ d) → (b < a → d < c) → leb a b ≡ leb c d
+leb-cong a b c d f g = split b a (λ h. rw (lt-leb a b h, lt-leb c d (g h))) (λ h. rw (le-leb a b h, le-leb c d (f h)))
+
+-- a test joined by `&&` that failed where the first passed
+pub and-false : {X : Type 0} (a b : Bool) → a && b ≡ false → (a ≡ false → X) → (b ≡ false → X) → X
+and-false true b e f g = g e
+and-false false b e f g = f refl
 
 -- for `rw` and `simp`: a test's value from the fact
 pub ruleset tests = (lt-ltb, le-ltb, le-leb, lt-leb, eq-eqb, ne-eqb)

@@ -2,5 +2,5 @@
 pub mod Laws
 -- how the test goes on, as the code takes it
 mod Steps
--- the definitions on examples
+-- `isText` on examples
 mod Samples

@@ -2,41 +2,41 @@
 use mathlib.Core.Path.{_≡_, refl}
 use mathlib.Core.Bool.{true, false}
 use mathlib.Core.List.{[], _∷_}
-use Rattle.utf8.specs.Text.{begun, after, textFrom, isText}
+use Rattle.utf8.specs.Text.{lead, next, textFrom, isText}
 
 nothing : isText [] ≡ true
-unfolding textFrom after begun
+unfolding textFrom next lead
 nothing = refl
 
 hello : isText (0x68 ∷ 0x65 ∷ 0x6C ∷ 0x6C ∷ 0x6F ∷ []) ≡ true
-unfolding textFrom after begun
+unfolding textFrom next lead
 hello = refl
 
 four-bytes : isText (0xF0 ∷ 0x9F ∷ 0x98 ∷ 0x81 ∷ []) ≡ true
-unfolding textFrom after begun
+unfolding textFrom next lead
 four-bytes = refl
 
 -- a surrogate is text by this rule
 surrogate : isText (0xED ∷ 0xA0 ∷ 0x80 ∷ []) ≡ true
-unfolding textFrom after begun
+unfolding textFrom next lead
 surrogate = refl
 
 no-trail : isText (0xC3 ∷ 0x28 ∷ []) ≡ false
-unfolding textFrom after begun
+unfolding textFrom next lead
 no-trail = refl
 
 overlong : isText (0xC0 ∷ 0x80 ∷ []) ≡ false
-unfolding textFrom after begun
+unfolding textFrom next lead
 overlong = refl
 
 cut : isText (0xE2 ∷ 0x82 ∷ []) ≡ false
-unfolding textFrom after begun
+unfolding textFrom next lead
 cut = refl
 
 past-the-last-lead : isText (0xF5 ∷ 0x80 ∷ 0x80 ∷ 0x80 ∷ []) ≡ false
-unfolding textFrom after begun
+unfolding textFrom next lead
 past-the-last-lead = refl
 
 lone-trail : isText (0x80 ∷ []) ≡ false
-unfolding textFrom after begun
+unfolding textFrom next lead
 lone-trail = refl

@@ -1,6 +1,6 @@
 -- How the test goes on, as the code takes it.
 --
--- In order: a first byte, row by row of the table; a byte at each state; the bytes from an index on.
+-- In order: a first byte, row by row of the table; a byte at a state; the bytes from an index on.
 use mathlib.Core.Path.{_≡_, refl, sym, _∙_}
 use mathlib.Core.Bool.{Bool, true, false}
 use mathlib.Core.List.{List, [], _∷_}
@@ -12,69 +12,65 @@ use lib.Dec.{eqb, leb·zero, eqb·suc-zero}
 use lib.ListN.{length, getD, drop, drop-of-length-le}
 use lib.Seq.{drop-cons}
 use borrow.Author.Tests.{le-leb, lt-leb, lt-ltb, le-ltb}
-use Rattle.utf8.specs.Text.{Range, range, trail, forms, within, begun, after, complete, textFrom}
+use Rattle.utf8.specs.Text.{Range, range, trail, forms, within, lead, next, complete, textFrom}
 use Rattle.utf8.specs.Told.{dueOf}
+use Rattle.utf8.proofs.Laws.{text-none}
 
 module _ (b : ℕ) where
-  pub within-up-to : (h : ℕ) → b ≤ h → within (range 0 h) b ≡ true
-  within-up-to h l = rw (leb·zero, le-leb)
+  pub within-zero-le : (h : ℕ) → b ≤ h → within (range 0 h) b ≡ true
+  within-zero-le h l = rw (leb·zero, le-leb)
 
-  pub within-above : (h : ℕ) → h < b → within (range 0 h) b ≡ false
-  within-above h l = rw (leb·zero, lt-leb)
+  pub within-zero-gt : (h : ℕ) → h < b → within (range 0 h) b ≡ false
+  within-zero-gt h l = rw (leb·zero, lt-leb)
 
-  module _ (r : Range) (rs : List Range) (fs : List (List Range)) where
-    pub begun-here : within r b ≡ true → some rs ≡ begun ((r ∷ rs) ∷ fs) b
-    unfolding begun
-    begun-here e = rw e
+  module _ (r : Range) (f : List Range) (fs : List (List Range)) where
+    pub lead-same : within r b ≡ true → some f ≡ lead ((r ∷ f) ∷ fs) b
+    unfolding lead
+    lead-same e = rw e
 
-    pub begun-later : {due : Option (List Range)} → within r b ≡ false → due ≡ begun fs b → due ≡ begun ((r ∷ rs) ∷ fs) b
-    unfolding begun
-    begun-later e h = rw e h
+    pub lead-other : {due : Option (List Range)} → within r b ≡ false → due ≡ lead fs b → due ≡ lead ((r ∷ f) ∷ fs) b
+    unfolding lead
+    lead-other e h = rw e h
 
-  pub begun-none : none ≡ begun [] b
-  unfolding begun
-  begun-none = refl
+  pub lead-nil : none ≡ lead [] b
+  unfolding lead
+  lead-nil = refl
 
-pub ruleset rows = (within-up-to, within-above, begun-here, begun-later, begun-none, arith)
+pub ruleset rows = (within-zero-le, within-zero-gt, lead-same, lead-other, lead-nil, arith)
 
 -- ---- a byte at the state d
 
-pub after-first : (d b : ℕ) {due : Option (List Range)} → d ≡ 0 → due ≡ begun forms b → due ≡ after (dueOf d) b
-unfolding dueOf after
-after-first d b z e = rw z e
+pub next-first : (d b : ℕ) {due : Option (List Range)} → d ≡ 0 → due ≡ lead forms b → due ≡ next (dueOf d) b
+unfolding dueOf next
+next-first d b z e = rw z e
 
-pub after-trail : (d b : ℕ) → (d ≡ 0 → ⊥) → d < 4 → within trail b ≡ true → dueOf (d - 1) ≡ after (dueOf d) b
-unfolding dueOf after
-after-trail zero b nz l e = absurd (nz refl)
-after-trail (suc d) b nz l e = let less : d < 4 = omega arith in rw (sub-one (suc d), lt-ltb d 4 less, lt-ltb (suc d) 4 l, e)
+pub next-trail : (d b : ℕ) → (d ≡ 0 → ⊥) → d < 4 → within trail b ≡ true → dueOf (d - 1) ≡ next (dueOf d) b
+unfolding dueOf next
+next-trail zero b nz l e = absurd (nz refl)
+next-trail (suc d) b nz l e = let less : d < 4 = omega arith in rw (sub-one (suc d), lt-ltb d 4, lt-ltb (suc d) 4, e)
 
-pub after-bad : (d b : ℕ) → (d ≡ 0 → ⊥) → d < 4 → within trail b ≡ false → dueOf 4 ≡ after (dueOf d) b
-unfolding dueOf after
-after-bad zero b nz l e = absurd (nz refl)
-after-bad (suc d) b nz l e = rw (lt-ltb (suc d) 4 l, e)
+pub next-bad : (d b : ℕ) → (d ≡ 0 → ⊥) → d < 4 → within trail b ≡ false → dueOf 4 ≡ next (dueOf d) b
+unfolding dueOf next
+next-bad zero b nz l e = absurd (nz refl)
+next-bad (suc d) b nz l e = rw (lt-ltb (suc d) 4, e)
 
--- ---- the bytes from i on
+-- ---- the bytes from i on, which give the answer a
 
 complete-due : (d : ℕ) → d < 4 → complete (dueOf d) ≡ eqb d 0
 unfolding dueOf
 complete-due zero l = refl
-complete-due (suc d) l = rw (lt-ltb (suc d) 4 l, eqb·suc-zero)
+complete-due (suc d) l = rw (lt-ltb (suc d) 4, eqb·suc-zero)
 
-text-none : (s : List ℕ) → textFrom none s ≡ false
-unfolding textFrom after
-text-none [] = refl
-text-none (b ∷ s) = text-none s
-
-module _ (s : List ℕ) (i : ℕ) {a : Bool} (d : ℕ) (inv : textFrom (dueOf d) (drop i s) ≡ a) where
-  module _ (next : ℕ) (h : i < length s) (e : dueOf next ≡ after (dueOf d) (getD s i 0)) where
-    pub text-on : textFrom (dueOf next) (drop (i + 1) s) ≡ a
-    unfolding textFrom
-    text-on = rw (add-one, e, ← inv, drop-cons s i 0)
-
-    pub text-bad : 3 < next → false ≡ a
-    unfolding dueOf
-    text-bad l = sym (text-none _) ∙ (rw (le-ltb next 4 l) at text-on)
-
+module _ (s : List ℕ) (i d : ℕ) {a : Bool} (inv : textFrom (dueOf d) (drop i s) ≡ a) where
   pub text-end : d < 4 → length s ≤ i → eqb d 0 ≡ a
-  unfolding textFrom dueOf
-  text-end l h = rw (← inv, drop-of-length-le, ← complete-due d l)
+  unfolding textFrom
+  text-end l h = rw (← inv, drop-of-length-le, complete-due)
+
+  module _ (r : ℕ) (h : i < length s) (e : dueOf r ≡ next (dueOf d) (getD s i 0)) where
+    pub text-next : textFrom (dueOf r) (drop (i + 1) s) ≡ a
+    unfolding textFrom
+    text-next = rw (add-one, e, ← inv, drop-cons s i 0)
+
+    pub text-bad : 3 < r → false ≡ a
+    unfolding dueOf
+    text-bad l = sym (text-none _) ∙ (rw (le-ltb r 4) at text-next)

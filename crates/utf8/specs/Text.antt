@@ -1,14 +1,16 @@
--- Text (document 01, "Text"): characters of one to four bytes, one after the other.
+-- Text (document 01, "Row of a file"): characters of one to four bytes, one after the other; all else is BAD_TEXT.
 --
---   Range          the numbers from lo to hi, both in it
---   forms          the forms of a character, a range for each byte: the one table
---   Matches f p    p has a byte in each range of f, and no other
---   Text s         s is a text: no bytes, or bytes that match a form and then a text
---   within r b     whether b is in r
---   begun fs b     the ranges after the first, of the first form of fs whose first range has b; none where no form has
---   after due b    the ranges still due after b, where `due` were due before it; none where b cannot stand there
---   textFrom       whether bytes fill the ranges still due, and then are a text
---   isText s       whether s is a text
+--   Range           the bytes from lo to hi, both in it
+--   forms           the forms of a character, a range for each byte: the one table of the rule
+--   Matches f p     p has a byte in each range of f, and no other
+--   Text s          s is a text: no bytes; or bytes that match a form, and then a text
+--   within r b      whether b is in r
+--   lead fs b       the ranges due after b where it begins a character: the others of the first form of fs whose first range
+--                   has b; none where no first range has it
+--   next due b      the ranges due after b, where `due` were before it; none where b cannot stand there
+--   complete due    whether no range is due
+--   textFrom due s  whether s fills the ranges due, and then is a text; false where `due` is none
+--   isText s        whether s is a text
 use Prim.Native.Nat.{ℕ, _≤_}
 use mathlib.Core.Bool.{Bool, true, false, _&&_}
 use mathlib.Core.List.{List, [], _∷_, _++_, List·Memᴰ}
@@ -39,7 +41,7 @@ forms =
 
 pub data Matches : List Range → List ℕ → Type 0 where
   end : Matches [] []
-  byte : {r : Range} {rs : List Range} {b : ℕ} {p : List ℕ} → r .lo ≤ b → b ≤ r .hi → Matches rs p → Matches (r ∷ rs) (b ∷ p)
+  byte : {r : Range} {f : List Range} {b : ℕ} {p : List ℕ} → r .lo ≤ b → b ≤ r .hi → Matches f p → Matches (r ∷ f) (b ∷ p)
 
 pub data Text : List ℕ → Type 0 where
   empty : Text []
@@ -50,25 +52,24 @@ pub data Text : List ℕ → Type 0 where
 abbrev pub within : Range → ℕ → Bool
 within r b = leb (r .lo) b && leb b (r .hi)
 
-unfoldable pub begun : List (List Range) → ℕ → Option (List Range)
-begun [] b = none
-begun ([] ∷ fs) b = begun fs b
-begun ((r ∷ rs) ∷ fs) b = pick (within r b) (some rs) (begun fs b)
+unfoldable pub lead : List (List Range) → ℕ → Option (List Range)
+lead [] b = none
+lead ([] ∷ fs) b = lead fs b
+lead ((r ∷ f) ∷ fs) b = pick (within r b) (some f) (lead fs b)
 
-unfoldable pub after : Option (List Range) → ℕ → Option (List Range)
-after none b = none
-after (some []) b = begun forms b
-after (some (r ∷ rs)) b = pick (within r b) (some rs) none
+unfoldable pub next : Option (List Range) → ℕ → Option (List Range)
+next none b = none
+next (some []) b = lead forms b
+next (some (r ∷ f)) b = pick (within r b) (some f) none
 
--- whether nothing is due
 abbrev pub complete : Option (List Range) → Bool
 complete none = false
 complete (some []) = true
-complete (some (r ∷ rs)) = false
+complete (some (r ∷ f)) = false
 
 unfoldable pub textFrom : Option (List Range) → List ℕ → Bool
 textFrom due [] = complete due
-textFrom due (b ∷ s) = textFrom (after due b) s
+textFrom due (b ∷ s) = textFrom (next due b) s
 
 abbrev pub isText : List ℕ → Bool
 isText s = textFrom (some []) s

@@ -1,12 +1,12 @@
-// Whether bytes are text (document 01, "Text").
+// Whether bytes are text (document 01, "Row of a file").
 ghost use mathlib.Core.Path.{_≡_};
 ghost use Prim.Native.Nat.{_<_};
-ghost use Rattle.utf8.specs.Text.{forms, begun, after, isText};
+ghost use Rattle.utf8.specs.Text.{forms, lead, next, isText};
 ghost use Rattle.utf8.specs.Told.{dueOf};
 
 // How many bytes are due after b, the first of a character; 4 where b begins none.
 fn lead(b: u8) -> u8
-    ensures { λ r. ⌜ dueOf r ≡ begun forms b ⌝ }
+    ensures { λ r. ⌜ dueOf r ≡ lead forms b ⌝ }
 {
     if b <= 0x7F {
         return 0;
@@ -24,9 +24,9 @@ fn lead(b: u8) -> u8
 }
 
 // How many bytes are due after b, where `due` were before it; 4 where b cannot stand there.
-fn next_due(due: u8, b: u8) -> u8
+fn next(due: u8, b: u8) -> u8
     requires { ⌜ due < 4 ⌝ }
-    ensures { λ r. ⌜ dueOf r ≡ after (dueOf due) b ⌝ }
+    ensures { λ r. ⌜ dueOf r ≡ next (dueOf due) b ⌝ }
 {
     if due == 0 {
         return lead(b);
@@ -44,7 +44,7 @@ pub fn is_text(s: &[u8]) -> bool
     let mut due: u8 = 0;
     let mut i: usize = 0;
     while i < s.len() {
-        due = next_due(due, s[i]);
+        due = next(due, s[i]);
         // BAD_TEXT: a byte that cannot stand there
         if 3 < due {
             return false;

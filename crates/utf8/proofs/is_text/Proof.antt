@@ -1,12 +1,12 @@
--- `utf8::is_text` meets its contract. The invariant: the bytes from i on, with those due, give the answer.
-use mathlib.Core.Path.{_≡_, _∙_, sym}
+-- `utf8::is_text` meets its contract. The invariant: the bytes from i on, after those due, give the answer.
+use mathlib.Core.Path.{_≡_}
 use Prim.Native.Nat.{_<_, _-_}
 use native.Mathlib.Omega.{arith}
-use borrow.Author.Needs.{needs}
 use lib.ListN.{length, drop}
+use borrow.Author.Needs.{needs}
 use Rattle.utf8.specs.Text.{textFrom, isText}
 use Rattle.utf8.specs.Told.{dueOf}
-use Rattle.utf8.proofs.Steps.{text-bad, text-on, text-end}
+use Rattle.utf8.proofs.Steps.{text-next, text-bad, text-end}
 use Rattle.utf8.proofs.is_text.Statement.{statement}
 use Rattle.utf8.proofs.is_text.Tie as tie
 
@@ -23,12 +23,13 @@ is-text-spec =
     (tie.spec
     Inv-loop
     μ-loop
-    (λ c. search needs)  -- loop-holds
-    (λ c. search needs)  -- shared-slice-read-next-due
-    (λ c κs. search needs)  -- next-due-requires
-    (λ c. search (text-bad, arith))  -- returns
-    (λ c. search needs)  -- add-i
-    (λ c. search needs)  -- loop-less
-    (λ c. (omega arith, search (text-on, arith)))  -- loop-again
-    (λ c. search (text-end, arith))  -- returns-2
-    )
+    (λ c. search needs)
+    (λ c. search needs)
+    (λ c κs. search needs)
+    -- a byte that cannot stand there
+    (λ c. search (text-bad, arith))
+    (λ c. search needs)
+    (λ c. search needs)
+    (λ c. (omega arith, search (text-next, arith)))
+    -- after the last byte
+    (λ c. search (text-end, arith)))

@@ -1,0 +1,131 @@
+-- `scan` and `emit`, one after the other: each law is one proof over all kinds.
+--
+-- In order: a number that may be there; the body; what is emitted is scanned back, whatever follows (`scan-emit`); what is scanned is,
+-- in shortest form, what would be emitted (`emit-scan`).
+use mathlib.Core.Path.{_≡_, refl, sym, ap, _∙_}
+use Prim.Native.Nat.{ℕ, zero, suc, _+_, _-_, _*_, _/_, _%_, _^_, _≤_, _<_, min, zero-le}
+use mathlib.Core.Bool.{Bool, true, false, not, _&&_, _||_, true≢false}
+use mathlib.Core.List.{List, [], _∷_, _++_, append-assoc}
+use native.Mathlib.Omega.{arith}
+use lib.ListN.{length, take, drop, length-append, take-append-drop, length-drop}
+use lib.Seq.{take-at, drop-at, length-take-le}
+use lib.Dec.{leb, ltb}
+use borrow.Author.Tests.{lt-ltb, le-leb, lt-leb, leb-true}
+use Rattle.prelude.specs.Pick.{pick}
+use Rattle.prelude.specs.Answer.{Res, got, bad, guard, orError, _>>_, _>>=_}
+use Rattle.prelude.specs.Bytes.{Bytes}
+use Rattle.prelude.proofs.Tests.{split, facts}
+use Rattle.prelude.proofs.Readers.{guard-by, orError-by, need-by, bind-by, bad-got}
+use Rattle.prelude.proofs.Parts.{bytes-after}
+use Rattle.leb128.specs.Leb.{put, get}
+use Rattle.leb128.proofs.Laws.{get-put, put-get}
+use Rattle.kind.specs.Kind.{rule, size, counted, immediate}
+use Rattle.kind.specs.declared.Rule.{Rule}
+use Rattle.kind.proofs.Laws.{most-fits}
+use Rattle.token.specs.Token.{Token, token, putIf, emit, Allowed, Fits}
+use Rattle.token.specs.Scan.{getIf, number, body, scanKind, scan}
+
+-- ---- a number that may be there
+
+number-putIf : (at : ℕ) (w : Bool) (n : ℕ) (s : List ℕ) → (w ≡ false → n ≡ 0) → n < 2 ^ 64 → number at w (putIf w n ++ s) ≡ got n s
+unfolding number getIf putIf orError
+number-putIf at true n s z h = rw (get-put 9 0 n s zero-le h)
+number-putIf at false n s z h = rw (z refl)
+
+number-by : {X : Type 0} (at : ℕ) (w : Bool) (n : ℕ) (s rest : List ℕ) → Bytes s → number at w s ≡ got n rest
+    → (s ≡ putIf w n ++ rest → (w ≡ false → n ≡ 0) → n < 2 ^ 64 → X) → X
+unfolding number getIf putIf
+number-by at true n s rest b e k =
+    orError-by _ _ e (λ e₁. let g = put-get 9 0 n s rest zero-le b e₁ in k (g .same) (λ f. absurd (true≢false f)) (g .below))
+number-by at false n s rest b e k = orError-by _ _ e (λ e₁. let z : 0 ≡ n = cc in k (cc) (λ f. sym z) (omega arith))
+
+-- ---- the body
+
+body-append : (at k : ℕ) (r : Rule) (n a : ℕ) (b s : List ℕ) → length b ≡ size r n → counted r n a ≤ length s → body at k r n a (b ++ s) ≡ got (token k n a b) s
+unfolding body guard
+body-append at k r n a b s e h =
+    let room : size r n + counted r n a ≤ length (b ++ s) = rw length-append (omega arith) in
+    rw (le-leb, take-at b s (size r n) e, drop-at b s (size r n) e)
+
+body-by : {X : Type 0} (at k : ℕ) (r : Rule) (n a : ℕ) (s : List ℕ) (t : Token) (rest : List ℕ) → body at k r n a s ≡ got t rest
+    → ((b : List ℕ) → t ≡ token k n a b → s ≡ b ++ rest → length b ≡ size r n → counted r n a ≤ length rest → X) → X
+unfolding body
+body-by at k r n a s t rest e c =
+    guard-by _ _ _ e (λ room e₁.
+    let all : size r n + counted r n a ≤ length s = omega facts in
+    let own : size r n ≤ length s = omega arith in
+    let d : drop (size r n) s ≡ rest = cc in
+    c (take (size r n) s) (cc) (rw (← d) (sym (take-append-drop (size r n) s))) (length-take-le (size r n) s own)
+    (omega (arith, length-drop (size r n) s, ap length d)))
+
+-- ---- the low nibble of n, and what follows of it
+
+low-number : (n : ℕ) → leb 15 (min n 15) ≡ leb 15 n
+low-number n =
+    split n 15
+    (λ small. let e : min n 15 ≡ n = omega arith in rw e)
+    (λ large. let e : min n 15 ≡ 15 = omega arith in rw (e, le-leb 15 n large))
+
+-- n is a low nibble and the number v behind it: where it is not 15, no number follows, and v is 0
+record Nibble (low v : ℕ) : Type 0 where
+  nibble : min (low + v) 15 ≡ low
+  wanted : leb 15 (low + v) ≡ leb 15 low
+  behind : low + v - 15 ≡ v
+
+nibble-number : (low v : ℕ) → low < 16 → (leb 15 low ≡ false → v ≡ 0) → Nibble low v
+nibble-number low v h none =
+    split low 15
+    (λ small. let z : v ≡ 0 = none (lt-leb 15 low small) in
+    let e : low + v ≡ low = omega arith in
+    record { nibble = omega arith; wanted = rw e; behind = omega arith })
+    (λ large. let l : 15 ≤ low + v = omega arith in
+    record { nibble = omega arith; wanted = rw (le-leb 15 (low + v) l, le-leb 15 low large); behind = omega arith })
+
+-- ---- what is emitted is scanned back
+
+scanKind-emit : (inner : Bool) (at : ℕ) (r : Rule) (t : Token) (s : List ℕ) → r .most < 2 ^ 64 → Fits inner r t s
+    → scanKind inner at (t .kind) r (min (t .n) 15) (putIf (leb 15 (t .n)) (t .n - 15) ++ (putIf (r .args) (t .args) ++ t .body) ++ s) ≡ got t s
+unfolding scanKind _>>_ _>>=_
+scanKind-emit inner at r t s h f =
+    let whole : min (t .n) 15 + (t .n - 15) ≡ t .n = omega arith in
+    let fits : t .n - 15 < 2 ^ 64 = omega arith in
+    let none : leb 15 (t .n) ≡ false → t .n - 15 ≡ 0 = λ e. omega facts in
+    simp (append-assoc, low-number, lt-ltb, le-leb, number-putIf, body-append, whole, none, f .flat, f .room, f .allowed .low, f .allowed .most,
+        f .allowed .one, f .allowed .fits, f .allowed .sized)
+
+pub scan-emit : (inner : Bool) (at : ℕ) (t : Token) (s : List ℕ) → Fits inner (rule (t .kind)) t s → scan inner at (emit t ++ s) ≡ got t s
+unfolding scan emit
+scan-emit inner at t s f =
+    let k : (t .kind * 16 + min (t .n) 15) / 16 ≡ t .kind = omega arith in
+    let l : (t .kind * 16 + min (t .n) 15) % 16 ≡ min (t .n) 15 = omega arith in
+    rw (k, l) (scanKind-emit inner at (rule (t .kind)) t s (most-fits (t .kind)) f)
+
+-- ---- what is scanned would be emitted
+
+-- what a token that was scanned tells of the bytes s and the rest
+pub record Scanned (inner : Bool) (s : List ℕ) (t : Token) (rest : List ℕ) : Type 0 where
+  pub same : s ≡ emit t ++ rest
+  pub fits : Fits inner (rule (t .kind)) t rest
+
+pub emit-scan : (inner : Bool) (at : ℕ) (s : List ℕ) (t : Token) (rest : List ℕ) → Bytes s → scan inner at s ≡ got t rest → Scanned inner s t rest
+unfolding scan scanKind emit
+emit-scan inner at [] t rest b e = bad-got e
+emit-scan inner at (h ∷ s) t rest b e =
+    need-by _ _ _ e (λ low e₁.
+    need-by _ _ _ e₁ (λ flat e₂.
+    bind-by _ _ _ e₂ (λ v s₁ ev e₃.
+    need-by _ _ _ e₃ (λ most e₄.
+    bind-by _ _ _ e₄ (λ a s₂ ea e₅.
+    number-by _ _ v s s₁ (b .1) ev (λ sv none v<.
+    number-by _ _ a s₁ s₂ (bytes-after (putIf (leb 15 (h % 16)) v) s₁ (rw sv at (b .1))) ea (λ sa one a<.
+    body-by _ _ _ _ a s₂ t rest e₅ (λ c et sc sized room.
+    let i = nibble-number (h % 16) v (omega arith) none in
+    let header : h ≡ h / 16 * 16 + min (h % 16 + v) 15 = omega (arith, i .nibble) in
+    rw et (record {
+      same = simp (append-assoc, i .wanted, i .behind) (cc);
+      fits = record {
+        allowed = record { low = omega (facts, i .nibble); most = omega facts; one = one; fits = a<; sized = sized };
+        flat = flat;
+        room = room;
+      };
+    })))))))))

@@ -1,0 +1,6 @@
+-- tokens, and their bytes: `emit`
+pub mod Token
+-- the reader of one token: `scan`
+pub mod Scan
+-- what the code's answers mean
+pub mod Told

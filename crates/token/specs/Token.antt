@@ -1,0 +1,46 @@
+-- A token: a header with its numbers and its body, without items. A value is a token and as many item tokens as it has pending.
+--
+--   Token             kind, n, args (the argument count of a variant of many, else 0) and the body's bytes
+--   putIf w n         the bytes of a number n that is there where w is true
+--   emit t            the bytes of t: header, the number behind it where n is 15 or more, the argument count where the kind has one, body
+--   Allowed r t       the rule r of t's kind allows it
+--   Fits inner r t s  t may stand before the bytes s, as an item where `inner` is true
+use Prim.Native.Nat.{ℕ, _+_, _-_, _*_, _^_, _≤_, _<_, min}
+use mathlib.Core.Path.{_≡_}
+use mathlib.Core.Bool.{Bool, true, false, not, _&&_}
+use mathlib.Core.List.{List, [], _∷_, _++_}
+use lib.Dec.{leb}
+use lib.ListN.{length}
+use Rattle.prelude.specs.Pick.{pick}
+use Rattle.leb128.specs.Leb.{put}
+use Rattle.kind.specs.Kind.{rule, size, counted, immediate}
+use Rattle.kind.specs.declared.Rule.{Rule}
+
+pub record Token : Type 0 where
+  pub kind : ℕ
+  pub n : ℕ
+  pub args : ℕ
+  pub body : List ℕ
+
+abbrev pub token : ℕ → ℕ → ℕ → List ℕ → Token
+token k n a b = record { kind = k; n = n; args = a; body = b }
+
+unfoldable pub putIf : Bool → ℕ → List ℕ
+putIf w n = pick w (put 9 n) []
+
+unfoldable pub emit : Token → List ℕ
+emit t =
+    (t .kind * 16 + min (t .n) 15)
+    ∷ (putIf (leb 15 (t .n)) (t .n - 15) ++ (putIf (rule (t .kind) .args) (t .args) ++ t .body))
+
+pub record Allowed (r : Rule) (t : Token) : Type 0 where
+  pub low : min (t .n) 15 < r .lows
+  pub most : t .n ≤ r .most
+  pub one : r .args ≡ false → t .args ≡ 0
+  pub fits : t .args < 2 ^ 64
+  pub sized : length (t .body) ≡ size r (t .n)
+
+pub record Fits (inner : Bool) (r : Rule) (t : Token) (s : List ℕ) : Type 0 where
+  pub allowed : Allowed r t
+  pub flat : not (inner && not (immediate r)) ≡ true
+  pub room : counted r (t .n) (t .args) ≤ length s
