@@ -84,25 +84,82 @@ pub fn number(kind: ErrorKind) -> u32
 
 // The names by number; no error has the number 0.
 const NAMES: [ErrorName; 19] = [
-    ErrorName { text: *b"          ", len: 0 },
-    ErrorName { text: *b"EMPTY     ", len: 5 },
-    ErrorName { text: *b"TOO_LONG  ", len: 8 },
-    ErrorName { text: *b"TRUNC     ", len: 5 },
-    ErrorName { text: *b"RESERVED  ", len: 8 },
-    ErrorName { text: *b"OVERLONG  ", len: 8 },
-    ErrorName { text: *b"RANGE     ", len: 5 },
-    ErrorName { text: *b"NESTED    ", len: 6 },
-    ErrorName { text: *b"BAD_TEXT  ", len: 8 },
-    ErrorName { text: *b"BAD_TARGET", len: 10 },
-    ErrorName { text: *b"FULL      ", len: 4 },
-    ErrorName { text: *b"BAD_ENTRY ", len: 9 },
-    ErrorName { text: *b"OUTSIDE   ", len: 7 },
-    ErrorName { text: *b"NO_ITEM   ", len: 7 },
-    ErrorName { text: *b"WRONG_KIND", len: 10 },
-    ErrorName { text: *b"NO_ROOM   ", len: 7 },
-    ErrorName { text: *b"OWED      ", len: 4 },
-    ErrorName { text: *b"CLOSED    ", len: 6 },
-    ErrorName { text: *b"BAD_STATE ", len: 9 },
+    ErrorName {
+        text: *b"          ",
+        len: 0,
+    },
+    ErrorName {
+        text: *b"EMPTY     ",
+        len: 5,
+    },
+    ErrorName {
+        text: *b"TOO_LONG  ",
+        len: 8,
+    },
+    ErrorName {
+        text: *b"TRUNC     ",
+        len: 5,
+    },
+    ErrorName {
+        text: *b"RESERVED  ",
+        len: 8,
+    },
+    ErrorName {
+        text: *b"OVERLONG  ",
+        len: 8,
+    },
+    ErrorName {
+        text: *b"RANGE     ",
+        len: 5,
+    },
+    ErrorName {
+        text: *b"NESTED    ",
+        len: 6,
+    },
+    ErrorName {
+        text: *b"BAD_TEXT  ",
+        len: 8,
+    },
+    ErrorName {
+        text: *b"BAD_TARGET",
+        len: 10,
+    },
+    ErrorName {
+        text: *b"FULL      ",
+        len: 4,
+    },
+    ErrorName {
+        text: *b"BAD_ENTRY ",
+        len: 9,
+    },
+    ErrorName {
+        text: *b"OUTSIDE   ",
+        len: 7,
+    },
+    ErrorName {
+        text: *b"NO_ITEM   ",
+        len: 7,
+    },
+    ErrorName {
+        text: *b"WRONG_KIND",
+        len: 10,
+    },
+    ErrorName {
+        text: *b"NO_ROOM   ",
+        len: 7,
+    },
+    ErrorName {
+        text: *b"OWED      ",
+        len: 4,
+    },
+    ErrorName {
+        text: *b"CLOSED    ",
+        len: 6,
+    },
+    ErrorName {
+        text: *b"BAD_STATE ",
+        len: 9,
+    },
 ];
 
 // The name of an error, as `BAD_TARGET`.

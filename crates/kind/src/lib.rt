@@ -20,15 +20,22 @@ pub struct Rule {
 
 // Where the fields of a rule stand in its packed form; `lows` is the lowest.
 const BOUND: u16 = 32;
+
 const FIXED: u16 = 256;
+
 const SCALE: u16 = 512;
+
 const SINGLE: u16 = 4096;
+
 const EACH: u16 = 8192;
+
 const ARGS: u16 = 32768;
 
 // The bounds that no small number says.
 const BITS_32: u16 = 3 * BOUND;
+
 const BITS_63: u16 = 4 * BOUND;
+
 const BITS_64: u16 = 5 * BOUND;
 
 const KINDS: [u16; 16] = [

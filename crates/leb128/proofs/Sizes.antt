@@ -38,6 +38,11 @@ pub length-put-zero : (n : ℕ) → n ≡ 0 → 1 ≡ length (put 9 n)
 unfolding put
 length-put-zero n e = rw e
 
+pub length-put-le : (k n : ℕ) → length (put k n) ≤ suc k
+unfolding put
+length-put-le zero n = omega arith
+length-put-le (suc k) n = split n 128 (λ small. rw lt-ltb (omega arith)) (λ large. rw le-ltb (omega (arith, length-put-le k (n / 128))))
+
 -- ---- `put` byte by byte, the i-th byte first
 
 pub put-last : (k n : ℕ) → n < 128 → put k n ≡ n ∷ []

@@ -7,12 +7,12 @@ use mathlib.Core.List.{List, [], _∷_, _++_, append-nil}
 use Prim.Native.Nat.{ℕ, zero, suc, _+_, _-_, _≤_, _<_}
 use native.Mathlib.Nat.{zero-add, add-zero, add-suc, suc-add, le-add-right}
 use native.Mathlib.Omega.{arith}
-use lib.ListN.{length, take, drop, set, length-drop, length-append, take-append-drop, drop-of-length-le}
+use lib.ListN.{length, take, drop, set, length-set, length-drop, length-append, take-append-drop, drop-of-length-le}
 use lib.Seq.{sets, sets-eq, length-sets, take-all, drop-set-add, take-set-le}
 use borrow.Author.Tests.{le-leb, lt-leb}
 use borrow.Rule.Slice.PartMut.{putMid}
 use Rattle.prelude.specs.Pick.{pick}
-use Rattle.prelude.specs.Bytes.{Bytes, stored, store}
+use Rattle.prelude.specs.Bytes.{Bytes, Stored, stored, store}
 
 -- ---- the part from k on
 
@@ -81,3 +81,14 @@ store-put p d e r h put = rw (le-leb _ _ h, put .size, put .bytes, sets-front p 
 pub store-none : (p d : List ℕ) → length d < length p → stored 0 d ≡ store p d
 unfolding store
 store-none p d h = rw (lt-leb _ _ h)
+
+pub put-store : (p d e : List ℕ) (r : ℕ) → length p ≤ length d → stored r e ≡ store p d → Put p d e r
+unfolding store
+put-store p d e r h q =
+    let same : stored r e ≡ stored (length p) (p ++ drop (length p) d) = rw (le-leb _ _ h) at q in
+    record { size = ap (λ (x : Stored). x .size) same; bytes = ap (λ (x : Stored). x .bytes) same ∙ sym (sets-front p d h) }
+
+-- a byte, and then p at the front of what is left
+pub put-cons : (b : ℕ) (p d f : List ℕ) (s : ℕ) → 1 ≤ length d → Put p (take (length (set d 0 b) - 1) (drop 1 (set d 0 b))) f s
+    → Put (b ∷ p) d (putMid 1 (length (set d 0 b) - 1) (set d 0 b) f) (s + 1)
+put-cons b p d f s h next = put-then (b ∷ []) p d (set d 0 b) f 1 s (record { size = refl; bytes = refl }) (rw length-set h) next

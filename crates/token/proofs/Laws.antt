@@ -1,6 +1,6 @@
 -- `scan` and `emit`, one after the other: each law is one proof over all kinds.
 --
--- In order: a number that may be there; the body; what is emitted is scanned back, whatever follows (`scan-emit`); what is scanned is,
+-- In order: a number that may be there; the body; the bytes of a token; what is emitted is scanned back, whatever follows (`scan-emit`); what is scanned is,
 -- in shortest form, what would be emitted (`emit-scan`).
 use mathlib.Core.Path.{_≡_, refl, sym, ap, _∙_}
 use Prim.Native.Nat.{ℕ, zero, suc, _+_, _-_, _*_, _/_, _%_, _^_, _≤_, _<_, min, zero-le}
@@ -81,6 +81,13 @@ nibble-number low v h none =
     (λ large. let l : 15 ≤ low + v = omega arith in
     record { nibble = omega arith; wanted = rw (le-leb 15 (low + v) l, le-leb 15 low large); behind = omega arith })
 
+-- ---- the bytes of a token
+
+pub length-emit : (k n a : ℕ) (b : List ℕ)
+    → length (emit (token k n a b)) ≡ 1 + length (putIf (leb 15 n) (n - 15)) + length (putIf (rule k .args) a) + length b
+unfolding emit
+length-emit k n a b = simp length-append (omega arith)
+
 -- ---- what is emitted is scanned back
 
 scanKind-emit : (inner : Bool) (at : ℕ) (r : Rule) (t : Token) (s : List ℕ) → r .most < 2 ^ 64 → Fits inner r t s
@@ -90,8 +97,23 @@ scanKind-emit inner at r t s h f =
     let whole : min (t .n) 15 + (t .n - 15) ≡ t .n = omega arith in
     let fits : t .n - 15 < 2 ^ 64 = omega arith in
     let none : leb 15 (t .n) ≡ false → t .n - 15 ≡ 0 = λ e. omega facts in
-    simp (append-assoc, low-number, lt-ltb, le-leb, number-putIf, body-append, whole, none, f .flat, f .room, f .allowed .low, f .allowed .most,
-        f .allowed .one, f .allowed .fits, f .allowed .sized)
+    simp (
+      append-assoc,
+      low-number,
+      lt-ltb,
+      le-leb,
+      number-putIf,
+      body-append,
+      whole,
+      none,
+      f .flat,
+      f .room,
+      f .allowed .low,
+      f .allowed .most,
+      f .allowed .one,
+      f .allowed .fits,
+      f .allowed .sized,
+    )
 
 pub scan-emit : (inner : Bool) (at : ℕ) (t : Token) (s : List ℕ) → Fits inner (rule (t .kind)) t s → scan inner at (emit t ++ s) ≡ got t s
 unfolding scan emit

@@ -3,15 +3,17 @@
 --   Token             kind, n, args (the argument count of a variant of many, else 0) and the body's bytes
 --   putIf w n         the bytes of a number n that is there where w is true
 --   emit t            the bytes of t: header, the number behind it where n is 15 or more, the argument count where the kind has one, body
+--   emitInto t d      the bytes of t stored at the front of d where they fit, and how many; of a kind over 15 nothing is
 --   Allowed r t       the rule r of t's kind allows it
 --   Fits inner r t s  t may stand before the bytes s, as an item where `inner` is true
 use Prim.Native.Nat.{ℕ, _+_, _-_, _*_, _^_, _≤_, _<_, min}
 use mathlib.Core.Path.{_≡_}
 use mathlib.Core.Bool.{Bool, true, false, not, _&&_}
 use mathlib.Core.List.{List, [], _∷_, _++_}
-use lib.Dec.{leb}
+use lib.Dec.{leb, ltb}
 use lib.ListN.{length}
 use Rattle.prelude.specs.Pick.{pick}
+use Rattle.prelude.specs.Bytes.{Stored, stored, store}
 use Rattle.leb128.specs.Leb.{put}
 use Rattle.kind.specs.Kind.{rule, size, counted, immediate}
 use Rattle.kind.specs.declared.Rule.{Rule}
@@ -32,6 +34,9 @@ unfoldable pub emit : Token → List ℕ
 emit t =
     (t .kind * 16 + min (t .n) 15)
     ∷ (putIf (leb 15 (t .n)) (t .n - 15) ++ (putIf (rule (t .kind) .args) (t .args) ++ t .body))
+
+unfoldable pub emitInto : Token → List ℕ → Stored
+emitInto t d = pick (ltb (t .kind) 16) (store (emit t) d) (stored 0 d)
 
 pub record Allowed (r : Rule) (t : Token) : Type 0 where
   pub low : min (t .n) 15 < r .lows

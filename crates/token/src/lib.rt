@@ -4,7 +4,8 @@ use error::ErrorKind;
 use kind::Rule;
 use leb128::GetResult;
 ghost use mathlib.Core.Path.{_≡_};
-ghost use Prim.Native.Nat.{_+_, _-_, _≤_, _<_, _^_};
+ghost use Prim.Native.Nat.{_+_, _-_, _≤_, _<_, _^_, min};
+ghost use mathlib.Core.List.{_++_};
 ghost use lib.Dec.{leb};
 ghost use lib.ListN.{length, drop};
 ghost use Rattle.prelude.specs.Answer.{measured};
@@ -12,6 +13,9 @@ ghost use Rattle.leb128.specs.Told as numbers;
 ghost use Rattle.leb128.specs.Told.{leftOf};
 ghost use Rattle.kind.specs.Kind.{size, counted};
 ghost use Rattle.kind.proofs.Laws.{Row};
+ghost use Rattle.prelude.specs.Bytes.{stored};
+ghost use Rattle.prelude.proofs.Parts.{Put};
+ghost use Rattle.token.specs.Token.{token, putIf, emit, emitInto};
 ghost use Rattle.token.specs.Scan.{getIf};
 ghost use Rattle.token.specs.Told.{told, scanAt, fitted, ranged, andThen};
 
@@ -111,14 +115,29 @@ fn counted(len: usize, at: usize, kind: u8, rule: Rule, n: u64, second: GetResul
 }
 
 // The token behind its first number v, with `left` bytes left.
-fn ranged(region: &[u8], at: usize, kind: u8, rule: Rule, low: u8, v: u64, left: usize) -> ScanResult
+fn ranged(
+    region: &[u8],
+    at: usize,
+    kind: u8,
+    rule: Rule,
+    low: u8,
+    v: u64,
+    left: usize,
+) -> ScanResult
     requires { ⌜ (Row rule) × (left ≤ length (now region)) ⌝ }
     ensures { λ r. ⌜ told r ≡ ranged (now (region .entry)) at kind rule low v left ⌝ }
 {
     let low = low as u64;
     if within(low, v, rule.most) {
         let start = region.len() - left;
-        return counted(region.len(), at, kind, rule, low + v, get_if(rule.args, &region[start..]));
+        return counted(
+            region.len(),
+            at,
+            kind,
+            rule,
+            low + v,
+            get_if(rule.args, &region[start..]),
+        );
     }
     // RANGE: n is over its kind's bound
     ScanResult::Err(Error {
@@ -127,7 +146,14 @@ fn ranged(region: &[u8], at: usize, kind: u8, rule: Rule, low: u8, v: u64, left:
     })
 }
 
-fn numbered(region: &[u8], at: usize, kind: u8, rule: Rule, low: u8, number: GetResult) -> ScanResult
+fn numbered(
+    region: &[u8],
+    at: usize,
+    kind: u8,
+    rule: Rule,
+    low: u8,
+    number: GetResult,
+) -> ScanResult
     requires { ⌜ (Row rule) × (leftOf number ≤ length (now region)) ⌝ }
     ensures { λ r. ⌜ told r ≡ andThen at (ranged (now (region .entry)) at kind rule low) (numbers.told number) ⌝ }
 {
@@ -171,5 +197,113 @@ pub fn scan(region: &[u8], at: usize, inner: bool) -> ScanResult
         });
     }
     let start = at + 1;
-    numbered(region, at, kind, rule, low, get_if(15 <= low, &region[start..]))
+    numbered(
+        region,
+        at,
+        kind,
+        rule,
+        low,
+        get_if(15 <= low, &region[start..]),
+    )
+}
+
+// What a number n has beyond the low nibble.
+fn excess(n: u64) -> u64
+    ensures { λ r. ⌜ r ≡ n - 15 ⌝ }
+{
+    if n < 15 {
+        return 0;
+    }
+    n - 15
+}
+
+fn size_if(wanted: bool, n: u64) -> usize
+    ensures { λ r. ⌜ (r ≡ length (putIf wanted n)) × (r ≤ 10) ⌝ }
+{
+    if wanted {
+        return leb128::size(n);
+    }
+    0
+}
+
+// How many bytes a token takes.
+pub fn size(kind: u8, n: u64, args: u64, body: &[u8]) -> usize
+    ensures { λ r. ⌜ r ≡ length (emit (token kind n args (now (body .entry)))) ⌝ }
+{
+    let rule = kind::rule_of(kind);
+    1 + size_if(15 <= n, excess(n)) + size_if(rule.args, args) + body.len()
+}
+
+fn put_if(rest: &mut [u8], wanted: bool, n: u64) -> usize
+    requires { ⌜ length (putIf wanted n) ≤ length (now rest) ⌝ }
+    ensures { λ r. ⌜ Put (putIf wanted n) (now (rest .entry)) (now (rest .exit)) r ⌝ }
+{
+    if wanted {
+        return leb128::put(rest, n);
+    }
+    0
+}
+
+fn put_bytes(rest: &mut [u8], body: &[u8]) -> usize
+    requires { ⌜ length (now body) ≤ length (now rest) ⌝ }
+    ensures { λ r. ⌜ Put (now (body .entry)) (now (rest .entry)) (now (rest .exit)) r ⌝ }
+{
+    let mut i: usize = 0;
+    while i < body.len() {
+        rest[i] = body[i];
+        i += 1;
+    }
+    i
+}
+
+// The second number, and then the body in what is left.
+fn put_args(rest: &mut [u8], wanted: bool, args: u64, body: &[u8]) -> usize
+    requires { ⌜ length (putIf wanted args ++ now body) ≤ length (now rest) ⌝ }
+    ensures { λ r. ⌜ Put (putIf wanted args ++ now (body .entry)) (now (rest .entry)) (now (rest .exit)) r ⌝ }
+{
+    let a = put_if(rest, wanted, args);
+    put_bytes(&mut rest[a..], body) + a
+}
+
+// The number behind the header, and then the second one and the body in what is left.
+fn put_number(rest: &mut [u8], long: bool, more: u64, wanted: bool, args: u64, body: &[u8]) -> usize
+    requires { ⌜ length (putIf long more ++ (putIf wanted args ++ now body)) ≤ length (now rest) ⌝ }
+    ensures { λ r. ⌜ Put (putIf long more ++ (putIf wanted args ++ now (body .entry))) (now (rest .entry)) (now (rest .exit)) r ⌝ }
+{
+    let a = put_if(rest, long, more);
+    put_args(&mut rest[a..], wanted, args, body) + a
+}
+
+// The header's low nibble.
+fn nibble(n: u64) -> u8
+    ensures { λ r. ⌜ (r ≡ min n 15) × (r < 16) ⌝ }
+{
+    if n < 15 {
+        return n as u8;
+    }
+    15
+}
+
+fn put_within(rest: &mut [u8], kind: u8, n: u64, args: u64, body: &[u8]) -> usize
+    requires { ⌜ (kind < 16) × (length (emit (token kind n args (now body))) ≤ length (now rest)) ⌝ }
+    ensures { λ r. ⌜ Put (emit (token kind n args (now (body .entry)))) (now (rest .entry)) (now (rest .exit)) r ⌝ }
+{
+    let rule = kind::rule_of(kind);
+    let more = excess(n);
+    rest[0] = kind * 16 + nibble(n);
+    put_number(&mut rest[1..], 15 <= n, more, rule.args, args, body) + 1
+}
+
+// Writes a token at the front of rest and answers how many bytes that took; where it does not fit, or its kind is over 15, writes
+// nothing and answers 0.
+pub fn put(rest: &mut [u8], kind: u8, n: u64, args: u64, body: &[u8]) -> usize
+    ensures { λ r. ⌜ stored r (now (rest .exit)) ≡ emitInto (token kind n args (now (body .entry))) (now (rest .entry)) ⌝ }
+{
+    if 16 <= kind {
+        return 0;
+    }
+    if rest.len() < size(kind, n, args, body) {
+        return 0;
+    }
+    put_within(rest, kind, n, args, body)
 }

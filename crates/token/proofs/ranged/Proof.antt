@@ -18,8 +18,11 @@ ranged-spec =
     (λ c. search needs)
     (λ c. search needs)
     (λ c κs. search needs)
-    (λ c κs. let a = c .before .before .before .before .before in
-    (a .pre .0, le-of-flag _ (a .args .rule .most) (c .before .before .before .within .ensures) (c .before .before .if1 .taken),
-    left-le _ _ _ (c .get-if .result) (c .get-if .ensures) (rw length-part (omega arith)), omega arith))
+    (λ c κs. let a = c .before .before .before .before .before in (
+      a .pre .0,
+      le-of-flag _ (a .args .rule .most) (c .before .before .before .within .ensures) (c .before .before .if1 .taken),
+      left-le _ _ _ (c .get-if .result) (c .get-if .ensures) (rw length-part (omega arith)),
+      omega arith,
+    ))
     (λ c. rw (← c .before .before .before .before .within .ensures, c .before .before .before .if1 .taken, c .counted .ensures, c .before .get-if .ensures, part-from))
     (λ c. rw (← c .before .within .ensures, c .if1 .left)))

@@ -23,8 +23,10 @@ scan-spec =
     (λ c. search needs)
     (λ c. search needs)
     (λ c κs. search needs)
-    (λ c κs. (rw (c .before .before .before .before .before .before .rule-of .ensures) (rule-row _),
-    left-le _ _ _ (c .get-if .result) (c .get-if .ensures) (rw length-part (omega arith))))
+    (λ c κs. (
+      rw (c .before .before .before .before .before .before .rule-of .ensures) (rule-row _),
+      left-le _ _ _ (c .get-if .result) (c .get-if .ensures) (rw length-part (omega arith)),
+    ))
     (λ c. let i = c .before .before .before .before in
     let e = i .before in
     rw (c .numbered .ensures, c .before .get-if .ensures, part-from)
