@@ -47,7 +47,7 @@ body-append at k r n a b s e h =
     let room : size r n + counted r n a ≤ length (b ++ s) = rw length-append (omega arith) in
     rw (le-leb, take-at b s (size r n) e, drop-at b s (size r n) e)
 
-body-by : {X : Type 0} (at k : ℕ) (r : Rule) (n a : ℕ) (s : List ℕ) (t : Token) (rest : List ℕ) → body at k r n a s ≡ got t rest
+pub body-by : {X : Type 0} (at k : ℕ) (r : Rule) (n a : ℕ) (s : List ℕ) (t : Token) (rest : List ℕ) → body at k r n a s ≡ got t rest
     → ((b : List ℕ) → t ≡ token k n a b → s ≡ b ++ rest → length b ≡ size r n → counted r n a ≤ length rest → X) → X
 unfolding body
 body-by at k r n a s t rest e c =

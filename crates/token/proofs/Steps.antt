@@ -1,6 +1,6 @@
 -- How `scanAt` goes, as the code takes it: by offsets, with the bytes left counted.
 --
--- In order: the rest behind a number is an end of the region; `seen` under a guard, behind a number, of a body; the whole.
+-- In order: the bytes left behind a number; `seen` under a guard, behind a number, of a body; the whole.
 use mathlib.Core.Path.{_≡_, refl, sym, ap, _∙_}
 use Prim.Native.Nat.{ℕ, suc, _+_, _-_, _/_, _%_, _≤_, _<_}
 use mathlib.Core.Bool.{Bool, true, false, not, _&&_}
@@ -10,7 +10,7 @@ use native.Mathlib.Omega.{arith}
 use lib.Dec.{ltb, leb}
 use borrow.Author.Tests.{lt-ltb, le-ltb}
 use lib.ListN.{length, take, drop, getD, length-drop, drop-of-length-le}
-use lib.Seq.{drop-cons, drop-drop, length-take-le}
+use lib.Seq.{drop-cons, length-take-le}
 use Rattle.prelude.specs.Pick.{pick}
 use Rattle.prelude.specs.Answer.{Answer, ok, error, Res, got, bad, guard, then, orError, measured, need, _>>_, _>>=_}
 use Rattle.prelude.proofs.Tests.{pick-cong, facts}
@@ -21,30 +21,13 @@ use Rattle.leb128.specs.Told as numbers
 use Rattle.leb128.specs.Told.{leftOf}
 use Rattle.leb128.specs.declared.GetResult.{GetResult}
 use Rattle.leb128.specs.declared.GetResult.the-variants.{Ok, Err}
-use Rattle.leb128.proofs.Laws.{get-ends}
 use Rattle.kind.specs.Kind.{rule, size, counted, pending, immediate}
 use Rattle.kind.specs.declared.Rule.{Rule}
 use Rattle.token.specs.Token.{Token}
 use Rattle.token.specs.Scan.{getIf, number, body, scanKind, scan}
 use Rattle.token.specs.Told.{seen, scanAt, fitted, ranged, andThen}
 use Rattle.token.specs.declared.Head.{Head}
-
--- ---- the rest behind a number
-
-record End (s rest : List ℕ) : Type 0 where
-  short : length rest ≤ length s
-  end : rest ≡ drop (length s - length rest) s
-
-end-drop : (j : ℕ) (s rest : List ℕ) → j ≤ length s → End (drop j s) rest → End s rest
-end-drop j s rest h e =
-    let l = length-drop j s in
-    let same : j + (length (drop j s) - length rest) ≡ length s - length rest = omega (arith, e .short) in
-    record { short = omega (arith, e .short); end = e .end ∙ drop-drop _ j s ∙ ap (λ m. drop m s) same }
-
-getIf-end : (w : Bool) (s : List ℕ) (v : ℕ) (rest : List ℕ) → getIf w s ≡ got v rest → End s rest
-unfolding getIf
-getIf-end true s v rest e = let g = get-ends 9 0 v s rest e in record { short = omega (arith, g .shorter); end = g .end }
-getIf-end false s v rest e = let same : rest ≡ s = cc in let z : length s - length s ≡ 0 = omega arith in rw same (record { short = omega arith; end = rw z })
+use Rattle.token.proofs.Ends.{End, end-drop, getIf-end}
 
 pub left-le : (w : Bool) (s : List ℕ) (n : ℕ) (r : GetResult) → numbers.told r ≡ measured (getIf w s) → length s ≤ n → leftOf r ≤ n
 left-le w s n (Ok v left) e h = measured-ok (getIf w s) e (λ rest q l. omega (arith, getIf-end w s v rest q .short))

@@ -1,0 +1,103 @@
+-- Where a token that was scanned ends: behind its header and in its region. In any form of its numbers, not the shortest alone.
+--
+-- In order: the rest behind a number is an end of the bytes; what `scan` leaves; the same by offsets (`scan-within`).
+use mathlib.Core.Path.{_≡_, refl, ap, _∙_}
+use Prim.Native.Nat.{ℕ, suc, _+_, _-_, _/_, _≤_, _<_}
+use mathlib.Core.Bool.{Bool, true, false}
+use mathlib.Core.List.{List, [], _∷_}
+use native.Mathlib.Omega.{arith}
+use lib.ListN.{length, drop, length-drop, length-append}
+use lib.Seq.{drop-drop}
+use Rattle.prelude.specs.Answer.{ok, Res, got, bad}
+use Rattle.prelude.proofs.Readers.{orError-by, need-by, bind-by, bad-got}
+use Rattle.error.specs.Error.{Fault}
+use Rattle.leb128.proofs.Laws.{get-ends}
+use Rattle.kind.specs.Kind.{rule, pending}
+use Rattle.kind.proofs.Laws.{rule-row}
+use Rattle.token.specs.Token.{Token}
+use Rattle.token.specs.Scan.{getIf, number, scanKind, scan}
+use Rattle.token.specs.Told.{seen, scanAt}
+use Rattle.token.specs.declared.Head.{Head}
+use Rattle.token.proofs.Laws.{body-by}
+
+-- ---- the rest behind a number
+
+pub record End (s rest : List ℕ) : Type 0 where
+  pub short : length rest ≤ length s
+  pub end : rest ≡ drop (length s - length rest) s
+
+pub end-drop : (j : ℕ) (s rest : List ℕ) → j ≤ length s → End (drop j s) rest → End s rest
+end-drop j s rest h e =
+    let l = length-drop j s in
+    let same : j + (length (drop j s) - length rest) ≡ length s - length rest = omega (arith, e .short) in
+    record { short = omega (arith, e .short); end = e .end ∙ drop-drop _ j s ∙ ap (λ m. drop m s) same }
+
+pub getIf-end : (w : Bool) (s : List ℕ) (v : ℕ) (rest : List ℕ) → getIf w s ≡ got v rest → End s rest
+unfolding getIf
+getIf-end true s v rest e = let g = get-ends 9 0 v s rest e in record { short = omega (arith, g .shorter); end = g .end }
+getIf-end false s v rest e =
+    let same : rest ≡ s = cc in
+    let none : length s - length s ≡ 0 = omega arith in
+    rw same (record { short = omega arith; end = rw none })
+
+number-short : (at : ℕ) (w : Bool) (s : List ℕ) (v : ℕ) (rest : List ℕ) → number at w s ≡ got v rest → length rest ≤ length s
+unfolding number
+number-short at w s v rest e = orError-by _ _ e (λ e₁. getIf-end w s v rest e₁ .short)
+
+-- ---- what `scan` leaves
+
+-- the body and the rest are shorter than s, and the counted items have a byte each
+record Left (s : List ℕ) (t : Token) (rest : List ℕ) : Type 0 where
+  behind : length (t .body) + length rest < length s
+  count : pending (rule (t .kind)) (t .n) (t .args) ≤ suc (length rest)
+
+scan-left : (inner : Bool) (at : ℕ) (s : List ℕ) (t : Token) (rest : List ℕ) → scan inner at s ≡ got t rest → Left s t rest
+unfolding scan scanKind
+scan-left inner at [] t rest e = bad-got e
+scan-left inner at (h ∷ s) t rest e =
+    need-by _ _ _ e (λ low e₁.
+    need-by _ _ _ e₁ (λ flat e₂.
+    bind-by _ _ _ e₂ (λ v s₁ ev e₃.
+    need-by _ _ _ e₃ (λ most e₄.
+    bind-by _ _ _ e₄ (λ a s₂ ea e₅.
+    body-by _ _ _ _ a s₂ t rest e₅ (λ b et sc sized room.
+    let one = number-short _ _ s v s₁ ev in
+    let two = number-short _ _ s₁ a s₂ ea in
+    rw et (record {
+      behind = omega (arith, ap length sc, length-append b rest);
+      count = omega (arith, rule-row (h / 16) .single);
+    })))))))
+
+-- ---- by offsets
+
+-- a head of the region s, scanned at `at`
+pub record Within (s : List ℕ) (at : ℕ) (h : Head) : Type 0 where
+  pub numbers : at < h .first
+  pub body : h .first ≤ h .end
+  pub end : h .end ≤ length s
+  pub items : h .items ≤ suc (length s - h .end)
+
+within-left : (s : List ℕ) (at : ℕ) (h : Head) (r : Res Fault Token) → ((t : Token) (rest : List ℕ) → r ≡ got t rest → Left (drop at s) t rest)
+    → ok h ≡ seen (length s) r → Within s at h
+unfolding seen
+within-left s at h (got t rest) left e =
+    let l = left t rest refl in
+    let long = length-drop at s in
+    let same : h ≡ record {
+      kind = t .kind;
+      n = t .n;
+      items = pending (rule (t .kind)) (t .n) (t .args);
+      first = length s - length rest - length (t .body);
+      end = length s - length rest;
+    } = cc in
+    rw same (record {
+      numbers = omega (arith, l .behind);
+      body = omega arith;
+      end = omega arith;
+      items = omega (arith, l .behind, l .count);
+    })
+within-left s at h (bad f) left e = let z : _≡_ {A = ℕ} 0 1 = cc in absurd (omega arith)
+
+pub scan-within : (inner : Bool) (s : List ℕ) (at : ℕ) (h : Head) → ok h ≡ scanAt inner s at → Within s at h
+unfolding scanAt
+scan-within inner s at h e = within-left s at h (scan inner at (drop at s)) (scan-left inner at (drop at s)) e
