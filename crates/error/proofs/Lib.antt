@@ -1,0 +1,2 @@
+-- laws of the names
+pub mod Laws

@@ -4,13 +4,15 @@
 --   numberOf k       the number of the code's error k
 --   names            their names in the paper's spelling, as bytes, by number; none has the number 0
 --   nameOf k         the name of the code's error k
+--   padded s         the name s as the code tells it, filled up with spaces
 --   Fault            an error as the paper tells it: its number and its place
 --   fault f p        the error f at the place p
 --   told e           the code's error e as the paper tells it
 use Prim.Native.Nat.{ℕ}
-use mathlib.Core.List.{List, [], _∷_}
-use lib.ListN.{getD}
+use mathlib.Core.List.{List, [], _∷_, _++_}
+use lib.ListN.{length, take, replicate, getD}
 use Rattle.error.specs.declared.Error.{Error}
+use Rattle.error.specs.declared.ErrorName.{ErrorName}
 use Rattle.error.specs.declared.ErrorKind.{ErrorKind}
 use Rattle.error.specs.declared.ErrorKind.the-variants.{Empty, TooLong, Trunc, Reserved, Overlong, Range, Nested, BadText, BadTarget, Full, BadEntry, Outside, NoItem, WrongKind, NoRoom, Owed, Closed, BadState}
 
@@ -121,5 +123,8 @@ names =
     ∷ (66 ∷ 65 ∷ 68 ∷ 95 ∷ 83 ∷ 84 ∷ 65 ∷ 84 ∷ 69 ∷ [])  -- BAD_STATE
     ∷ []
 
-abbrev pub nameOf : ErrorKind → List ℕ
+unfoldable pub nameOf : ErrorKind → List ℕ
 nameOf k = getD names (numberOf k) []
+
+unfoldable pub padded : List ℕ → ErrorName
+padded s = record { text = take 10 (s ++ replicate 10 32); len = length s }

@@ -1,8 +1,7 @@
 // The eighteen errors of document 01 ("Numbers of refusal"): their numbers and their names.
 ghost use mathlib.Core.Path.{_≡_};
 ghost use Prim.Native.Nat.{_<_};
-ghost use lib.ListN.{take};
-ghost use Rattle.error.specs.Error.{numberOf, nameOf};
+ghost use Rattle.error.specs.Error.{numberOf, nameOf, padded};
 
 // What went wrong. The variants stand in the order of their numbers, from 1.
 pub enum ErrorKind {
@@ -50,7 +49,7 @@ pub struct Error {
     pub place: usize,
 }
 
-// A name in the paper's spelling: the first `len` bytes of `text`.
+// A name in the paper's spelling: the first `len` bytes of `text`, and then spaces.
 pub struct ErrorName {
     pub text: [u8; 10],
     pub len: usize,
@@ -164,7 +163,7 @@ const NAMES: [ErrorName; 19] = [
 
 // The name of an error, as `BAD_TARGET`.
 pub fn name(kind: ErrorKind) -> ErrorName
-    ensures { λ r. ⌜ take (r .len) (r .text) ≡ nameOf kind ⌝ }
+    ensures { λ r. ⌜ r ≡ padded (nameOf kind) ⌝ }
 {
     let i = number(kind) as usize;
     NAMES[i]

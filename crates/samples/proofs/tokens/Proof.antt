@@ -1,0 +1,45 @@
+-- `samples::tokens` is safe and ends: each token ends behind its header.
+use Prim.Native.Nat.{_-_, _≤_}
+use native.Mathlib.Omega.{arith}
+use borrow.Author.Needs.{needs}
+use lib.ListN.{length}
+use Rattle.token.proofs.Ends.{scan-within}
+use Rattle.samples.proofs.tokens.Statement.{statement}
+use Rattle.samples.proofs.tokens.Tie as tie
+
+abbrev Inv-loop : tie.InvT-loop
+Inv-loop s at₀ pending₀ t9 t10 t11 at pending = at ≤ length s
+
+abbrev μ-loop : tie.MeasureT-loop
+μ-loop s at₀ pending₀ t9 t10 t11 at pending = length s - at
+
+pub tokens-spec : {M : Type 1} → statement M
+tokens-spec =
+    tie.close
+    (tie.spec
+    Inv-loop
+    μ-loop
+    (λ c. search needs)
+    (λ c κs. search needs)
+    (λ c κs. search needs)
+    (λ c. search needs)
+    (λ c κs. search needs)
+    (λ c. search needs)
+    (λ c κs. search needs)
+    (λ c. search needs)
+    (λ c κs. search needs)
+    (λ c κs. search needs)
+    (λ c. search needs)
+    (λ c κs. search needs)
+    (λ c. let t = c .before .before .before .before .before in
+    omega (arith, scan-within _ _ _ _ (rw (t .h .given .1) at (t .before .before .scan .ensures))))
+    (λ c. let t = c .before .before .before .before .before in
+    omega (arith, scan-within _ _ _ _ (rw (t .h .given .1) at (t .before .before .scan .ensures))))
+    (λ c. search needs)
+    (λ c κs. search needs)
+    (λ c. search needs)
+    (λ c κs. search needs)
+    (λ c. search needs)
+    (λ c. search needs)
+    (λ c κs. search needs)
+    (λ c. search needs))
