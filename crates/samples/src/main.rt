@@ -1,9 +1,15 @@
-// Runs the samples of the papers and prints a line for each. The line of a region: its bytes, then each token as its offset, kind, n,
-// items, first and end; where one is refused, the error's name and place.
-use error::ErrorKind;
+// Runs the samples on standard input, a line each, and prints each line with its answer:
+//
+//   tokens HEX    the tokens of a region, each as its offset, kind, n, items, first and end; `end` behind the last one, or the error
+//
+// An error is its name and its place. A line that begins with # is printed as it is.
+use error::Error;
+use libc::STDIN_FILENO;
 use libc::STDOUT_FILENO;
 use token::Head;
 use token::ScanResult;
+ghost use Prim.Native.Nat.{_≤_, _<_};
+ghost use lib.ListN.{length};
 
 fn write(s: &[u8]) {
     io::write_all(STDOUT_FILENO, s);
@@ -14,27 +20,17 @@ fn decimal(n: u64) {
     io::print_decimal(STDOUT_FILENO, n);
 }
 
-fn digit(d: u8) -> u8 {
-    if d < 10 { b'0' + d } else { b'a' + d % 16 - 10 }
-}
-
-fn hex(s: &[u8]) {
-    let mut i = 0;
-    while i < s.len() {
-        let b = s[i];
-        write(&[digit(b / 16), digit(b % 16)]);
-        i += 1;
-    }
-}
-
-fn refusal(kind: ErrorKind, place: usize) {
+fn refusal(e: Error) {
+    let kind = e.kind;
     let name = error::name(kind);
     let text = name.text;
     let len = name.len;
     write(b" ");
     write(&text[..len]);
-    decimal(place as u64);
+    decimal(e.place as u64);
 }
+
+// ---- the queries
 
 fn head(at: usize, h: Head) {
     decimal(at as u64);
@@ -43,6 +39,7 @@ fn head(at: usize, h: Head) {
     decimal(h.items);
     decimal(h.first as u64);
     decimal(h.end as u64);
+    write(b";");
 }
 
 // The items pending after a token.
@@ -53,86 +50,111 @@ fn after(pending: u64, items: u64) -> u64 {
     pending - 1
 }
 
-fn tokens(s: &[u8]) {
-    write(b"tokens ");
-    hex(s);
-    write(b":");
+fn tokens(region: &[u8]) {
     let mut at: usize = 0;
     let mut pending: u64 = 0;
-    while (at < s.len()) | (0 < pending) {
-        match token::scan(s, at, 0 < pending) {
+    while (at < region.len()) | (0 < pending) {
+        match token::scan(region, at, 0 < pending) {
             ScanResult::Ok(h) => {
                 head(at, h);
                 pending = after(pending, h.items);
                 at = h.end;
-                write(b";");
             }
             ScanResult::Err(e) => {
-                let kind = e.kind;
-                refusal(kind, e.place);
-                write(b"\n");
+                refusal(e);
                 return;
             }
         }
     }
-    write(b" end\n");
+    write(b" end");
+}
+
+// ---- the lines
+
+// The value of a hex digit; 0 of another byte.
+fn digit(b: u8) -> u8
+    ensures { λ r. ⌜ r < 16 ⌝ }
+{
+    if (b'0' <= b) & (b <= b'9') {
+        return b % 16;
+    }
+    if (b'a' <= b) & (b <= b'f') {
+        return (b % 16 + 9) % 16;
+    }
+    0
+}
+
+// The bytes that s has in hex, as far as they go into out; answers how many.
+fn unhex(s: &[u8], out: &mut [u8]) -> usize
+    ensures { λ r. ⌜ r ≤ length (now (out .exit)) ⌝ }
+{
+    let mut i: usize = 0;
+    let mut n: usize = 0;
+    while n < out.len() {
+        if s.len() - i < 2 {
+            return n;
+        }
+        let high = digit(s[i]);
+        let low = digit(s[i + 1]);
+        out[n] = high * 16 + low;
+        i += 2;
+        n += 1;
+    }
+    n
+}
+
+// The offset of the first b in s from at on, or the end.
+fn find(s: &[u8], at: usize, b: u8) -> usize
+    requires { ⌜ at ≤ length (now s) ⌝ }
+    ensures { λ r. ⌜ (at ≤ r) × (r ≤ length (now (s .entry))) ⌝ }
+{
+    let mut i = at;
+    while i < s.len() {
+        if s[i] == b {
+            return i;
+        }
+        i += 1;
+    }
+    i
+}
+
+// The answer to a query on the bytes that s has in hex.
+fn answer(s: &[u8], space: &mut [u8]) {
+    let n = unhex(s, space);
+    tokens(&space[..n]);
+}
+
+fn query(line: &[u8]) {
+    let end = find(line, 0, b' ');
+    if end < line.len() {
+        let start = end + 1;
+        let mut space = [0u8; 256];
+        write(b":");
+        answer(&line[start..], &mut space);
+    }
+}
+
+fn run(line: &[u8]) {
+    write(line);
+    if 0 < line.len() {
+        if line[0] != b'#' {
+            query(line);
+        }
+    }
+    write(b"\n");
+}
+
+fn lines(s: &[u8]) {
+    let mut at: usize = 0;
+    while at < s.len() {
+        let end = find(s, at, b'\n');
+        run(&s[at..end]);
+        at = end + 1;
+    }
 }
 
 fn main() {
-    // Document 000 and 001: the byte rows, in their order.
-    tokens(b"\x1f\x1b");
-    tokens(b"\x21");
-    tokens(b"\x2f\x0b");
-    tokens(b"\x31\x00\x00\x00\x00\x00\x40\x45\x40");
-    tokens(b"\x4f\x02\x68\x65\x6c\x6c\x6f\x20\x77\x6f\x72\x6c\x64\x21\x20\xf0\x9f\x98\x81");
-    tokens(b"\x61\x1f\x1b\x64\xf3\x11\x12\x13");
-    tokens(b"\x72\x41\x61\x1f\x1b\x41\x62\x00");
-    tokens(b"\x1f\x1b\xe1");
-    tokens(b"\x1f\x1b\xf1");
-    // Document 001: the region of the file that opens it.
-    tokens(b"\x45\x68\x65\x6c\x6c\x6f\x61\xf6\x62\xf8\xf3\x72\x41\x61\xf5\x41\x78\x01");
-    // Document 01: the regions of the samples that one token decides; the third is a map of 2^63 pairs.
-    tokens(b"\x1f\x80\x00");
-    tokens(b"\x61\x61\x00");
-    tokens(b"\x7f\xf1\xff\xff\xff\xff\xff\xff\xff\x7f");
-    tokens(b"\x2f\xf0\xff\xff\xff\xff\xff\xff\xff\x7f");
-    tokens(b"\x1f\xf1\xff\xff\xff\xff\xff\xff\xff\x7f");
-    // A number of ten bytes: the tenth 80 and 0; and the end before the tenth.
-    tokens(b"\x1f\x80\x80\x80\x80\x80\x80\x80\x80\x80\x80");
-    tokens(b"\x1f\x80\x80\x80\x80\x80\x80\x80\x80\x80\x00");
-    tokens(b"\x1f\x80\x80\x80\x80\x80\x80\x80\x80\x80");
-    // n of 2^64 and of 2^64-1: as a length, a tag and a distance.
-    tokens(b"\x4f\xf1\xff\xff\xff\xff\xff\xff\xff\xff\x01");
-    tokens(b"\x4f\xf0\xff\xff\xff\xff\xff\xff\xff\xff\x01");
-    tokens(b"\x8f\xf0\xff\xff\xff\xff\xff\xff\xff\xff\x01\x10");
-    tokens(b"\xff\xf0\xff\xff\xff\xff\xff\xff\xff\xff\x01");
-    // Integers: 2^63-1, and one below -2^63.
-    tokens(b"\x1f\xf0\xff\xff\xff\xff\xff\xff\xff\x7f");
-    tokens(b"\x2f\xf1\xff\xff\xff\xff\xff\xff\xff\x7f");
-    // A variant index at 2^32-1, and one over before its argument count is looked at.
-    tokens(b"\xaf\xf0\xff\xff\xff\x0f");
-    tokens(b"\xcf\xf1\xff\xff\xff\x0f");
-    // Argument counts: for a low below 15 too, cut, and more than the bytes left.
-    tokens(b"\xc0\x0f\x10\x10\x10\x10\x10\x10\x10\x10\x10\x10\x10\x10\x10\x10\x10");
-    tokens(b"\xc3");
-    tokens(b"\xc1\x02\x10");
-    tokens(b"\xcc\xff\x80");
-    tokens(b"\xc0\x80\x80\x01");
-    // Pair counts: one pair in three bytes, two in three.
-    tokens(b"\x71\x10\x11\x12");
-    tokens(b"\x72\x10\x11\x12");
-    // An item wanted at the region's end: of a tag, of an array.
-    tokens(b"\x80");
-    tokens(b"\x62\x41\x61");
-    // A count before its items; an item's own length; reserved and nested items.
-    tokens(b"\x63\x90\x90");
-    tokens(b"\x61\x45\x61");
-    tokens(b"\x61\x90");
-    tokens(b"\x61\x6f");
-    // Reserved kinds and low nibbles; a cut float.
-    tokens(b"\x90");
-    tokens(b"\xd0");
-    tokens(b"\x03");
-    tokens(b"\x32");
-    tokens(b"\x30\x00\x01\x02");
+    let mut input = io::large_buffer();
+    let n = io::read_full(STDIN_FILENO, &mut input);
+    lines(&input[..n]);
 }
