@@ -128,7 +128,7 @@ fn query(line: &[u8]) {
     let end = find(line, 0, b' ');
     if end < line.len() {
         let start = end + 1;
-        let mut space = [0u8; 256];
+        let mut space = [0u8; 16384];
         write(b":");
         answer(&line[start..], &mut space);
     }
