@@ -52,7 +52,7 @@ sets-part p d w h =
     rw (part-from w d, drop-of-length-le (drop w d) {i = length d - w} (rw length-drop (omega arith)), append-nil)
     (sets-drop p d w 0 ∙ rw add-zero)
 
--- ---- Put
+-- ---- Put and PutAt
 
 -- p stored at the front of d is e; r is how many bytes that is
 pub record Put (p d e : List ℕ) (r : ℕ) : Type 0 where
@@ -66,13 +66,25 @@ put-same p d e r put = rw (put .bytes) (length-sets d 0 p)
 pub put-part : (p d e : List ℕ) (w r : ℕ) → w ≤ length d → Put p (take (length d - w) (drop w d)) e r → putMid w (length d - w) d e ≡ sets d w p
 put-part p d e w r h put = rw (put .bytes) (sets-part p d w h)
 
--- p at the front, and then q at the front of what is left
-pub put-then : (p q d e f : List ℕ) (r s : ℕ) → Put p d e r → r ≤ length e → Put q (take (length e - r) (drop r e)) f s
-    → Put (p ++ q) d (putMid r (length e - r) e f) (s + r)
-put-then p q d e f r s put h next = record {
-  size = omega (arith, length-append p q, put .size, next .size);
-  bytes = put-part q e f r s h next ∙ cc (sets-append p q d 0, zero-add (length p), put .size, put .bytes);
+-- p stored in d from w on is e; r is the offset after it
+pub record PutAt (p d : List ℕ) (w : ℕ) (e : List ℕ) (r : ℕ) : Type 0 where
+  pub after : r ≡ w + length p
+  pub bytes : e ≡ sets d w p
+
+-- p stored at the front of the part from w on
+pub putAt-part : (p d e : List ℕ) (w r : ℕ) → w ≤ length d → Put p (take (length d - w) (drop w d)) e r
+    → PutAt p d w (putMid w (length d - w) d e) (w + r)
+putAt-part p d e w r h put = record { after = ap (λ n. w + n) (put .size); bytes = put-part p d e w r h put }
+
+-- p at the front, and then q behind it
+pub put-append : (p q d e f : List ℕ) (r s : ℕ) → Put p d e r → PutAt q e r f s → Put (p ++ q) d f s
+put-append p q d e f r s put next = record {
+  size = omega (arith, length-append p q, put .size, next .after);
+  bytes = next .bytes ∙ cc (sets-append p q d 0, zero-add (length p), put .size, put .bytes);
 }
+
+pub putAt-same : (p d e : List ℕ) (w r : ℕ) → PutAt p d w e r → length e ≡ length d
+putAt-same p d e w r put = rw (put .bytes) (length-sets d w p)
 
 pub store-put : (p d e : List ℕ) (r : ℕ) → length p ≤ length d → Put p d e r → stored r e ≡ store p d
 unfolding store
@@ -87,8 +99,3 @@ unfolding store
 put-store p d e r h q =
     let same : stored r e ≡ stored (length p) (p ++ drop (length p) d) = rw (le-leb _ _ h) at q in
     record { size = ap (λ (x : Stored). x .size) same; bytes = ap (λ (x : Stored). x .bytes) same ∙ sym (sets-front p d h) }
-
--- a byte, and then p at the front of what is left
-pub put-cons : (b : ℕ) (p d f : List ℕ) (s : ℕ) → 1 ≤ length d → Put p (take (length (set d 0 b) - 1) (drop 1 (set d 0 b))) f s
-    → Put (b ∷ p) d (putMid 1 (length (set d 0 b) - 1) (set d 0 b) f) (s + 1)
-put-cons b p d f s h next = put-then (b ∷ []) p d (set d 0 b) f 1 s (record { size = refl; bytes = refl }) (rw length-set h) next

@@ -6,8 +6,8 @@
 use error::Error;
 use libc::STDIN_FILENO;
 use libc::STDOUT_FILENO;
-use token::Head;
-use token::ScanResult;
+use scan::Head;
+use scan::ScanResult;
 ghost use Prim.Native.Nat.{_≤_, _<_};
 ghost use lib.ListN.{length};
 
@@ -54,7 +54,7 @@ fn tokens(region: &[u8]) {
     let mut at: usize = 0;
     let mut pending: u64 = 0;
     while (at < region.len()) | (0 < pending) {
-        match token::scan(region, at, 0 < pending) {
+        match scan::scan(region, at, 0 < pending) {
             ScanResult::Ok(h) => {
                 head(at, h);
                 pending = after(pending, h.items);

@@ -1,6 +1,6 @@
--- Where a token that was scanned ends: behind its header and in its region. In any form of its numbers, not the shortest alone.
+-- What `scan` leaves of the bytes, in any form of the numbers, not the shortest alone.
 --
--- In order: the rest behind a number is an end of the bytes; what `scan` leaves; the same by offsets (`scan-within`).
+-- In order: the rest behind a number is an end of the bytes; the body and the rest behind a token are shorter than them.
 use mathlib.Core.Path.{_≡_, refl, ap, _∙_}
 use Prim.Native.Nat.{ℕ, suc, _+_, _-_, _/_, _≤_, _<_}
 use mathlib.Core.Bool.{Bool, true, false}
@@ -8,16 +8,13 @@ use mathlib.Core.List.{List, [], _∷_}
 use native.Mathlib.Omega.{arith}
 use lib.ListN.{length, drop, length-drop, length-append}
 use lib.Seq.{drop-drop}
-use Rattle.prelude.specs.Answer.{ok, Res, got, bad}
+use Rattle.prelude.specs.Answer.{Res, got}
 use Rattle.prelude.proofs.Readers.{orError-by, need-by, bind-by, bad-got}
-use Rattle.error.specs.Error.{Fault}
 use Rattle.leb128.proofs.Laws.{get-ends}
 use Rattle.kind.specs.Kind.{rule, pending}
 use Rattle.kind.proofs.Laws.{rule-row}
 use Rattle.token.specs.Token.{Token}
 use Rattle.token.specs.Scan.{getIf, number, scanKind, scan}
-use Rattle.token.specs.Told.{seen, scanAt}
-use Rattle.token.specs.declared.Head.{Head}
 use Rattle.token.proofs.Laws.{body-by}
 
 -- ---- the rest behind a number
@@ -47,11 +44,11 @@ number-short at w s v rest e = orError-by _ _ e (λ e₁. getIf-end w s v rest e
 -- ---- what `scan` leaves
 
 -- the body and the rest are shorter than s, and the counted items have a byte each
-record Left (s : List ℕ) (t : Token) (rest : List ℕ) : Type 0 where
-  behind : length (t .body) + length rest < length s
-  count : pending (rule (t .kind)) (t .n) (t .args) ≤ suc (length rest)
+pub record Left (s : List ℕ) (t : Token) (rest : List ℕ) : Type 0 where
+  pub behind : length (t .body) + length rest < length s
+  pub count : pending (rule (t .kind)) (t .n) (t .args) ≤ suc (length rest)
 
-scan-left : (inner : Bool) (at : ℕ) (s : List ℕ) (t : Token) (rest : List ℕ) → scan inner at s ≡ got t rest → Left s t rest
+pub scan-left : (inner : Bool) (at : ℕ) (s : List ℕ) (t : Token) (rest : List ℕ) → scan inner at s ≡ got t rest → Left s t rest
 unfolding scan scanKind
 scan-left inner at [] t rest e = bad-got e
 scan-left inner at (h ∷ s) t rest e =
@@ -67,37 +64,3 @@ scan-left inner at (h ∷ s) t rest e =
       behind = omega (arith, ap length sc, length-append b rest);
       count = omega (arith, rule-row (h / 16) .single);
     })))))))
-
--- ---- by offsets
-
--- a head of the region s, scanned at `at`
-pub record Within (s : List ℕ) (at : ℕ) (h : Head) : Type 0 where
-  pub numbers : at < h .first
-  pub body : h .first ≤ h .end
-  pub end : h .end ≤ length s
-  pub items : h .items ≤ suc (length s - h .end)
-
-within-left : (s : List ℕ) (at : ℕ) (h : Head) (r : Res Fault Token) → ((t : Token) (rest : List ℕ) → r ≡ got t rest → Left (drop at s) t rest)
-    → ok h ≡ seen (length s) r → Within s at h
-unfolding seen
-within-left s at h (got t rest) left e =
-    let l = left t rest refl in
-    let long = length-drop at s in
-    let same : h ≡ record {
-      kind = t .kind;
-      n = t .n;
-      items = pending (rule (t .kind)) (t .n) (t .args);
-      first = length s - length rest - length (t .body);
-      end = length s - length rest;
-    } = cc in
-    rw same (record {
-      numbers = omega (arith, l .behind);
-      body = omega arith;
-      end = omega arith;
-      items = omega (arith, l .behind, l .count);
-    })
-within-left s at h (bad f) left e = let z : _≡_ {A = ℕ} 0 1 = cc in absurd (omega arith)
-
-pub scan-within : (inner : Bool) (s : List ℕ) (at : ℕ) (h : Head) → ok h ≡ scanAt inner s at → Within s at h
-unfolding scanAt
-scan-within inner s at h e = within-left s at h (scan inner at (drop at s)) (scan-left inner at (drop at s)) e

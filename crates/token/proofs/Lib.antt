@@ -1,6 +1,4 @@
 -- `scan` and `emit`, one after the other, both ways
 pub mod Laws
--- where a token ends
+-- what `scan` leaves of the bytes
 pub mod Ends
--- how `scanAt` goes, as the code takes it
-mod Steps

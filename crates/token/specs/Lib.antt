@@ -2,5 +2,3 @@
 pub mod Token
 -- the reader of one token: `scan`
 pub mod Scan
--- what the code's answers mean
-pub mod Told

@@ -2,7 +2,7 @@
 use Prim.Native.Nat.{_-_, _≤_}
 use native.Mathlib.Omega.{arith}
 use lib.ListN.{length}
-use Rattle.token.proofs.Ends.{scan-within}
+use Rattle.scan.proofs.Places.{scan-within}
 use borrow.Author.Needs.{needs}
 use Rattle.samples.proofs.tokens.Statement.{statement}
 use Rattle.samples.proofs.tokens.Tie as tie

@@ -1,0 +1,102 @@
+// One token written: how many bytes it takes, and its bytes put into a borrowed tail.
+ghost use mathlib.Core.Path.{_≡_};
+ghost use Prim.Native.Nat.{_+_, _-_, _≤_, _<_, min};
+ghost use lib.ListN.{length};
+ghost use Rattle.prelude.specs.Bytes.{stored};
+ghost use Rattle.prelude.proofs.Parts.{Put, PutAt};
+ghost use Rattle.token.specs.Token.{token, putIf, emit, emitInto};
+
+// What a number n has beyond the low nibble.
+fn excess(n: u64) -> u64
+    ensures { λ r. ⌜ r ≡ n - 15 ⌝ }
+{
+    if n < 15 {
+        return 0;
+    }
+    n - 15
+}
+
+// The header's low nibble.
+fn nibble(n: u64) -> u8
+    ensures { λ r. ⌜ (r ≡ min n 15) × (r < 16) ⌝ }
+{
+    if n < 15 {
+        return n as u8;
+    }
+    15
+}
+
+// How many bytes a number takes that is there where `wanted` is true.
+fn size_if(wanted: bool, n: u64) -> usize
+    ensures { λ r. ⌜ (r ≡ length (putIf wanted n)) × (r ≤ 10) ⌝ }
+{
+    if wanted {
+        return leb128::size(n);
+    }
+    0
+}
+
+// How many bytes a token takes.
+pub fn size(kind: u8, n: u64, args: u64, body: &[u8]) -> usize
+    ensures { λ r. ⌜ r ≡ length (emit (token kind n args (now (body .entry)))) ⌝ }
+{
+    let rule = kind::rule_of(kind);
+    1 + size_if(15 <= n, excess(n)) + size_if(rule.args, args) + body.len()
+}
+
+// Writes a number that is there where `wanted` is true into out from at on, and answers the offset after it.
+fn put_if(out: &mut [u8], at: usize, wanted: bool, n: u64) -> usize
+    requires { ⌜ at + length (putIf wanted n) ≤ length (now out) ⌝ }
+    ensures { λ r. ⌜ PutAt (putIf wanted n) (now (out .entry)) at (now (out .exit)) r ⌝ }
+{
+    if wanted {
+        return at + leb128::put(&mut out[at..], n);
+    }
+    at
+}
+
+fn copy(rest: &mut [u8], body: &[u8]) -> usize
+    requires { ⌜ length (now body) ≤ length (now rest) ⌝ }
+    ensures { λ r. ⌜ Put (now (body .entry)) (now (rest .entry)) (now (rest .exit)) r ⌝ }
+{
+    let mut i: usize = 0;
+    while i < body.len() {
+        rest[i] = body[i];
+        i += 1;
+    }
+    i
+}
+
+fn put_body(out: &mut [u8], at: usize, body: &[u8]) -> usize
+    requires { ⌜ at + length (now body) ≤ length (now out) ⌝ }
+    ensures { λ r. ⌜ PutAt (now (body .entry)) (now (out .entry)) at (now (out .exit)) r ⌝ }
+{
+    at + copy(&mut out[at..], body)
+}
+
+// Writes a token, which has room: the header, its number, the second number, the body.
+fn put_within(out: &mut [u8], kind: u8, n: u64, args: u64, body: &[u8]) -> usize
+    requires { ⌜ (kind < 16) × (length (emit (token kind n args (now body))) ≤ length (now out)) ⌝ }
+    ensures { λ r. ⌜ Put (emit (token kind n args (now (body .entry)))) (now (out .entry)) (now (out .exit)) r ⌝ }
+{
+    let rule = kind::rule_of(kind);
+    let more = excess(n);
+    out[0] = kind * 16 + nibble(n);
+    let number = put_if(out, 1, 15 <= n, more);
+    let second = put_if(out, number, rule.args, args);
+    put_body(out, second, body)
+}
+
+// Writes a token at the front of rest and answers how many bytes that took; where it does not fit, or its kind is over 15, writes
+// nothing and answers 0.
+pub fn put(rest: &mut [u8], kind: u8, n: u64, args: u64, body: &[u8]) -> usize
+    ensures { λ r. ⌜ stored r (now (rest .exit)) ≡ emitInto (token kind n args (now (body .entry))) (now (rest .entry)) ⌝ }
+{
+    if 16 <= kind {
+        return 0;
+    }
+    if rest.len() < size(kind, n, args, body) {
+        return 0;
+    }
+    put_within(rest, kind, n, args, body)
+}

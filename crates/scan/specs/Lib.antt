@@ -1,0 +1,2 @@
+-- what the code's answers mean: `scanAt`
+pub mod Told
