@@ -1,4 +1,5 @@
-// One token written: how many bytes it takes, and its bytes put into a borrowed tail.
+// One token written: how many bytes it takes, and its bytes put into a borrowed tail. The token is not judged: what its kind does not
+// allow is written as it stands, and need not read back; `args` counts for a kind with a second number alone.
 ghost use mathlib.Core.Path.{_≡_};
 ghost use Prim.Native.Nat.{_+_, _-_, _≤_, _<_, min};
 ghost use lib.ListN.{length};
@@ -36,7 +37,7 @@ fn size_if(wanted: bool, n: u64) -> usize
     0
 }
 
-// How many bytes a token takes.
+// How many bytes a token takes; of a kind over 15, which `put` does not write, as many as a reserved one.
 pub fn size(kind: u8, n: u64, args: u64, body: &[u8]) -> usize
     ensures { λ r. ⌜ r ≡ length (emit (token kind n args (now (body .entry)))) ⌝ }
 {

@@ -2,7 +2,7 @@
 --
 --   EMPTY, ..        the numbers
 --   numberOf k       the number of the code's error k
---   names            their names in the paper's spelling, as bytes, by number; none has the number 0
+--   names            their names in the paper's spelling, as bytes, by number; entry 0 is empty, since no error has the number 0
 --   nameOf k         the name of the code's error k
 --   padded s         the name s as the code tells it, filled up with spaces
 --   Fault            an error as the paper tells it: its number and its place

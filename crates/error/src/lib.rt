@@ -9,7 +9,8 @@ pub enum ErrorKind {
     Empty,
     // The file is over 16,777,216 bytes long.
     TooLong,
-    // The region ends inside a number or a fixed body, a length or count exceeds the bytes left, or an item is wanted at the region's end.
+    // The region ends inside a number or a fixed body; a length or count exceeds the bytes left, or a pair count half of them; an item is
+    // wanted at the region's end.
     Trunc,
     // A reserved kind or low nibble.
     Reserved,
@@ -39,11 +40,11 @@ pub enum ErrorKind {
     Owed,
     // Writer: already closed.
     Closed,
-    // Writer: a state that fits neither the output nor the table.
+    // Writer: a state that the output or the table does not fit.
     BadState,
 }
 
-// What went wrong, and where: the offset that document 01 calls its place.
+// What went wrong, and where: the offset that document 01 calls its place. Errors of the writer have none and are told by their kind alone.
 pub struct Error {
     pub kind: ErrorKind,
     pub place: usize,

@@ -1,14 +1,14 @@
 -- Bytes and their number, over any width.
 --
 -- In order: the bytes of a number hold it (`value-little`), and the number that bytes hold has these bytes (`little-value`);
--- how many bytes, and how large a number; `bits` gives back a number whose bytes stand in front (`bits-little`); `bits` as the
--- code computes it.
+-- how many bytes, and how large a number; `bits` gives back a number whose bytes stand in front (`bits-little`), and the bytes of
+-- what it gives are those in front (`little-bits`); `bits` as the code computes it.
 use mathlib.Core.Path.{_≡_, refl, ap}
 use mathlib.Core.List.{List, [], _∷_, _++_}
 use Prim.Native.Nat.{ℕ, zero, suc, _+_, _*_, _/_, _%_, _^_, _≤_, _<_}
 use native.Mathlib.Omega.{arith}
 use lib.ListN.{length, take, drop, getD, length-append}
-use lib.Seq.{drop-cons, take-at}
+use lib.Seq.{drop-cons, take-at, length-take-le}
 use borrow.Author.Tests.{le-leb, lt-leb}
 use Rattle.prelude.specs.Bytes.{Bytes}
 use Rattle.float.specs.Bits.{little, value, bits}
@@ -43,6 +43,17 @@ unfolding bits
 bits-little k n s h =
     let there : k ≤ length (little k n ++ s) = omega (arith, length-append (little k n) s, length-little k n) in
     rw (le-leb _ _ there, take-at (little k n) s k (length-little k n)) (value-little k n h)
+
+bytes-take : (k : ℕ) (s : List ℕ) → Bytes s → Bytes (take k s)
+bytes-take zero s h = tt
+bytes-take (suc k) [] h = tt
+bytes-take (suc k) (b ∷ s) h = (h .0, bytes-take k s (h .1))
+
+pub little-bits : (k : ℕ) (s : List ℕ) → Bytes s → k ≤ length s → little k (bits k s) ≡ take k s
+unfolding bits
+little-bits k s h l =
+    let own = length-take-le k s l in
+    rw (le-leb _ _ l) (rw own at (little-value (take k s) (bytes-take k s h)))
 
 -- ---- as the code has it
 

@@ -1,2 +1,4 @@
 -- laws of the table
 pub mod Laws
+-- its columns
+mod Samples

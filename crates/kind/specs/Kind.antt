@@ -1,15 +1,15 @@
--- The kind table (document 01, "Row of a file"), as numbers, so that no definition goes kind by kind.
+-- The kind table (document 01, "Row of a file"), as numbers, so that what a token holds is reckoned and not told kind by kind.
 --
 --   table           the sixteen rules, in the order of the kinds
 --   rule k          the rule of kind k; that of a reserved kind past the table
 --   size r n        how many bytes the body has
---   counted r n a   the items that the file counts, by n or by a second number a
+--   counted r n a   the items that the file counts, by n or by a second number a, which is 0 where the kind has none
 --   pending r n a   all items: those, and the one of a tag or a variant of one
---   immediate r     whether a value of this rule has no items, and so may be one
+--   immediate r     whether a value of this rule may be an item: it has none itself, and its kind is not reserved
 use Prim.Native.Nat.{ℕ, _+_, _-_, _*_, _^_}
 use mathlib.Core.Bool.{Bool, true, false, not, _&&_}
 use mathlib.Core.List.{List, [], _∷_}
-use lib.Dec.{eqb}
+use lib.Dec.{eqb, ltb}
 use lib.ListN.{getD}
 use Rattle.kind.specs.declared.Rule.{Rule}
 
@@ -62,4 +62,4 @@ abbrev pub pending : Rule → ℕ → ℕ → ℕ
 pending r n a = r .single + counted r n a
 
 abbrev pub immediate : Rule → Bool
-immediate r = eqb (r .single) 0 && eqb (r .each) 0 && not (r .args)
+immediate r = ltb 0 (r .lows) && eqb (r .single) 0 && eqb (r .each) 0 && not (r .args)

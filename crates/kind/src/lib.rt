@@ -12,7 +12,7 @@ pub struct Rule {
     // The body has `fixed` bytes, and `scale` for each n.
     pub fixed: u64,
     pub scale: u64,
-    // `single` item follows, `each` for each n, and as many as a second number says where `args` is true.
+    // The items are `single`, which is 0 or 1, `each` for each n, and as many as a second number says where `args` is true.
     pub single: u64,
     pub each: u64,
     pub args: bool,
@@ -106,9 +106,9 @@ pub fn rule_of(kind: u8) -> Rule
     unpacked(KINDS[kind as usize])
 }
 
-// Whether a value of this rule may be an item.
+// Whether a value of this rule may be an item; none of a reserved rule may.
 pub fn is_immediate(rule: Rule) -> bool
     ensures { λ r. ⌜ r ≡ immediate rule ⌝ }
 {
-    (rule.single == 0) & (rule.each == 0) & !rule.args
+    (0 < rule.lows) & (rule.single == 0) & (rule.each == 0) & !rule.args
 }

@@ -1,6 +1,9 @@
--- How many bytes `put` gives: by the highest bit, and so by the leading zeros.
+-- How many bytes `put` gives.
+--
+-- In order: by the highest bit, and so by the leading zeros; at most as many as are allowed; no bytes of the same value are fewer
+-- (`put-shortest`); `put` byte by byte.
 use mathlib.Core.Path.{_≡_, refl}
-use mathlib.Core.List.{[], _∷_}
+use mathlib.Core.List.{List, [], _∷_}
 use Prim.Native.Nat.{ℕ, zero, suc, _+_, _-_, _*_, _/_, _%_, _^_, _<_, _≤_}
 use native.Mathlib.Nat.{two-pow-succ}
 use native.Mathlib.Omega.{arith}
@@ -9,7 +12,7 @@ use lib.ListN.{length}
 use lib.Pow.{pow-mono, pow-add}
 use borrow.Author.Tests.{lt-ltb, le-ltb}
 use Rattle.prelude.proofs.Tests.{split}
-use Rattle.leb128.specs.Leb.{put, top}
+use Rattle.leb128.specs.Leb.{put, value, top}
 
 scale : (i j : ℕ) → j ≡ 7 + i → 2 ^ j ≡ 128 * 2 ^ i
 scale i j e = rw e (pow-add 2 7 i)
@@ -42,6 +45,29 @@ pub length-put-le : (k n : ℕ) → length (put k n) ≤ suc k
 unfolding put
 length-put-le zero n = omega arith
 length-put-le (suc k) n = split n 128 (λ small. rw lt-ltb (omega arith)) (λ large. rw le-ltb (omega (arith, length-put-le k (n / 128))))
+
+-- ---- the shortest form
+
+pub value-put : (k n : ℕ) → n < top k → value (put k n) ≡ n
+unfolding put value
+value-put zero n h = omega arith
+value-put (suc k) n h =
+    split n 128 (λ small. rw lt-ltb (omega arith)) (λ large. rw le-ltb (omega (arith, value-put k (n / 128) (omega arith))))
+
+pub put-shortest : (k : ℕ) (s : List ℕ) → 0 < length s → value s < top k → length (put k (value s)) ≤ length s
+unfolding put value
+put-shortest k [] pos h = absurd (omega arith)
+put-shortest zero (b ∷ s) pos h = omega arith
+put-shortest (suc k) (b ∷ s) pos h =
+    split (b % 128 + 128 * value s) 128
+    (λ small. rw lt-ltb (omega arith))
+    (λ large.
+    let high : (b % 128 + 128 * value s) / 128 ≡ value s = omega arith in
+    rw (le-ltb, high) (omega (arith, put-shortest k s (value-pos s (omega arith)) (omega arith))))
+  where
+    value-pos : (s : List ℕ) → 0 < value s → 0 < length s
+    value-pos [] v = v
+    value-pos (b ∷ s) v = omega arith
 
 -- ---- `put` byte by byte, the i-th byte first
 

@@ -16,7 +16,8 @@ use Rattle.prelude.proofs.Tests.{split}
 use Rattle.prelude.proofs.Readers.{measured-guard, measured-ok}
 use Rattle.error.specs.Error.{TRUNC}
 use Rattle.leb128.specs.Leb.{get}
-use Rattle.leb128.specs.Told.{told, last, tenth, raised, valueOf}
+use Rattle.leb128.specs.Told.{told}
+use Rattle.leb128.specs.Stages.{last, tenth, raised, valueOf}
 use Rattle.leb128.specs.declared.GetResult.{GetResult}
 use Rattle.leb128.specs.declared.GetResult.the-variants.{Ok, Err}
 use Rattle.leb128.proofs.Laws.{get-ends}

@@ -4,6 +4,7 @@
 --   get k least s    the number at the front of s and the bytes after it, where k bytes may follow the first; or the first fault:
 --                    TRUNC where the bytes end before a wanted one, RANGE of a last allowed byte over 1, OVERLONG of a last byte
 --                    below `least`, which is 0 at the first byte and 1 after it. `get 9 0` reads a number
+--   value s          the number that the bytes s of a number hold, in whatever form
 --   top k            what `put k` and `get k` reach: every number below it
 use Prim.Native.Nat.{ℕ, zero, suc, _+_, _*_, _/_, _%_, _^_}
 use mathlib.Core.List.{List, [], _∷_}
@@ -18,6 +19,10 @@ top k = 2 * 128 ^ k
 unfoldable pub put : ℕ → ℕ → List ℕ
 put zero n = n ∷ []
 put (suc k) n = let more = (n % 128 + 128) ∷ put k (n / 128) in pick (ltb n 128) (n ∷ []) more
+
+unfoldable pub value : List ℕ → ℕ
+value [] = 0
+value (b ∷ s) = b % 128 + 128 * value s
 
 -- the last byte of a number
 abbrev pub lastOf : ℕ → ℕ → List ℕ → Res ℕ ℕ

@@ -1,4 +1,6 @@
 -- the numbers: `put`, `get`
 pub mod Leb
--- what the code's answers mean
+-- what the answer of `get` means
 pub mod Told
+-- what the private functions make
+pub mod Stages

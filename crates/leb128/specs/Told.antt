@@ -1,36 +1,12 @@
--- What the answers of this crate's functions mean.
+-- What the answer of `get` means.
 --
---   told r            a `GetResult` as document 01 tells it: the number with the bytes left, or the error's number
---   last, tenth       what a last byte makes, with `left` bytes after it; and what a last allowed one makes
---   raised d a        the answer a with the seven bits d below its number
---   valueOf r         the number of an answer, or 0
---   leftOf r          the bytes left of an answer, or 0
-use Prim.Native.Nat.{ℕ, _+_, _*_}
-use lib.Dec.{ltb, leb}
-use Rattle.prelude.specs.Pick.{pick}
+--   told r    a `GetResult` as document 01 tells it: the number with the bytes left, or the error's number
+use Prim.Native.Nat.{ℕ}
 use Rattle.prelude.specs.Answer.{Answer, ok, error}
-use Rattle.error.specs.Error.{OVERLONG, RANGE, numberOf}
+use Rattle.error.specs.Error.{numberOf}
 use Rattle.leb128.specs.declared.GetResult.{GetResult}
 use Rattle.leb128.specs.declared.GetResult.the-variants.{Ok, Err}
 
 abbrev pub told : GetResult → Answer ℕ (ℕ × ℕ)
 told (Ok n left) = ok (n, left)
 told (Err k) = error (numberOf k)
-
-abbrev pub last : ℕ → ℕ → ℕ → Answer ℕ (ℕ × ℕ)
-last least b left = pick (leb least b) (ok (b, left)) (error OVERLONG)
-
-abbrev pub tenth : ℕ → ℕ → ℕ → Answer ℕ (ℕ × ℕ)
-tenth least b left = pick (ltb b 2) (last least b left) (error RANGE)
-
-abbrev pub raised : ℕ → Answer ℕ (ℕ × ℕ) → Answer ℕ (ℕ × ℕ)
-raised d (ok a) = ok (d + 128 * a .0, a .1)
-raised d (error e) = error e
-
-abbrev pub valueOf : GetResult → ℕ
-valueOf (Ok n left) = n
-valueOf (Err k) = 0
-
-abbrev pub leftOf : GetResult → ℕ
-leftOf (Ok n left) = left
-leftOf (Err k) = 0

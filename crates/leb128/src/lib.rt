@@ -7,7 +7,8 @@ ghost use Rattle.prelude.specs.Answer.{measured};
 ghost use Rattle.prelude.specs.Bytes.{store, stored};
 ghost use Rattle.prelude.proofs.Parts.{Put};
 ghost use Rattle.leb128.specs.Leb.{put, get};
-ghost use Rattle.leb128.specs.Told.{told, last, tenth, raised, valueOf};
+ghost use Rattle.leb128.specs.Told.{told};
+ghost use Rattle.leb128.specs.Stages.{last, tenth, raised, valueOf};
 
 // The answer of `get`.
 pub enum GetResult {

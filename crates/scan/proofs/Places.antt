@@ -1,15 +1,22 @@
--- Where a token that was scanned stands: behind its header and in its region.
-use mathlib.Core.Path.{_≡_, refl}
-use Prim.Native.Nat.{ℕ, suc, _-_, _≤_, _<_}
+-- Where a token that was scanned stands.
+--
+-- In order: behind its header and in its region (`scan-within`); what was emitted at an offset is read there (`scanAt-emit`), and what is
+-- read at an offset is what would be emitted there, its body the bytes from `first` to `end` (`emit-scanAt`).
+use mathlib.Core.Path.{_≡_, refl, ap, _∙_}
+use Prim.Native.Nat.{ℕ, suc, _+_, _-_, _≤_, _<_}
 use mathlib.Core.Bool.{Bool}
-use mathlib.Core.List.{List}
+use mathlib.Core.List.{List, _++_}
 use native.Mathlib.Omega.{arith}
-use lib.ListN.{length, drop, length-drop}
+use lib.ListN.{length, take, drop, length-drop, length-append}
+use lib.Seq.{take-append-seam, drop-append-seam, drop-drop}
 use Rattle.prelude.specs.Answer.{ok, Res, got, bad}
+use Rattle.prelude.specs.Bytes.{Bytes}
+use Rattle.prelude.proofs.Parts.{bytes-drop}
 use Rattle.error.specs.Error.{Fault}
 use Rattle.kind.specs.Kind.{rule, pending}
-use Rattle.token.specs.Token.{Token}
+use Rattle.token.specs.Token.{Token, emit, Fits}
 use Rattle.token.specs.Scan.{scan}
+use Rattle.token.proofs.Laws.{length-emit, drop-emit, scan-emit, emit-scan}
 use Rattle.token.proofs.Ends.{Left, scan-left}
 use Rattle.scan.specs.Told.{seen, scanAt}
 use Rattle.scan.specs.declared.Head.{Head}
@@ -20,6 +27,10 @@ pub record Within (s : List ℕ) (at : ℕ) (h : Head) : Type 0 where
   pub body : h .first ≤ h .end
   pub end : h .end ≤ length s
   pub items : h .items ≤ suc (length s - h .end)
+
+seen-bad : {X : Type 0} (len : ℕ) (h : Head) (f : Fault) → ok h ≡ seen len (bad f) → X
+unfolding seen
+seen-bad len h f e = let z : _≡_ {A = ℕ} 0 1 = cc in absurd (omega arith)
 
 within-left : (s : List ℕ) (at : ℕ) (h : Head) (r : Res Fault Token) → ((t : Token) (rest : List ℕ) → r ≡ got t rest → Left (drop at s) t rest)
     → ok h ≡ seen (length s) r → Within s at h
@@ -40,8 +51,65 @@ within-left s at h (got t rest) left e =
       end = omega arith;
       items = omega (arith, l .behind, l .count);
     })
-within-left s at h (bad f) left e = let z : _≡_ {A = ℕ} 0 1 = cc in absurd (omega arith)
+within-left s at h (bad f) left e = seen-bad (length s) h f e
 
 pub scan-within : (inner : Bool) (s : List ℕ) (at : ℕ) (h : Head) → ok h ≡ scanAt inner s at → Within s at h
 unfolding scanAt
 scan-within inner s at h e = within-left s at h (scan inner at (drop at s)) (scan-left inner at (drop at s)) e
+
+-- ---- by what is emitted
+
+-- the head of a token at `at`
+abbrev pub headAt : ℕ → Token → Head
+headAt at t = record {
+  kind = t .kind;
+  n = t .n;
+  items = pending (rule (t .kind)) (t .n) (t .args);
+  first = at + length (emit t) - length (t .body);
+  end = at + length (emit t);
+}
+
+-- the head of a token at `at`, by what is left behind it
+head-seen : (at len : ℕ) (t : Token) (rest : List ℕ) → len ≡ at + length (emit t) + length rest → seen len (got t rest) ≡ ok (headAt at t)
+unfolding seen
+head-seen at len t rest h =
+    let first : len - length rest - length (t .body) ≡ at + length (emit t) - length (t .body) = omega arith in
+    let end : len - length rest ≡ at + length (emit t) = omega arith in
+    λ i. ok (record { kind = t .kind; n = t .n; items = pending (rule (t .kind)) (t .n) (t .args); first = first i; end = end i })
+
+pub scanAt-emit : (inner : Bool) (p : List ℕ) (t : Token) (s : List ℕ) → Fits inner t s → scanAt inner (p ++ (emit t ++ s)) (length p) ≡ ok (headAt (length p) t)
+unfolding scanAt
+scanAt-emit inner p t s f =
+    rw (drop-append-seam p (emit t ++ s), scan-emit inner (length p) t s f)
+    (head-seen (length p) (length (p ++ (emit t ++ s))) t s (simp length-append (omega arith)))
+
+-- what a head that was read at `at` tells
+pub record Read (inner : Bool) (s : List ℕ) (at : ℕ) (h : Head) : Type 0 where
+  pub token : Token
+  pub rest : List ℕ
+  pub same : drop at s ≡ emit token ++ rest
+  pub fits : Fits inner token rest
+  pub head : h ≡ headAt at token
+  pub body : take (h .end - h .first) (drop (h .first) s) ≡ token .body
+
+body-read : (s rest : List ℕ) (at : ℕ) (t : Token) → drop at s ≡ emit t ++ rest
+    → take (headAt at t .end - headAt at t .first) (drop (headAt at t .first) s) ≡ t .body
+body-read s rest at t same =
+    let long = length-emit (t .kind) (t .n) (t .args) (t .body) in
+    let own : headAt at t .end - headAt at t .first ≡ length (t .body) = omega arith in
+    let start : headAt at t .first ≡ at + (length (emit t) - length (t .body)) = omega arith in
+    rw (own, start, ← drop-drop (length (emit t) - length (t .body)) at s, same, drop-emit t rest) (take-append-seam (t .body) rest)
+
+pub emit-scanAt : (inner : Bool) (s : List ℕ) (at : ℕ) (h : Head) → Bytes s → ok h ≡ scanAt inner s at → Read inner s at h
+unfolding scanAt
+emit-scanAt inner s at h b e = by-cases (scan inner at (drop at s)) refl e
+  where
+    by-cases : (r : Res Fault Token) → scan inner at (drop at s) ≡ r → ok h ≡ seen (length s) r → Read inner s at h
+    by-cases (got t rest) q e′ =
+        let r = emit-scan inner at (drop at s) t rest (bytes-drop at s b) q in
+        let sum = length-append (emit t) rest in
+        let pos = length-emit (t .kind) (t .n) (t .args) (t .body) in
+        let all : length s ≡ at + length (emit t) + length rest = omega (arith, ap length (r .same), length-drop at s) in
+        let head : h ≡ headAt at t = cc (head-seen at (length s) t rest all) in
+        record { token = t; rest = rest; same = r .same; fits = r .fits; head = head; body = rw head (body-read s rest at t (r .same)) }
+    by-cases (bad f) q e′ = seen-bad _ h f e′

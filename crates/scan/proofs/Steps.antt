@@ -18,14 +18,15 @@ use Rattle.prelude.proofs.Readers.{measured-ok}
 use Rattle.error.specs.Error.{Fault, fault, TRUNC, RESERVED, RANGE, NESTED}
 use Rattle.leb128.specs.Leb.{get}
 use Rattle.leb128.specs.Told as numbers
-use Rattle.leb128.specs.Told.{leftOf}
+use Rattle.leb128.specs.Stages.{leftOf}
 use Rattle.leb128.specs.declared.GetResult.{GetResult}
 use Rattle.leb128.specs.declared.GetResult.the-variants.{Ok, Err}
 use Rattle.kind.specs.Kind.{rule, size, counted, pending, immediate}
 use Rattle.kind.specs.declared.Rule.{Rule}
 use Rattle.token.specs.Token.{Token}
 use Rattle.token.specs.Scan.{getIf, number, body, scanKind, scan}
-use Rattle.scan.specs.Told.{seen, scanAt, fitted, ranged, andThen}
+use Rattle.scan.specs.Told.{seen, scanAt}
+use Rattle.scan.specs.Stages.{fitted, ranged, andThen}
 use Rattle.scan.specs.declared.Head.{Head}
 use Rattle.token.proofs.Ends.{End, end-drop, getIf-end}
 

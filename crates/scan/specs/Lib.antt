@@ -1,2 +1,4 @@
--- what the code's answers mean: `scanAt`
+-- what the answer of `scan` means: `scanAt`
 pub mod Told
+-- what the private functions make
+pub mod Stages

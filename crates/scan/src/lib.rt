@@ -9,11 +9,12 @@ ghost use lib.Dec.{leb};
 ghost use lib.ListN.{length};
 ghost use Rattle.prelude.specs.Answer.{measured};
 ghost use Rattle.leb128.specs.Told as numbers;
-ghost use Rattle.leb128.specs.Told.{leftOf};
+ghost use Rattle.leb128.specs.Stages.{leftOf};
 ghost use Rattle.kind.specs.Kind.{size, counted};
 ghost use Rattle.kind.proofs.Laws.{Row};
 ghost use Rattle.token.specs.Scan.{getIf};
-ghost use Rattle.scan.specs.Told.{told, scanAt, fitted, ranged, andThen};
+ghost use Rattle.scan.specs.Told.{told, scanAt};
+ghost use Rattle.scan.specs.Stages.{fitted, ranged, andThen};
 
 // A token by its offsets in a region.
 pub struct Head {
@@ -162,7 +163,7 @@ fn numbered(
     }
 }
 
-// Reads the token at the offset `at` of a region, as an item where `inner` is true.
+// Reads the token at the offset `at` of a region, as an item where `inner` is true. At the region's end and past it: TRUNC, placed at `at`.
 pub fn scan(region: &[u8], at: usize, inner: bool) -> ScanResult
     ensures { λ r. ⌜ told r ≡ scanAt inner (now (region .entry)) at ⌝ }
 {

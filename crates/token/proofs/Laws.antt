@@ -1,8 +1,8 @@
 -- `scan` and `emit`, one after the other: each law is one proof over all kinds.
 --
 -- In order: a number that may be there; the body; the bytes of a token; what is emitted is scanned back, whatever follows (`scan-emit`); what is scanned is,
--- in shortest form, what would be emitted (`emit-scan`).
-use mathlib.Core.Path.{_≡_, refl, sym, ap, _∙_}
+-- in shortest form, what would be emitted (`emit-scan`); a fault is told at the header (`scan-place`).
+use mathlib.Core.Path.{_≡_, refl, sym, ap, _∙_, subst}
 use Prim.Native.Nat.{ℕ, zero, suc, _+_, _-_, _*_, _/_, _%_, _^_, _≤_, _<_, min, zero-le}
 use mathlib.Core.Bool.{Bool, true, false, not, _&&_, _||_, true≢false}
 use mathlib.Core.List.{List, [], _∷_, _++_, append-assoc}
@@ -12,11 +12,12 @@ use lib.Seq.{take-at, drop-at, length-take-le}
 use lib.Dec.{leb, ltb}
 use borrow.Author.Tests.{lt-ltb, le-leb, lt-leb, leb-true}
 use Rattle.prelude.specs.Pick.{pick}
-use Rattle.prelude.specs.Answer.{Res, got, bad, guard, orError, _>>_, _>>=_}
+use Rattle.prelude.specs.Answer.{Res, got, bad, guard, then, orError, Need, _>>_, _>>=_}
 use Rattle.prelude.specs.Bytes.{Bytes}
 use Rattle.prelude.proofs.Tests.{split, facts}
 use Rattle.prelude.proofs.Readers.{guard-by, orError-by, need-by, bind-by, bad-got}
 use Rattle.prelude.proofs.Parts.{bytes-after}
+use Rattle.error.specs.Error.{Fault, fault}
 use Rattle.leb128.specs.Leb.{put, get}
 use Rattle.leb128.proofs.Laws.{get-put, put-get}
 use Rattle.kind.specs.Kind.{rule, size, counted, immediate}
@@ -88,16 +89,34 @@ pub length-emit : (k n a : ℕ) (b : List ℕ)
 unfolding emit
 length-emit k n a b = simp length-append (omega arith)
 
+-- the header with its numbers
+abbrev front : Token → List ℕ
+front t = (t .kind * 16 + min (t .n) 15) ∷ (putIf (leb 15 (t .n)) (t .n - 15) ++ putIf (rule (t .kind) .args) (t .args))
+
+emit-body : (t : Token) → emit t ≡ front t ++ t .body
+unfolding emit
+emit-body t = simp append-assoc
+
+drop-end : (e p b s : List ℕ) → e ≡ p ++ b → drop (length e - length b) (e ++ s) ≡ b ++ s
+drop-end e p b s same =
+    let long : length p ≡ length e - length b = omega (arith, ap length same, length-append p b) in
+    ap (λ x. drop (length e - length b) (x ++ s)) same ∙ rw append-assoc (drop-at p (b ++ s) _ long)
+
+-- the body is the end of a token's bytes
+pub drop-emit : (t : Token) (s : List ℕ) → drop (length (emit t) - length (t .body)) (emit t ++ s) ≡ t .body ++ s
+drop-emit t s = drop-end (emit t) (front t) (t .body) s (emit-body t)
+
 -- ---- what is emitted is scanned back
 
-scanKind-emit : (inner : Bool) (at : ℕ) (r : Rule) (t : Token) (s : List ℕ) → r .most < 2 ^ 64 → Fits inner r t s
-    → scanKind inner at (t .kind) r (min (t .n) 15) (putIf (leb 15 (t .n)) (t .n - 15) ++ (putIf (r .args) (t .args) ++ t .body) ++ s) ≡ got t s
-unfolding scanKind _>>_ _>>=_
-scanKind-emit inner at r t s h f =
+pub scan-emit : (inner : Bool) (at : ℕ) (t : Token) (s : List ℕ) → Fits inner t s → scan inner at (emit t ++ s) ≡ got t s
+unfolding scan scanKind emit _>>_ _>>=_
+scan-emit inner at t s f =
+    let kind : (t .kind * 16 + min (t .n) 15) / 16 ≡ t .kind = omega arith in
+    let low : (t .kind * 16 + min (t .n) 15) % 16 ≡ min (t .n) 15 = omega arith in
     let whole : min (t .n) 15 + (t .n - 15) ≡ t .n = omega arith in
-    let fits : t .n - 15 < 2 ^ 64 = omega arith in
+    let fits : t .n - 15 < 2 ^ 64 = omega (arith, most-fits (t .kind)) in
     let none : leb 15 (t .n) ≡ false → t .n - 15 ≡ 0 = λ e. omega facts in
-    simp (
+    rw (kind, low) (simp (
       append-assoc,
       low-number,
       lt-ltb,
@@ -110,24 +129,17 @@ scanKind-emit inner at r t s h f =
       f .room,
       f .allowed .low,
       f .allowed .most,
-      f .allowed .one,
-      f .allowed .fits,
+      f .allowed .alone,
+      f .allowed .count,
       f .allowed .sized,
-    )
-
-pub scan-emit : (inner : Bool) (at : ℕ) (t : Token) (s : List ℕ) → Fits inner (rule (t .kind)) t s → scan inner at (emit t ++ s) ≡ got t s
-unfolding scan emit
-scan-emit inner at t s f =
-    let k : (t .kind * 16 + min (t .n) 15) / 16 ≡ t .kind = omega arith in
-    let l : (t .kind * 16 + min (t .n) 15) % 16 ≡ min (t .n) 15 = omega arith in
-    rw (k, l) (scanKind-emit inner at (rule (t .kind)) t s (most-fits (t .kind)) f)
+    ))
 
 -- ---- what is scanned would be emitted
 
 -- what a token that was scanned tells of the bytes s and the rest
 pub record Scanned (inner : Bool) (s : List ℕ) (t : Token) (rest : List ℕ) : Type 0 where
   pub same : s ≡ emit t ++ rest
-  pub fits : Fits inner (rule (t .kind)) t rest
+  pub fits : Fits inner t rest
 
 pub emit-scan : (inner : Bool) (at : ℕ) (s : List ℕ) (t : Token) (rest : List ℕ) → Bytes s → scan inner at s ≡ got t rest → Scanned inner s t rest
 unfolding scan scanKind emit
@@ -146,8 +158,51 @@ emit-scan inner at (h ∷ s) t rest b e =
     rw et (record {
       same = simp (append-assoc, i .wanted, i .behind) (cc);
       fits = record {
-        allowed = record { low = omega (facts, i .nibble); most = omega facts; one = one; fits = a<; sized = sized };
+        allowed = record { low = omega (facts, i .nibble); most = omega facts; alone = one; count = a<; sized = sized };
         flat = flat;
         room = room;
       };
     })))))))))
+
+-- ---- where a fault is told
+
+-- a fault of r is told at the place p
+abbrev Placed : {A : Type 0} → ℕ → Res Fault A → Type 0
+Placed p (got a s) = Unit {0}
+Placed p (bad e) = e .place ≡ p
+
+placed-guard : {A : Type 0} (p : ℕ) (t : Bool) (e : Fault) (r : Res Fault A) → e .place ≡ p → Placed p r → Placed p (guard t e r)
+unfolding guard
+placed-guard p true e r q h = h
+placed-guard p false e r q h = q
+
+placed-need : {A : Type 0} (p : ℕ) (c : Need Fault) (r : List ℕ → Res Fault A) (s : List ℕ) → c .else .place ≡ p → Placed p (r s) → Placed p ((c >> r) s)
+unfolding _>>_
+placed-need p c r s q h = placed-guard p (c .test) (c .else) (r s) q h
+
+placed-bind : {A B : Type 0} (p : ℕ) (r : List ℕ → Res Fault A) (f : A → List ℕ → Res Fault B) (s : List ℕ) → Placed p (r s)
+    → ((a : A) (m : List ℕ) → Placed p (f a m)) → Placed p ((r >>= f) s)
+unfolding _>>=_ then
+placed-bind {A} {B} p r f s h g = by-cases (r s) h
+  where
+    by-cases : (x : Res Fault A) → Placed p x → Placed p (then x f)
+    by-cases (got a m) h = g a m
+    by-cases (bad e) h = h
+
+placed-number : (at : ℕ) (w : Bool) (s : List ℕ) → Placed at (number at w s)
+unfolding number orError
+placed-number at w s = by-cases (getIf w s)
+  where
+    by-cases : (x : Res ℕ ℕ) → Placed at (orError (λ f. fault f at) x)
+    by-cases (got a m) = tt
+    by-cases (bad e) = refl
+
+scan-placed : (inner : Bool) (at : ℕ) (s : List ℕ) → Placed at (scan inner at s)
+unfolding scan scanKind body
+scan-placed inner at [] = refl
+scan-placed inner at (h ∷ s) =
+    placed-need at _ _ s refl (placed-need at _ _ s refl (placed-bind at _ _ s (placed-number at _ s)
+    (λ v m. placed-need at _ _ m refl (placed-bind at _ _ m (placed-number at _ m) (λ a m′. placed-guard at _ _ _ refl tt)))))
+
+pub scan-place : (inner : Bool) (at : ℕ) (s : List ℕ) (f : Fault) → scan inner at s ≡ bad f → f .place ≡ at
+scan-place inner at s f e = subst (Placed at) e (scan-placed inner at s)

@@ -2,3 +2,5 @@
 pub mod Laws
 -- what `scan` leaves of the bytes
 pub mod Ends
+-- the definitions on examples
+mod Samples

@@ -4,8 +4,10 @@
 --   putIf w n         the bytes of a number n that is there where w is true
 --   emit t            the bytes of t: header, the number behind it where n is 15 or more, the argument count where the kind has one, body
 --   emitInto t d      the bytes of t stored at the front of d where they fit, and how many; of a kind over 15 nothing is
---   Allowed r t       the rule r of t's kind allows it
---   Fits inner r t s  t may stand before the bytes s, as an item where `inner` is true
+--   Allowed t         t's kind allows it: the low nibble is in use, n is within its bound, an argument count stands only where the kind
+--                     has one and fits 64 bits, and the body is as long as n says
+--   Fits inner t s    t may stand before the bytes s: it is allowed, an immediate where `inner` is true, and its counted items have a
+--                     byte each in s
 use Prim.Native.Nat.{ℕ, _+_, _-_, _*_, _^_, _≤_, _<_, min}
 use mathlib.Core.Path.{_≡_}
 use mathlib.Core.Bool.{Bool, true, false, not, _&&_}
@@ -16,7 +18,6 @@ use Rattle.prelude.specs.Pick.{pick}
 use Rattle.prelude.specs.Bytes.{Stored, stored, store}
 use Rattle.leb128.specs.Leb.{put}
 use Rattle.kind.specs.Kind.{rule, size, counted, immediate}
-use Rattle.kind.specs.declared.Rule.{Rule}
 
 pub record Token : Type 0 where
   pub kind : ℕ
@@ -38,14 +39,14 @@ emit t =
 unfoldable pub emitInto : Token → List ℕ → Stored
 emitInto t d = pick (ltb (t .kind) 16) (store (emit t) d) (stored 0 d)
 
-pub record Allowed (r : Rule) (t : Token) : Type 0 where
-  pub low : min (t .n) 15 < r .lows
-  pub most : t .n ≤ r .most
-  pub one : r .args ≡ false → t .args ≡ 0
-  pub fits : t .args < 2 ^ 64
-  pub sized : length (t .body) ≡ size r (t .n)
+pub record Allowed (t : Token) : Type 0 where
+  pub low : min (t .n) 15 < rule (t .kind) .lows
+  pub most : t .n ≤ rule (t .kind) .most
+  pub alone : rule (t .kind) .args ≡ false → t .args ≡ 0
+  pub count : t .args < 2 ^ 64
+  pub sized : length (t .body) ≡ size (rule (t .kind)) (t .n)
 
-pub record Fits (inner : Bool) (r : Rule) (t : Token) (s : List ℕ) : Type 0 where
-  pub allowed : Allowed r t
-  pub flat : not (inner && not (immediate r)) ≡ true
-  pub room : counted r (t .n) (t .args) ≤ length s
+pub record Fits (inner : Bool) (t : Token) (s : List ℕ) : Type 0 where
+  pub allowed : Allowed t
+  pub flat : not (inner && not (immediate (rule (t .kind)))) ≡ true
+  pub room : counted (rule (t .kind)) (t .n) (t .args) ≤ length s

@@ -6,10 +6,10 @@
 --   Text s          s is a text: no bytes; or bytes that match a form, and then a text
 --   within r b      whether b is in r
 --   lead fs b       the ranges due after b where it begins a character: the others of the first form of fs whose first range
---                   has b; none where no first range has it
---   next due b      the ranges due after b, where `due` were before it; none where b cannot stand there
---   complete due    whether no range is due
---   textFrom due s  whether s fills the ranges due, and then is a text; false where `due` is none
+--                   has b; `none`, a refusal, where no first range has it
+--   next due b      the ranges due after b, where `due` were before it; a refusal where b cannot stand there, or before it
+--   complete due    whether there was no refusal and nothing is due
+--   textFrom due s  whether s fills the ranges due, and then is a text; false after a refusal
 --   isText s        whether s is a text
 use Prim.Native.Nat.{ℕ, _≤_}
 use mathlib.Core.Bool.{Bool, true, false, _&&_}

@@ -1,0 +1,16 @@
+-- The table's column "immediate" and the reserved kinds, as document 01 has them.
+use mathlib.Core.Path.{_≡_, refl}
+use mathlib.Core.Bool.{true, false}
+use mathlib.Core.List.{List, [], _∷_, map}
+use lib.Dec.{eqb}
+use Rattle.kind.specs.Kind.{table, immediate}
+
+-- yes for 0 to 5, 10, 14 and 15
+immediates : map immediate table
+    ≡ true ∷ true ∷ true ∷ true ∷ true ∷ true ∷ false ∷ false ∷ false ∷ false ∷ true ∷ false ∷ false ∷ false ∷ true ∷ true ∷ []
+immediates = refl
+
+-- 9 and 13
+reserves : map (λ r. eqb (r .lows) 0) table
+    ≡ false ∷ false ∷ false ∷ false ∷ false ∷ false ∷ false ∷ false ∷ false ∷ true ∷ false ∷ false ∷ false ∷ true ∷ false ∷ false ∷ []
+reserves = refl

@@ -1,0 +1,31 @@
+-- What this crate's private functions make. No public contract cites this file.
+--
+--   last, tenth       what a last byte makes, with `left` bytes after it; and what a last allowed one makes
+--   raised d a        the answer a with the seven bits d below its number
+--   valueOf r         the number of an answer, or 0
+--   leftOf r          the bytes left of an answer, or 0
+use Prim.Native.Nat.{ℕ, _+_, _*_}
+use lib.Dec.{ltb, leb}
+use Rattle.prelude.specs.Pick.{pick}
+use Rattle.prelude.specs.Answer.{Answer, ok, error}
+use Rattle.error.specs.Error.{OVERLONG, RANGE}
+use Rattle.leb128.specs.declared.GetResult.{GetResult}
+use Rattle.leb128.specs.declared.GetResult.the-variants.{Ok, Err}
+
+abbrev pub last : ℕ → ℕ → ℕ → Answer ℕ (ℕ × ℕ)
+last least b left = pick (leb least b) (ok (b, left)) (error OVERLONG)
+
+abbrev pub tenth : ℕ → ℕ → ℕ → Answer ℕ (ℕ × ℕ)
+tenth least b left = pick (ltb b 2) (last least b left) (error RANGE)
+
+abbrev pub raised : ℕ → Answer ℕ (ℕ × ℕ) → Answer ℕ (ℕ × ℕ)
+raised d (ok a) = ok (d + 128 * a .0, a .1)
+raised d (error e) = error e
+
+abbrev pub valueOf : GetResult → ℕ
+valueOf (Ok n left) = n
+valueOf (Err k) = 0
+
+abbrev pub leftOf : GetResult → ℕ
+leftOf (Ok n left) = left
+leftOf (Err k) = 0

@@ -1,0 +1,32 @@
+-- What this crate's private functions make. No public contract cites this file.
+--
+--   fitted .. left       behind its numbers, with `left` bytes left: the head, or TRUNC
+--   ranged .. v left     behind the first number v, with `left` bytes left: RANGE of n, the second number, and so on
+--   andThen at f a       what f makes of a number and the bytes left; the number's error, placed at `at`
+use Prim.Native.Nat.{ℕ, _+_, _-_}
+use mathlib.Core.List.{List}
+use lib.Dec.{leb}
+use lib.ListN.{length, drop}
+use Rattle.prelude.specs.Pick.{pick}
+use Rattle.prelude.specs.Answer.{Answer, ok, error, measured}
+use Rattle.error.specs.Error.{Fault, fault, TRUNC, RANGE}
+use Rattle.kind.specs.Kind.{size, counted, pending}
+use Rattle.kind.specs.declared.Rule.{Rule}
+use Rattle.token.specs.Scan.{getIf}
+use Rattle.scan.specs.declared.Head.{Head}
+
+abbrev pub fitted : ℕ → ℕ → ℕ → Rule → ℕ → ℕ → ℕ → Answer Fault Head
+fitted len at k r n a left =
+    pick (leb (size r n + counted r n a) left)
+    (ok (record { kind = k; n = n; items = pending r n a; first = len - left; end = len - left + size r n }))
+    (error (fault TRUNC at))
+
+abbrev pub andThen : ℕ → (ℕ → ℕ → Answer Fault Head) → Answer ℕ (ℕ × ℕ) → Answer Fault Head
+andThen at f (ok a) = f (a .0) (a .1)
+andThen at f (error e) = error (fault e at)
+
+abbrev pub ranged : List ℕ → ℕ → ℕ → Rule → ℕ → ℕ → ℕ → Answer Fault Head
+ranged s at k r low v left =
+    pick (leb (low + v) (r .most))
+    (andThen at (fitted (length s) at k r (low + v)) (measured (getIf (r .args) (drop (length s - left) s))))
+    (error (fault RANGE at))
