@@ -33,7 +33,7 @@ bytes-after (x ∷ p) s b = bytes-after p s (b .1)
 
 -- ---- stores
 
-pub sets-append : (p q d : List ℕ) (i : ℕ) → sets d i (p ++ q) ≡ sets (sets d i p) (i + length p) q
+sets-append : (p q d : List ℕ) (i : ℕ) → sets d i (p ++ q) ≡ sets (sets d i p) (i + length p) q
 sets-append [] q d i = rw add-zero
 sets-append (a ∷ p) q d i = sets-append p q (set d i a) (suc i) ∙ simp (add-suc, suc-add)
 
@@ -63,7 +63,7 @@ pub put-same : (p d e : List ℕ) (r : ℕ) → Put p d e r → length e ≡ len
 put-same p d e r put = rw (put .bytes) (length-sets d 0 p)
 
 -- p stored at the front of the part from w on
-pub put-part : (p d e : List ℕ) (w r : ℕ) → w ≤ length d → Put p (take (length d - w) (drop w d)) e r → putMid w (length d - w) d e ≡ sets d w p
+put-part : (p d e : List ℕ) (w r : ℕ) → w ≤ length d → Put p (take (length d - w) (drop w d)) e r → putMid w (length d - w) d e ≡ sets d w p
 put-part p d e w r h put = rw (put .bytes) (sets-part p d w h)
 
 -- p stored in d from w on is e; r is the offset after it

@@ -53,8 +53,3 @@ module _ {E A : Type 0} where
       let p : _≡_ {A = A × ℕ} (a, left) (b, length s) = cc in
       k s (ap (λ (x : A × ℕ). got (x .0) s) (sym p)) (ap (λ (x : A × ℕ). x .1) p)
   measured-ok (bad f) e k = let z : _≡_ {A = ℕ} 0 1 = cc in absurd (omega arith)
-
-  pub measured-error : {e : E} (r : Res E A) → error e ≡ measured r → r ≡ bad e
-  unfolding measured
-  measured-error (got b s) e = let z : _≡_ {A = ℕ} 0 1 = cc in absurd (omega arith)
-  measured-error (bad f) e = cc
