@@ -8,7 +8,7 @@ use mathlib.Core.List.{List}
 use Prim.Native.Nat.{ℕ}
 use native.Mathlib.Omega.{arith}
 use lib.ListN.{length}
-use Rattle.prelude.specs.Answer.{Answer, Res, got, bad, ok, error, guard, then, orError, measured, Need, _>>_, _>>=_}
+use Rattle.prelude.specs.Answer.{Answer, bind, Res, got, bad, ok, error, guard, then, orError, measured, Need, _>>_, _>>=_}
 use Rattle.prelude.specs.Pick.{pick}
 
 pub bad-got : {E A X : Type 0} {a : A} {s : List ℕ} {e : E} → _≡_ {A = Res E A} (bad e) (got a s) → X
@@ -53,3 +53,14 @@ module _ {E A : Type 0} where
       let p : _≡_ {A = A × ℕ} (a, left) (b, length s) = cc in
       k s (ap (λ (x : A × ℕ). got (x .0) s) (sym p)) (ap (λ (x : A × ℕ). x .1) p)
   measured-ok (bad f) e k = let z : _≡_ {A = ℕ} 0 1 = cc in absurd (omega arith)
+
+-- ---- `bind`, by what a call answered
+
+module _ {E A B : Type 0} (f : A → Answer E B) where
+  pub bind-ok : {a : A} {r : Answer E A} → ok a ≡ r → bind r f ≡ f a
+  unfolding bind
+  bind-ok e = rw (← e)
+
+  pub bind-error : {e : E} {r : Answer E A} → error e ≡ r → bind r f ≡ error e
+  unfolding bind
+  bind-error q = rw (← q)

@@ -1,6 +1,7 @@
 -- What a call answers, and what a reader of bytes answers.
 --
 --   Answer E A         a value of A, or an error of E
+--   bind a f           what f makes of a's value; a's error where it is one
 --   Res E A            a value of A with the bytes after it, or an error of E
 --   guard t e r        r where the test t passes, and else the error e
 --   then r f           what f makes of r's value and the bytes after it; r's error where it is one
@@ -15,6 +16,10 @@ use lib.ListN.{length}
 pub data Answer (E A : Type 0) : Type 0 where
   ok : A → Answer E A
   error : E → Answer E A
+
+unfoldable pub bind : {E A B : Type 0} → Answer E A → (A → Answer E B) → Answer E B
+bind (ok a) f = f a
+bind (error e) f = error e
 
 pub data Res (E A : Type 0) : Type 0 where
   got : A → List ℕ → Res E A

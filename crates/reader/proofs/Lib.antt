@@ -1,0 +1,2 @@
+-- laws of the queries
+pub mod Laws

@@ -1,0 +1,19 @@
+-- `reader::look` meets its contract.
+use mathlib.Core.Path.{sym, _∙_}
+use borrow.Author.Needs.{needs}
+use Rattle.prelude.proofs.Readers.{bind-ok, bind-error}
+use Rattle.reader.specs.Region.{peek}
+use Rattle.reader.proofs.look.Statement.{statement}
+use Rattle.reader.proofs.look.Tie as tie
+
+pub look-spec : {M : Type 1} → statement M
+unfolding peek
+look-spec =
+    tie.close
+    (tie.spec
+    (λ c κs. search needs)
+    (λ c. search needs)
+    (λ c κs. search needs)
+    (λ c. search needs)
+    (λ c. let t = c .before .before in c .aimed .ensures ∙ sym (bind-ok _ (rw (t .h .given .1) at (t .before .before .scan .ensures))))
+    (λ c. let t = c .before in sym (bind-error _ (rw (t .e .given .1) at (t .before .before .scan .ensures)))))

@@ -1,0 +1,19 @@
+-- `reader::skip_in` meets its contract.
+use mathlib.Core.Path.{sym, _∙_}
+use borrow.Author.Needs.{needs}
+use Rattle.prelude.proofs.Readers.{bind-ok, bind-error}
+use Rattle.reader.specs.Query.{skipIn}
+use Rattle.reader.proofs.skip_in.Statement.{statement}
+use Rattle.reader.proofs.skip_in.Tie as tie
+
+pub skip-in-spec : {M : Type 1} → statement M
+unfolding skipIn
+skip-in-spec =
+    tie.close
+    (tie.spec
+    (λ c κs. search needs)
+    (λ c. search needs)
+    (λ c κs. search needs)
+    (λ c. search needs)
+    (λ c. let t = c .before .before in c .pass .ensures ∙ sym (bind-ok _ (rw (t .h .given .1) at (t .before .before .look .ensures))))
+    (λ c. let t = c .before in sym (bind-error _ (rw (t .e .given .1) at (t .before .before .look .ensures)))))

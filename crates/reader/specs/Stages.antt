@@ -1,0 +1,35 @@
+-- What this crate's private functions make. No public contract cites this file.
+--
+--   pairOf s key q    one pair of a map, from q on: where the next one starts, or the answer
+use Prim.Native.Nat.{ℕ}
+use mathlib.Core.Bool.{true}
+use mathlib.Core.List.{List}
+use lib.ListN.{length}
+use Rattle.prelude.specs.Pick.{pick}
+use Rattle.prelude.specs.Answer.{Answer, ok, error}
+use Rattle.prelude.specs.Loop.{Turn, go, stop}
+use Rattle.error.specs.Error as errors
+use Rattle.error.specs.Error.{Fault}
+use Rattle.scan.specs.declared.Head.{Head}
+use Rattle.reader.specs.Region.{peek}
+use Rattle.reader.specs.Query.{Met, spot, trail, matches, startsIn}
+use Rattle.reader.specs.Told.{toldOffset}
+use Rattle.reader.specs.declared.PairResult.{PairResult}
+use Rattle.reader.specs.declared.PairResult.the-variants.{Next, Stop}
+
+abbrev pub orStop : {A S R : Type 0} → Answer Fault A → (A → Turn S (Answer Fault R)) → Turn S (Answer Fault R)
+orStop (ok a) f = f a
+orStop (error e) f = stop (error e)
+
+abbrev pub valueOf : List ℕ → ℕ → Turn ℕ (Answer Fault ℕ)
+valueOf s end = orStop (peek true s end) (λ v. go (v .end))
+
+abbrev pub keyOf : List ℕ → List ℕ → ℕ → Met → Turn ℕ (Answer Fault ℕ)
+keyOf s key end m = pick (matches s key m) (stop (startsIn (length s) end)) (valueOf s end)
+
+abbrev pub pairOf : List ℕ → List ℕ → ℕ → Turn ℕ (Answer Fault ℕ)
+pairOf s key q = orStop (peek true s q) (λ h. orStop (trail s (spot q 0)) (keyOf s key (h .end)))
+
+abbrev pub toldPair : PairResult → Turn ℕ (Answer Fault ℕ)
+toldPair (Next q) = go q
+toldPair (Stop r) = stop (toldOffset r)

@@ -1,0 +1,245 @@
+// The queries at an offset, on files that nobody checked (document 01, "Questions at an offset").
+use error::Error;
+use error::ErrorKind;
+use scan::Head;
+use scan::ScanResult;
+ghost use mathlib.Core.Path.{_≡_};
+ghost use Prim.Native.Nat.{_≤_, _<_};
+ghost use lib.ListN.{length};
+ghost use Rattle.prelude.specs.Pick.{pick};
+ghost use Rattle.prelude.specs.Answer.{ok, error, bind};
+ghost use Rattle.error.specs.Error.{fault, BAD_TARGET};
+ghost use Rattle.scan.specs.Told as scans;
+ghost use Rattle.reader.specs.Region.{gate, below, peek, walk};
+ghost use Rattle.reader.specs.Query.{skipIn, skipOf, itemIn, itemOn, itemOf, startsIn, spot, trail, followIn, followOf};
+ghost use Rattle.reader.specs.Told.{toldOffset, toldTrail, toldFollow};
+
+// The answer of `skip`, `item` and `lookup`.
+pub enum OffsetResult {
+    Ok(usize),
+    Err(Error),
+}
+
+// The answer of `follow`.
+pub enum FollowResult {
+    // The offset of the value that is no pointer, and the pointers met.
+    Ok { at: usize, hops: usize },
+    Err(Error),
+}
+
+// Where following came to, with the head there.
+pub enum TrailResult {
+    Ok { at: usize, hops: usize, head: Head },
+    Err(Error),
+}
+
+// The answer of `body`.
+pub enum BodyResult {
+    // The first offset of the body, and its length.
+    Ok { first: usize, len: usize },
+    Err(Error),
+}
+
+// One pair of a map: the offset of the next one, or the answer.
+enum PairResult {
+    Next(usize),
+    Stop(OffsetResult),
+}
+
+// How long the region of a file of len bytes is, where `at` is in it.
+fn enter(len: usize, at: usize) -> OffsetResult
+    ensures { λ r. ⌜ toldOffset r ≡ gate len at ⌝ }
+{
+    if len == 0 {
+        return OffsetResult::Err(Error {
+            kind: ErrorKind::Empty,
+            place: 0,
+        });
+    }
+    if 16777216 < len {
+        return OffsetResult::Err(Error {
+            kind: ErrorKind::TooLong,
+            place: 0,
+        });
+    }
+    if at < len - 1 {
+        return OffsetResult::Ok(len - 1);
+    }
+    OffsetResult::Err(Error {
+        kind: ErrorKind::Outside,
+        place: at,
+    })
+}
+
+// A head at `at`, or BAD_TARGET where its target is below 0.
+fn aimed(at: usize, h: Head) -> ScanResult
+    ensures { λ r. ⌜ scans.told r ≡ pick (below at h) (error (fault BAD_TARGET at)) (ok h) ⌝ }
+{
+    let q = at as u64;
+    if (14 <= h.kind) & (q <= h.n) {
+        return ScanResult::Err(Error {
+            kind: ErrorKind::BadTarget,
+            place: at,
+        });
+    }
+    ScanResult::Ok(h)
+}
+
+fn look(region: &[u8], at: usize, inner: bool) -> ScanResult
+    ensures { λ r. ⌜ scans.told r ≡ peek inner (now (region .entry)) at ⌝ }
+{
+    match scan::scan(region, at, inner) {
+        ScanResult::Ok(h) => aimed(at, h),
+        ScanResult::Err(e) => ScanResult::Err(e),
+    }
+}
+
+// The offset after `items` items from `at` on.
+fn pass(region: &[u8], at: usize, items: u64) -> OffsetResult
+    ensures { λ r. ⌜ toldOffset r ≡ walk (now (region .entry)) items at ⌝ }
+{
+    let mut q = at;
+    let mut k = items;
+    while 0 < k {
+        match look(region, q, true) {
+            ScanResult::Ok(h) => {
+                q = h.end;
+                k = k - 1;
+            }
+            ScanResult::Err(e) => {
+                return OffsetResult::Err(e);
+            }
+        }
+    }
+    OffsetResult::Ok(q)
+}
+
+fn skip_in(region: &[u8], at: usize) -> OffsetResult
+    ensures { λ r. ⌜ toldOffset r ≡ skipIn (now (region .entry)) at ⌝ }
+{
+    match look(region, at, false) {
+        ScanResult::Ok(h) => pass(region, h.end, h.items),
+        ScanResult::Err(e) => OffsetResult::Err(e),
+    }
+}
+
+// Where the value at `at` ends. Looks at its items, but at neither text bytes nor targets beyond 0.
+pub fn skip(file: &[u8], at: usize) -> OffsetResult
+    ensures { λ r. ⌜ toldOffset r ≡ skipOf (now (file .entry)) at ⌝ }
+{
+    match enter(file.len(), at) {
+        OffsetResult::Ok(n) => skip_in(&file[..n], at),
+        OffsetResult::Err(e) => OffsetResult::Err(e),
+    }
+}
+
+// An offset where an item is to start.
+fn starts_in(len: usize, q: usize) -> OffsetResult
+    ensures { λ r. ⌜ toldOffset r ≡ startsIn len q ⌝ }
+{
+    if q < len {
+        return OffsetResult::Ok(q);
+    }
+    // TRUNC: the item would start at the region's end
+    OffsetResult::Err(Error {
+        kind: ErrorKind::Trunc,
+        place: len,
+    })
+}
+
+fn begun(len: usize, q: OffsetResult) -> OffsetResult
+    ensures { λ r. ⌜ toldOffset r ≡ bind (toldOffset q) (startsIn len) ⌝ }
+{
+    match q {
+        OffsetResult::Ok(at) => starts_in(len, at),
+        OffsetResult::Err(e) => OffsetResult::Err(e),
+    }
+}
+
+fn item_on(region: &[u8], at: usize, index: usize, h: Head) -> OffsetResult
+    ensures { λ r. ⌜ toldOffset r ≡ itemOn (now (region .entry)) at index h ⌝ }
+{
+    let kind = h.kind;
+    let rule = kind::rule_of(kind);
+    // WRONG_KIND: a kind without items
+    if kind::is_immediate(rule) {
+        return OffsetResult::Err(Error {
+            kind: ErrorKind::WrongKind,
+            place: at,
+        });
+    }
+    // NO_ITEM: the item number is at or past the count
+    let i = index as u64;
+    if h.items <= i {
+        return OffsetResult::Err(Error {
+            kind: ErrorKind::NoItem,
+            place: at,
+        });
+    }
+    begun(region.len(), pass(region, h.end, i))
+}
+
+fn item_in(region: &[u8], at: usize, index: usize) -> OffsetResult
+    ensures { λ r. ⌜ toldOffset r ≡ itemIn (now (region .entry)) at index ⌝ }
+{
+    match look(region, at, false) {
+        ScanResult::Ok(h) => item_on(region, at, index, h),
+        ScanResult::Err(e) => OffsetResult::Err(e),
+    }
+}
+
+// The offset of an item of the value at `at`, which is not followed. It takes time with the items before it: a loop over items goes on by
+// `skip` from one to the next.
+pub fn item(file: &[u8], at: usize, index: usize) -> OffsetResult
+    ensures { λ r. ⌜ toldOffset r ≡ itemOf (now (file .entry)) at index ⌝ }
+{
+    match enter(file.len(), at) {
+        OffsetResult::Ok(n) => item_in(&file[..n], at, index),
+        OffsetResult::Err(e) => OffsetResult::Err(e),
+    }
+}
+
+// From pointer to pointer, from `at` to a value of another kind.
+fn trail(region: &[u8], at: usize) -> TrailResult
+    ensures { λ r. ⌜ toldTrail r ≡ trail (now (region .entry)) (spot at 0) ⌝ }
+{
+    let mut q = at;
+    let mut hops: usize = 0;
+    loop {
+        match look(region, q, false) {
+            ScanResult::Ok(h) => {
+                if h.kind != 15 {
+                    return TrailResult::Ok {
+                        at: q,
+                        hops,
+                        head: h,
+                    };
+                }
+                q = q - h.n as usize - 1;
+                hops = hops + 1;
+            }
+            ScanResult::Err(e) => {
+                return TrailResult::Err(e);
+            }
+        }
+    }
+}
+
+fn follow_in(region: &[u8], at: usize) -> FollowResult
+    ensures { λ r. ⌜ toldFollow r ≡ followIn (now (region .entry)) at ⌝ }
+{
+    match trail(region, at) {
+        TrailResult::Ok { at, hops, head: _ } => FollowResult::Ok { at, hops },
+        TrailResult::Err(e) => FollowResult::Err(e),
+    }
+}
+
+// Follows pointers from the value at `at` to one that is no pointer. References are not followed.
+pub fn follow(file: &[u8], at: usize) -> FollowResult
+    ensures { λ r. ⌜ toldFollow r ≡ followOf (now (file .entry)) at ⌝ }
+{
+    match enter(file.len(), at) {
+        OffsetResult::Ok(n) => follow_in(&file[..n], at),
+        OffsetResult::Err(e) => FollowResult::Err(e),
+    }
+}
