@@ -57,10 +57,10 @@ module _ {E A : Type 0} where
 -- ---- `bind`, by what a call answered
 
 module _ {E A B : Type 0} (f : A → Answer E B) where
-  pub bind-ok : {a : A} {r : Answer E A} → ok a ≡ r → bind r f ≡ f a
+  pub bind-ok : {a : A} {r : Answer E A} {x : Answer E B} → ok a ≡ r → x ≡ f a → x ≡ bind r f
   unfolding bind
-  bind-ok e = rw (← e)
+  bind-ok e q = rw (← e) q
 
-  pub bind-error : {e : E} {r : Answer E A} → error e ≡ r → bind r f ≡ error e
+  pub bind-error : {e : E} {r : Answer E A} → error e ≡ r → error e ≡ bind r f
   unfolding bind
   bind-error q = rw (← q)

@@ -1,2 +1,4 @@
 -- laws of the queries
 pub mod Laws
+-- the part that a body is
+pub mod Bodies

@@ -82,7 +82,7 @@ followOf file at = inside file at (λ s. followIn s at)
 
 -- ---- lookup
 
-abbrev pub same : List ℕ → List ℕ → Bool
+unfoldable pub same : List ℕ → List ℕ → Bool
 same [] [] = true
 same [] (b ∷ t) = false
 same (a ∷ s) [] = false
@@ -92,9 +92,9 @@ same (a ∷ s) (b ∷ t) = eqb a b && same s t
 abbrev pub bytesOf : List ℕ → Head → List ℕ
 bytesOf s h = take (h .end - h .first) (drop (h .first) s)
 
--- a key that was followed is a text of these bytes
-abbrev pub matches : List ℕ → List ℕ → Met → Bool
-matches s key m = eqb (m .head .kind) 4 && same (bytesOf s (m .head)) key
+-- a value of head h is a text of these bytes
+abbrev pub keyed : List ℕ → List ℕ → Head → Bool
+keyed s key h = eqb (h .kind) 4 && same (bytesOf s h) key
 
 -- k pairs from q on, of the map at `at`
 unfoldable pub pairs : List ℕ → ℕ → List ℕ → ℕ → ℕ → Answer Fault ℕ
@@ -102,12 +102,14 @@ pairs s at key zero q = error (fault NO_ITEM at)
 pairs s at key (suc k) q =
     bind (peek true s q) (λ h.
     bind (trail s (spot q 0)) (λ m.
-    pick (matches s key m) (startsIn (length s) (h .end))
+    pick (keyed s key (m .head)) (startsIn (length s) (h .end))
     (bind (peek true s (h .end)) (λ v. pairs s at key k (v .end)))))
 
+abbrev pub lookupOn : List ℕ → ℕ → List ℕ → Head → Answer Fault ℕ
+lookupOn s at key h = pick (eqb (h .kind) 7) (pairs s at key (h .n) (h .end)) (error (fault WRONG_KIND at))
+
 unfoldable pub lookupIn : List ℕ → ℕ → List ℕ → Answer Fault ℕ
-lookupIn s at key =
-    bind (peek false s at) (λ h. pick (eqb (h .kind) 7) (pairs s at key (h .n) (h .end)) (error (fault WRONG_KIND at)))
+lookupIn s at key = bind (peek false s at) (lookupOn s at key)
 
 abbrev pub lookupOf : List ℕ → ℕ → List ℕ → Answer Fault ℕ
 lookupOf file at key = inside file at (λ s. lookupIn s at key)
@@ -115,14 +117,11 @@ lookupOf file at key = inside file at (λ s. lookupIn s at key)
 -- ---- body
 
 -- the body of a value that following came to
-abbrev pub bodyAt : Met → Answer Fault (ℕ × ℕ)
-bodyAt m =
-    pick (eqb (m .head .kind) 4 || eqb (m .head .kind) 5)
-    (ok (m .head .first, m .head .end - m .head .first))
-    (error (fault WRONG_KIND (m .place)))
+abbrev pub bodyAt : ℕ → Head → Answer Fault (ℕ × ℕ)
+bodyAt at h = pick (eqb (h .kind) 4 || eqb (h .kind) 5) (ok (h .first, h .end - h .first)) (error (fault WRONG_KIND at))
 
 unfoldable pub bodyIn : List ℕ → ℕ → Answer Fault (ℕ × ℕ)
-bodyIn s at = bind (trail s (spot at 0)) bodyAt
+bodyIn s at = bind (trail s (spot at 0)) (λ m. bodyAt (m .place) (m .head))
 
 abbrev pub bodyOf : List ℕ → ℕ → Answer Fault (ℕ × ℕ)
 bodyOf file at = inside file at (λ s. bodyIn s at)

@@ -1,6 +1,9 @@
 -- What this crate's private functions make. No public contract cites this file.
 --
---   pairOf s key q    one pair of a map, from q on: where the next one starts, or the answer
+--   pairOf s key q    one pair of a map, from q on: where the next one starts, or the answer; its stages: the key is looked at
+--                     (`pairOf`), followed (`followOfKey`), held against `key` (`keyOf`), the value is looked at (`valueOf`)
+--   toldPair r        a `PairResult` as such a turn
+--   orStop a f        what f makes of a's value; a stop with a's error where it is one
 use Prim.Native.Nat.{ℕ}
 use mathlib.Core.Bool.{true}
 use mathlib.Core.List.{List}
@@ -8,27 +11,29 @@ use lib.ListN.{length}
 use Rattle.prelude.specs.Pick.{pick}
 use Rattle.prelude.specs.Answer.{Answer, ok, error}
 use Rattle.prelude.specs.Loop.{Turn, go, stop}
-use Rattle.error.specs.Error as errors
 use Rattle.error.specs.Error.{Fault}
 use Rattle.scan.specs.declared.Head.{Head}
 use Rattle.reader.specs.Region.{peek}
-use Rattle.reader.specs.Query.{Met, spot, trail, matches, startsIn}
+use Rattle.reader.specs.Query.{spot, trail, keyed, startsIn}
 use Rattle.reader.specs.Told.{toldOffset}
 use Rattle.reader.specs.declared.PairResult.{PairResult}
 use Rattle.reader.specs.declared.PairResult.the-variants.{Next, Stop}
 
-abbrev pub orStop : {A S R : Type 0} → Answer Fault A → (A → Turn S (Answer Fault R)) → Turn S (Answer Fault R)
+unfoldable pub orStop : {A S R : Type 0} → Answer Fault A → (A → Turn S (Answer Fault R)) → Turn S (Answer Fault R)
 orStop (ok a) f = f a
 orStop (error e) f = stop (error e)
 
 abbrev pub valueOf : List ℕ → ℕ → Turn ℕ (Answer Fault ℕ)
 valueOf s end = orStop (peek true s end) (λ v. go (v .end))
 
-abbrev pub keyOf : List ℕ → List ℕ → ℕ → Met → Turn ℕ (Answer Fault ℕ)
-keyOf s key end m = pick (matches s key m) (stop (startsIn (length s) end)) (valueOf s end)
+abbrev pub keyOf : List ℕ → List ℕ → ℕ → Head → Turn ℕ (Answer Fault ℕ)
+keyOf s key end h = pick (keyed s key h) (stop (startsIn (length s) end)) (valueOf s end)
+
+abbrev pub followOfKey : List ℕ → List ℕ → ℕ → ℕ → Turn ℕ (Answer Fault ℕ)
+followOfKey s key q end = orStop (trail s (spot q 0)) (λ m. keyOf s key end (m .head))
 
 abbrev pub pairOf : List ℕ → List ℕ → ℕ → Turn ℕ (Answer Fault ℕ)
-pairOf s key q = orStop (peek true s q) (λ h. orStop (trail s (spot q 0)) (keyOf s key (h .end)))
+pairOf s key q = orStop (peek true s q) (λ h. followOfKey s key q (h .end))
 
 abbrev pub toldPair : PairResult → Turn ℕ (Answer Fault ℕ)
 toldPair (Next q) = go q

@@ -11,8 +11,9 @@ ghost use Rattle.prelude.specs.Answer.{ok, error, bind};
 ghost use Rattle.error.specs.Error.{fault, BAD_TARGET};
 ghost use Rattle.scan.specs.Told as scans;
 ghost use Rattle.reader.specs.Region.{gate, below, peek, walk};
-ghost use Rattle.reader.specs.Query.{skipIn, skipOf, itemIn, itemOn, itemOf, startsIn, spot, trail, followIn, followOf};
-ghost use Rattle.reader.specs.Told.{toldOffset, toldTrail, toldFollow};
+ghost use Rattle.reader.specs.Query.{skipIn, skipOf, itemIn, itemOn, itemOf, startsIn, spot, trail, followIn, followOf, bodyAt, bodyIn, bodyOf, bodyBytes, same, keyed, pairs, lookupOn, lookupIn, lookupOf};
+ghost use Rattle.reader.specs.Stages.{valueOf, keyOf, followOfKey, pairOf, toldPair};
+ghost use Rattle.reader.specs.Told.{toldOffset, toldTrail, toldFollow, toldBody};
 
 // The answer of `skip`, `item` and `lookup`.
 pub enum OffsetResult {
@@ -94,6 +95,8 @@ fn look(region: &[u8], at: usize, inner: bool) -> ScanResult
     }
 }
 
+// ---- skip
+
 // The offset after `items` items from `at` on.
 fn pass(region: &[u8], at: usize, items: u64) -> OffsetResult
     ensures { λ r. ⌜ toldOffset r ≡ walk (now (region .entry)) items at ⌝ }
@@ -132,6 +135,8 @@ pub fn skip(file: &[u8], at: usize) -> OffsetResult
         OffsetResult::Err(e) => OffsetResult::Err(e),
     }
 }
+
+// ---- item
 
 // An offset where an item is to start.
 fn starts_in(len: usize, q: usize) -> OffsetResult
@@ -199,6 +204,8 @@ pub fn item(file: &[u8], at: usize, index: usize) -> OffsetResult
     }
 }
 
+// ---- follow
+
 // From pointer to pointer, from `at` to a value of another kind.
 fn trail(region: &[u8], at: usize) -> TrailResult
     ensures { λ r. ⌜ toldTrail r ≡ trail (now (region .entry)) (spot at 0) ⌝ }
@@ -241,5 +248,190 @@ pub fn follow(file: &[u8], at: usize) -> FollowResult
     match enter(file.len(), at) {
         OffsetResult::Ok(n) => follow_in(&file[..n], at),
         OffsetResult::Err(e) => FollowResult::Err(e),
+    }
+}
+
+// ---- body
+
+// The body of a value of head h at `at`.
+fn body_at(at: usize, h: Head) -> BodyResult
+    requires { ⌜ h .first ≤ h .end ⌝ }
+    ensures { λ r. ⌜ toldBody r ≡ bodyAt at h ⌝ }
+{
+    let kind = h.kind;
+    if (kind == 4) | (kind == 5) {
+        return BodyResult::Ok {
+            first: h.first,
+            len: h.end - h.first,
+        };
+    }
+    // WRONG_KIND: neither a text nor a byte string
+    BodyResult::Err(Error {
+        kind: ErrorKind::WrongKind,
+        place: at,
+    })
+}
+
+fn body_in(region: &[u8], at: usize) -> BodyResult
+    ensures { λ r. ⌜ toldBody r ≡ bodyIn (now (region .entry)) at ⌝ }
+{
+    match trail(region, at) {
+        TrailResult::Ok { at, hops: _, head } => body_at(at, head),
+        TrailResult::Err(e) => BodyResult::Err(e),
+    }
+}
+
+// Where the text or byte string stands that the value at `at` is or leads to.
+pub fn body_place(file: &[u8], at: usize) -> BodyResult
+    ensures { λ r. ⌜ toldBody r ≡ bodyOf (now (file .entry)) at ⌝ }
+{
+    match enter(file.len(), at) {
+        OffsetResult::Ok(n) => body_in(&file[..n], at),
+        OffsetResult::Err(e) => BodyResult::Err(e),
+    }
+}
+
+// The same as a part of the file; no bytes on an error, which `body_place` tells.
+pub fn body(file: &[u8], at: usize) -> &[u8]
+    ensures { λ r. ⌜ now r ≡ bodyBytes (now (file .entry)) at ⌝ }
+{
+    match body_place(file, at) {
+        BodyResult::Ok { first, len } => {
+            let end = first + len;
+            &file[first..end]
+        }
+        BodyResult::Err(e) => &file[..0],
+    }
+}
+
+// ---- lookup
+
+fn same(a: &[u8], b: &[u8]) -> bool
+    ensures { λ r. ⌜ r ≡ same (now (a .entry)) (now (b .entry)) ⌝ }
+{
+    if a.len() != b.len() {
+        return false;
+    }
+    let mut i: usize = 0;
+    while i < a.len() {
+        if a[i] != b[i] {
+            return false;
+        }
+        i += 1;
+    }
+    true
+}
+
+// Whether a value of head h is a text of these bytes.
+fn is_key(region: &[u8], key: &[u8], h: Head) -> bool
+    requires { ⌜ (h .first ≤ h .end) × (h .end ≤ length (now region)) ⌝ }
+    ensures { λ r. ⌜ r ≡ keyed (now (region .entry)) (now (key .entry)) h ⌝ }
+{
+    let first = h.first;
+    let end = h.end;
+    if h.kind == 4 {
+        return same(&region[first..end], key);
+    }
+    false
+}
+
+// The value of a pair, which starts at q, where its key is not the one.
+fn pass_value(region: &[u8], q: usize) -> PairResult
+    ensures { λ r. ⌜ toldPair r ≡ valueOf (now (region .entry)) q ⌝ }
+{
+    match look(region, q, true) {
+        ScanResult::Ok(v) => PairResult::Next(v.end),
+        ScanResult::Err(e) => PairResult::Stop(OffsetResult::Err(e)),
+    }
+}
+
+// A pair whose key, followed, has the head h, and whose value starts at q.
+fn match_key(region: &[u8], key: &[u8], q: usize, h: Head) -> PairResult
+    requires { ⌜ (h .first ≤ h .end) × (h .end ≤ length (now region)) ⌝ }
+    ensures { λ r. ⌜ toldPair r ≡ keyOf (now (region .entry)) (now (key .entry)) q h ⌝ }
+{
+    if is_key(region, key, h) {
+        return PairResult::Stop(starts_in(region.len(), q));
+    }
+    pass_value(region, q)
+}
+
+// A pair whose key starts at q and ends at `end`.
+fn follow_key(region: &[u8], key: &[u8], q: usize, end: usize) -> PairResult
+    ensures { λ r. ⌜ toldPair r ≡ followOfKey (now (region .entry)) (now (key .entry)) q end ⌝ }
+{
+    match trail(region, q) {
+        TrailResult::Ok {
+            at: _,
+            hops: _,
+            head,
+        } => match_key(region, key, end, head),
+        TrailResult::Err(e) => PairResult::Stop(OffsetResult::Err(e)),
+    }
+}
+
+fn pair(region: &[u8], key: &[u8], q: usize) -> PairResult
+    ensures { λ r. ⌜ toldPair r ≡ pairOf (now (region .entry)) (now (key .entry)) q ⌝ }
+{
+    match look(region, q, true) {
+        ScanResult::Ok(h) => follow_key(region, key, q, h.end),
+        ScanResult::Err(e) => PairResult::Stop(OffsetResult::Err(e)),
+    }
+}
+
+// The pairs of the map at `at`, of which `count` are left from `first` on.
+fn pairs(region: &[u8], at: usize, key: &[u8], count: u64, first: usize) -> OffsetResult
+    ensures { λ r. ⌜ toldOffset r ≡ pairs (now (region .entry)) at (now (key .entry)) count first ⌝ }
+{
+    let mut k = count;
+    let mut q = first;
+    while 0 < k {
+        match pair(region, key, q) {
+            PairResult::Next(next) => {
+                q = next;
+                k = k - 1;
+            }
+            PairResult::Stop(answer) => {
+                return answer;
+            }
+        }
+    }
+    // NO_ITEM: no key is the one
+    OffsetResult::Err(Error {
+        kind: ErrorKind::NoItem,
+        place: at,
+    })
+}
+
+fn lookup_on(region: &[u8], at: usize, key: &[u8], h: Head) -> OffsetResult
+    ensures { λ r. ⌜ toldOffset r ≡ lookupOn (now (region .entry)) at (now (key .entry)) h ⌝ }
+{
+    if h.kind == 7 {
+        return pairs(region, at, key, h.n, h.end);
+    }
+    // WRONG_KIND: no map
+    OffsetResult::Err(Error {
+        kind: ErrorKind::WrongKind,
+        place: at,
+    })
+}
+
+fn lookup_in(region: &[u8], at: usize, key: &[u8]) -> OffsetResult
+    ensures { λ r. ⌜ toldOffset r ≡ lookupIn (now (region .entry)) at (now (key .entry)) ⌝ }
+{
+    match look(region, at, false) {
+        ScanResult::Ok(h) => lookup_on(region, at, key, h),
+        ScanResult::Err(e) => OffsetResult::Err(e),
+    }
+}
+
+// The offset of the value that a map has for a key: the first pair's whose key, followed, is a text of these bytes. The map itself is not
+// followed.
+pub fn lookup(file: &[u8], at: usize, key: &[u8]) -> OffsetResult
+    ensures { λ r. ⌜ toldOffset r ≡ lookupOf (now (file .entry)) at (now (key .entry)) ⌝ }
+{
+    match enter(file.len(), at) {
+        OffsetResult::Ok(n) => lookup_in(&file[..n], at, key),
+        OffsetResult::Err(e) => OffsetResult::Err(e),
     }
 }

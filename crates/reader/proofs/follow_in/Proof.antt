@@ -1,5 +1,5 @@
 -- `reader::follow_in` meets its contract.
-use mathlib.Core.Path.{sym}
+use mathlib.Core.Path.{refl}
 use borrow.Author.Needs.{needs}
 use Rattle.prelude.proofs.Readers.{bind-ok, bind-error}
 use Rattle.reader.specs.Query.{followIn}
@@ -14,5 +14,5 @@ follow-in-spec =
     (λ c κs. search needs)
     (λ c. search needs)
     (λ c. search needs)
-    (λ c. let t = c .before in sym (bind-ok _ (rw (t .at .given .1) at (t .before .before .trail .ensures))))
-    (λ c. let t = c .before in sym (bind-error _ (rw (t .e .given .1) at (t .before .before .trail .ensures)))))
+    (λ c. let t = c .before in bind-ok _ (rw (t .at .given .1) at (t .before .before .trail .ensures)) refl)
+    (λ c. let t = c .before in bind-error _ (rw (t .e .given .1) at (t .before .before .trail .ensures))))

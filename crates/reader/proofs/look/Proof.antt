@@ -1,5 +1,4 @@
 -- `reader::look` meets its contract.
-use mathlib.Core.Path.{sym, _∙_}
 use borrow.Author.Needs.{needs}
 use Rattle.prelude.proofs.Readers.{bind-ok, bind-error}
 use Rattle.reader.specs.Region.{peek}
@@ -15,5 +14,5 @@ look-spec =
     (λ c. search needs)
     (λ c κs. search needs)
     (λ c. search needs)
-    (λ c. let t = c .before .before in c .aimed .ensures ∙ sym (bind-ok _ (rw (t .h .given .1) at (t .before .before .scan .ensures))))
-    (λ c. let t = c .before in sym (bind-error _ (rw (t .e .given .1) at (t .before .before .scan .ensures)))))
+    (λ c. let t = c .before .before in bind-ok _ (rw (t .h .given .1) at (t .before .before .scan .ensures)) (c .aimed .ensures))
+    (λ c. let t = c .before in bind-error _ (rw (t .e .given .1) at (t .before .before .scan .ensures))))

@@ -29,8 +29,9 @@ trail-spec =
     (λ c. let t = c .before .before .before in omega (arith, pointer-lt _ _ _ _ (rw (t .h .given .1) at (t .before .before .look .ensures)) (c .if1 .left)))
     (λ c. let t = c .before .before .before in omega (arith, pointer-lt _ _ _ _ (rw (t .h .given .1) at (t .before .before .look .ensures)) (c .if1 .left)))
     (λ c. let t = c .before .before .before in omega (arith, pointer-lt _ _ _ _ (rw (t .h .given .1) at (t .before .before .look .ensures)) (c .if1 .left)))
-    (λ c. let t = c .before .before .before in
-    (trail-pointer _ _ _ _ (rw (t .h .given .1) at (t .before .before .look .ensures)) (c .if1 .left) ∙ t .before .before .before .loop .inv .0,
-    omega (arith, pointer-lt _ _ _ _ (rw (t .h .given .1) at (t .before .before .look .ensures)) (c .if1 .left))))
+    (λ c. let t = c .before .before .before in (
+      trail-pointer _ _ _ _ (rw (t .h .given .1) at (t .before .before .look .ensures)) (c .if1 .left) ∙ t .before .before .before .loop .inv .0,
+      omega (arith, pointer-lt _ _ _ _ (rw (t .h .given .1) at (t .before .before .look .ensures)) (c .if1 .left)),
+    ))
     (λ c. search needs)
     (λ c. let t = c .before in trail-error _ _ _ _ (rw (t .e .given .1) at (t .before .before .look .ensures)) ∙ t .before .before .before .loop .inv .0))
