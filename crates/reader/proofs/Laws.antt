@@ -16,16 +16,20 @@ use borrow.Author.Tests.{ltb-true, eqb-true, eqb-false, eq-eqb, ne-eqb}
 use Rattle.prelude.specs.Pick.{pick}
 use Rattle.prelude.specs.Loop.{Turn, go, stop, follow}
 use Rattle.prelude.specs.Answer.{Answer, ok, error, bind}
-use Rattle.prelude.proofs.Tests.{pick-elim, and-false, facts}
+use Rattle.prelude.proofs.Tests.{pick-elim, split, and-false, facts}
 use Rattle.prelude.proofs.Readers.{bind-ok, bind-error}
 use Rattle.prelude.proofs.Turns.{from-go, from-stop, from-all}
 use Rattle.error.specs.Error.{Fault, fault, BAD_TARGET, NO_ITEM}
+use Rattle.kind.specs.Kind.{rule}
+use Rattle.kind.proofs.Laws.{rule-past}
 use Rattle.scan.specs.Told.{scanAt}
 use Rattle.scan.specs.declared.Head.{Head}
 use Rattle.scan.proofs.Places.{Within, scan-within}
 use Rattle.reader.specs.Region.{LIMIT, gate, inside, below, peek, walk}
 use Rattle.reader.specs.Query.{Met, met, Spot, spot, turned, turn, trail, same, keyed, startsIn, pairs}
-use Rattle.reader.specs.Stages.{orStop, valueOf, keyOf, followOfKey, pairOf}
+use Rattle.reader.specs.Read.{rows, shown}
+use Rattle.reader.specs.declared.Value.the-variants.{Null}
+use Rattle.reader.specs.Stages.{Looked, orStop, valueOf, keyOf, followOfKey, pairOf}
 
 -- ---- the region
 
@@ -74,9 +78,9 @@ pub peek-scan : (inner : Bool) (s : List ℕ) (q : ℕ) (h : Head) → ok h ≡ 
 unfolding peek
 peek-scan inner s q h e = subst (Scans (scanAt inner s q)) (sym e) (scans q (scanAt inner s q))
 
--- a pointer that was looked at has its target at or above 0
+-- a reference or pointer that was looked at has its target at or above 0
 abbrev Aimed : ℕ → Answer Fault Head → Type 0
-Aimed q (ok h) = h .kind ≡ 15 → h .n < q
+Aimed q (ok h) = 14 ≤ h .kind → h .n < q
 Aimed q (error e) = Unit {0}
 
 aimed : (q : ℕ) (a : Answer Fault Head) → Aimed q (bind a (λ h. pick (below q h) (error (fault BAD_TARGET q)) (ok h)))
@@ -91,7 +95,28 @@ unfolding peek
 peek-aimed inner s q = aimed q (scanAt inner s q)
 
 pub pointer-lt : (inner : Bool) (s : List ℕ) (q : ℕ) (h : Head) → ok h ≡ peek inner s q → h .kind ≡ 15 → h .n < q
-pointer-lt inner s q h e = subst (Aimed q) (sym e) (peek-aimed inner s q)
+pointer-lt inner s q h e k = subst (Aimed q) (sym e) (peek-aimed inner s q) (omega arith)
+
+pub peek-looked : (inner : Bool) (s : List ℕ) (q : ℕ) (h : Head) → ok h ≡ peek inner s q → Looked s q h
+peek-looked inner s q h e =
+    let w = scan-within inner s q h (peek-scan inner s q h e) in
+    record { body = w .body; end = w .end; used = w .used; most = w .most; aimed = subst (Aimed q) (sym e) (peek-aimed inner s q) }
+
+-- ---- what is shown
+
+pub shown-kind : (s : List ℕ) (at : ℕ) (h : Head) (k : ℕ) → h .kind ≡ k → getD (rows s at h) k Null ≡ shown s at h
+unfolding shown
+shown-kind s at h k e = rw e
+
+pub looked-lt : (s : List ℕ) (at : ℕ) (h : Head) (k m : ℕ) → rule k .most < m → Looked s at h → h .kind ≡ k → h .n < m
+looked-lt s at h k m lt l e = omega (arith, rw e at (l .most))
+
+pub used-lt : (k : ℕ) → 0 < rule k .lows → k < 16
+used-lt k u = split k 16 (λ l. l) (λ l. absurd (omega (arith, rw (rule-past k l) at u)))
+
+-- 9 and 13 are reserved
+pub used-ne : (k j : ℕ) → rule k .lows ≡ 0 → 0 < rule j .lows → j ≡ k → ⊥
+used-ne k j z u e = omega (arith, rw e at u)
 
 -- ---- items
 
@@ -119,7 +144,7 @@ Falls p (go q) = q .place < p .place
 Falls p (stop a) = Unit {0}
 
 falls : (p : Spot) (a : Answer Fault Head) → Aimed (p .place) a → Falls p (turned p a)
-falls p (ok h) lt = pick-elim (Falls p) (eqb (h .kind) 15) (λ e. let l = lt (eqb-true (h .kind) 15 e) in omega arith) (λ e. tt)
+falls p (ok h) lt = pick-elim (Falls p) (eqb (h .kind) 15) (λ e. let k = eqb-true (h .kind) 15 e in let l = lt (omega arith) in omega arith) (λ e. tt)
 falls p (error e) lt = tt
 
 module _ (s : List ℕ) where
@@ -164,7 +189,7 @@ module _ (s : List ℕ) (p : Spot) where
   turns : (q : Spot) (a : Answer Fault Head) → peek false s (q .place) ≡ a → Down q → Aimed (q .place) a → Turns (turned q a)
   turns q (ok h) e d lt =
       pick-elim Turns (eqb (h .kind) 15)
-      (λ k. let l = lt (eqb-true (h .kind) 15 k) in omega arith)
+      (λ k. let f = eqb-true (h .kind) 15 k in let l = lt (omega arith) in omega arith)
       (λ k. record { looked = sym e; other = eqb-false (h .kind) 15 k; down = d })
   turns q (error f) e d lt = tt
 

@@ -1,10 +1,11 @@
 -- What this crate's private functions make. No public contract cites this file.
 --
+--   Looked s at h     what a head that was looked at as a value at `at` of the region s tells of itself
 --   pairOf s key q    one pair of a map, from q on: where the next one starts, or the answer; its stages: the key is looked at
 --                     (`pairOf`), followed (`followOfKey`), held against `key` (`keyOf`), the value is looked at (`valueOf`)
 --   toldPair r        a `PairResult` as such a turn
 --   orStop a f        what f makes of a's value; a stop with a's error where it is one
-use Prim.Native.Nat.{ℕ}
+use Prim.Native.Nat.{ℕ, _≤_, _<_}
 use mathlib.Core.Bool.{true}
 use mathlib.Core.List.{List}
 use lib.ListN.{length}
@@ -12,12 +13,20 @@ use Rattle.prelude.specs.Pick.{pick}
 use Rattle.prelude.specs.Answer.{Answer, ok, error}
 use Rattle.prelude.specs.Loop.{Turn, go, stop}
 use Rattle.error.specs.Error.{Fault}
+use Rattle.kind.specs.Kind.{rule}
 use Rattle.scan.specs.declared.Head.{Head}
 use Rattle.reader.specs.Region.{peek}
 use Rattle.reader.specs.Query.{spot, trail, keyed, startsIn}
 use Rattle.reader.specs.Told.{toldOffset}
 use Rattle.reader.specs.declared.PairResult.{PairResult}
 use Rattle.reader.specs.declared.PairResult.the-variants.{Next, Stop}
+
+pub record Looked (s : List ℕ) (at : ℕ) (h : Head) : Type 0 where
+  pub body : h .first ≤ h .end
+  pub end : h .end ≤ length s
+  pub used : 0 < rule (h .kind) .lows
+  pub most : h .n ≤ rule (h .kind) .most
+  pub aimed : 14 ≤ h .kind → h .n < at
 
 unfoldable pub orStop : {A S R : Type 0} → Answer Fault A → (A → Turn S (Answer Fault R)) → Turn S (Answer Fault R)
 orStop (ok a) f = f a

@@ -1,11 +1,14 @@
 -- What the answers of this crate's functions mean.
 --
---   toldHead, toldOffset, toldFollow, toldTrail, toldBody    what is told, or the error's number and place
+--   toldRead, toldOffset, toldFollow, toldTrail, toldBody    what is told, or the error's number and place
 use Prim.Native.Nat.{ℕ}
 use Rattle.prelude.specs.Answer.{Answer, ok, error}
 use Rattle.error.specs.Error as errors
 use Rattle.error.specs.Error.{Fault}
 use Rattle.reader.specs.Query.{Met, met}
+use Rattle.reader.specs.declared.Value.{Value}
+use Rattle.reader.specs.declared.ReadResult as read
+use Rattle.reader.specs.declared.ReadResult.the-variants as read-is
 use Rattle.reader.specs.declared.OffsetResult as offset
 use Rattle.reader.specs.declared.OffsetResult.the-variants as offset-is
 use Rattle.reader.specs.declared.FollowResult as follow
@@ -30,3 +33,7 @@ toldTrail (trail-is.Err e) = error (errors.told e)
 abbrev pub toldBody : body.BodyResult → Answer Fault (ℕ × ℕ)
 toldBody (body-is.Ok first len) = ok (first, len)
 toldBody (body-is.Err e) = error (errors.told e)
+
+abbrev pub toldRead : read.ReadResult → Answer Fault Value
+toldRead (read-is.Ok v) = ok v
+toldRead (read-is.Err e) = error (errors.told e)

@@ -4,16 +4,50 @@ use error::ErrorKind;
 use scan::Head;
 use scan::ScanResult;
 ghost use mathlib.Core.Path.{_≡_};
-ghost use Prim.Native.Nat.{_≤_, _<_};
+ghost use Prim.Native.Nat.{_≤_, _<_, _^_};
+ghost use lib.IntN.{pos, negsuc};
 ghost use lib.ListN.{length};
 ghost use Rattle.prelude.specs.Pick.{pick};
 ghost use Rattle.prelude.specs.Answer.{ok, error, bind};
 ghost use Rattle.error.specs.Error.{fault, BAD_TARGET};
 ghost use Rattle.scan.specs.Told as scans;
 ghost use Rattle.reader.specs.Region.{gate, below, peek, walk};
+ghost use Rattle.reader.specs.Read.{scalar, float, shown, readIn, readOf};
 ghost use Rattle.reader.specs.Query.{skipIn, skipOf, itemIn, itemOn, itemOf, startsIn, spot, trail, followIn, followOf, bodyAt, bodyIn, bodyOf, bodyBytes, same, keyed, pairs, lookupOn, lookupIn, lookupOf};
-ghost use Rattle.reader.specs.Stages.{valueOf, keyOf, followOfKey, pairOf, toldPair};
-ghost use Rattle.reader.specs.Told.{toldOffset, toldTrail, toldFollow, toldBody};
+ghost use Rattle.reader.specs.Stages.{Looked, valueOf, keyOf, followOfKey, pairOf, toldPair};
+ghost use Rattle.reader.specs.Told.{toldOffset, toldTrail, toldFollow, toldBody, toldRead};
+
+// One value, as its header tells it. Items and text bytes are not looked at.
+pub enum Value {
+    False,
+    True,
+    Null,
+    Integer(i64),
+    // Floats are bits, never computed with; the two widths are different values.
+    Float32(u32),
+    Float64(u64),
+    // The first offset of the bytes, and how many.
+    Text { first: usize, len: usize },
+    Bytes { first: usize, len: usize },
+    // How many items, and the offset of the first; of a map also how many pairs, key and value by turns.
+    Array { items: u64, first: usize },
+    Map { pairs: u64, items: u64, first: usize },
+    // The tag, and the offset of its one item.
+    Tag { tag: u64, item: usize },
+    // The index of a variant, with no item, with the offset of its one item, and with many.
+    Variant { index: u32 },
+    Variant1 { index: u32, item: usize },
+    VariantN { index: u32, items: u64, first: usize },
+    // The offset of the target.
+    Reference { target: usize },
+    Pointer { target: usize },
+}
+
+// The answer of `read`.
+pub enum ReadResult {
+    Ok(Value),
+    Err(Error),
+}
 
 // The answer of `skip`, `item` and `lookup`.
 pub enum OffsetResult {
@@ -92,6 +126,141 @@ fn look(region: &[u8], at: usize, inner: bool) -> ScanResult
     match scan::scan(region, at, inner) {
         ScanResult::Ok(h) => aimed(at, h),
         ScanResult::Err(e) => ScanResult::Err(e),
+    }
+}
+
+// ---- read
+
+fn scalar_of(n: u64) -> Value
+    ensures { λ r. ⌜ r ≡ scalar n ⌝ }
+{
+    if n == 0 {
+        return Value::False;
+    }
+    if n == 1 {
+        return Value::True;
+    }
+    Value::Null
+}
+
+fn float_of(region: &[u8], h: Head) -> Value
+    requires { ⌜ h .first ≤ length (now region) ⌝ }
+    ensures { λ r. ⌜ r ≡ float (now (region .entry)) h ⌝ }
+{
+    let first = h.first;
+    if h.n == 0 {
+        return Value::Float32(float::bits4(&region[first..]));
+    }
+    Value::Float64(float::bits8(&region[first..]))
+}
+
+fn positive(n: u64) -> Value
+    requires { ⌜ n < 2 ^ 63 ⌝ }
+    ensures { λ r. ⌜ r ≡ Value.Integer (pos n) ⌝ }
+{
+    Value::Integer(n as i64)
+}
+
+// -n-1
+fn negative(n: u64) -> Value
+    requires { ⌜ n < 2 ^ 63 ⌝ }
+    ensures { λ r. ⌜ r ≡ Value.Integer (negsuc n) ⌝ }
+{
+    Value::Integer(-1 - n as i64)
+}
+
+// The value of head h at `at`: the kinds in their order; 9 and 13 are no kinds.
+fn value_of(region: &[u8], at: usize, h: Head) -> Value
+    requires { ⌜ Looked (now region) at h ⌝ }
+    ensures { λ r. ⌜ r ≡ shown (now (region .entry)) at h ⌝ }
+{
+    let kind = h.kind;
+    let n = h.n;
+    let first = h.first;
+    if kind < 1 {
+        return scalar_of(n);
+    }
+    if kind < 2 {
+        return positive(n);
+    }
+    if kind < 3 {
+        return negative(n);
+    }
+    if kind < 4 {
+        return float_of(region, h);
+    }
+    if kind < 5 {
+        return Value::Text {
+            first,
+            len: h.end - first,
+        };
+    }
+    if kind < 6 {
+        return Value::Bytes {
+            first,
+            len: h.end - first,
+        };
+    }
+    if kind < 7 {
+        return Value::Array {
+            items: h.items,
+            first,
+        };
+    }
+    if kind < 8 {
+        return Value::Map {
+            pairs: n,
+            items: h.items,
+            first,
+        };
+    }
+    if kind < 9 {
+        return Value::Tag {
+            tag: n,
+            item: first,
+        };
+    }
+    if kind < 11 {
+        return Value::Variant {
+            index: n as u32,
+        };
+    }
+    if kind < 12 {
+        return Value::Variant1 {
+            index: n as u32,
+            item: first,
+        };
+    }
+    if kind < 14 {
+        return Value::VariantN {
+            index: n as u32,
+            items: h.items,
+            first,
+        };
+    }
+    let target = at - n as usize - 1;
+    if kind < 15 {
+        return Value::Reference { target };
+    }
+    Value::Pointer { target }
+}
+
+fn read_in(region: &[u8], at: usize) -> ReadResult
+    ensures { λ r. ⌜ toldRead r ≡ readIn (now (region .entry)) at ⌝ }
+{
+    match look(region, at, false) {
+        ScanResult::Ok(h) => ReadResult::Ok(value_of(region, at, h)),
+        ScanResult::Err(e) => ReadResult::Err(e),
+    }
+}
+
+// The value at `at`. Looks at neither items nor text bytes, and of a target only that it is not below 0.
+pub fn read(file: &[u8], at: usize) -> ReadResult
+    ensures { λ r. ⌜ toldRead r ≡ readOf (now (file .entry)) at ⌝ }
+{
+    match enter(file.len(), at) {
+        OffsetResult::Ok(n) => read_in(&file[..n], at),
+        OffsetResult::Err(e) => ReadResult::Err(e),
     }
 }
 

@@ -21,12 +21,14 @@ use Rattle.token.proofs.Ends.{Left, scan-left}
 use Rattle.scan.specs.Told.{seen, scanAt}
 use Rattle.scan.specs.declared.Head.{Head}
 
--- a head of the region s, scanned at `at`
+-- a head of the region s, scanned at `at`: where it stands, and that its kind allows its number
 pub record Within (s : List ℕ) (at : ℕ) (h : Head) : Type 0 where
   pub numbers : at < h .first
   pub body : h .first ≤ h .end
   pub end : h .end ≤ length s
   pub items : h .items ≤ suc (length s - h .end)
+  pub used : 0 < rule (h .kind) .lows
+  pub most : h .n ≤ rule (h .kind) .most
 
 seen-bad : {X : Type 0} (len : ℕ) (h : Head) (f : Fault) → ok h ≡ seen len (bad f) → X
 unfolding seen
@@ -50,6 +52,8 @@ within-left s at h (got t rest) left e =
       body = omega arith;
       end = omega arith;
       items = omega (arith, l .behind, l .count);
+      used = l .used;
+      most = l .most;
     })
 within-left s at h (bad f) left e = seen-bad (length s) h f e
 

@@ -9,6 +9,7 @@ use native.Mathlib.Omega.{arith}
 use lib.ListN.{length, drop, length-drop, length-append}
 use lib.Seq.{drop-drop}
 use Rattle.prelude.specs.Answer.{Res, got}
+use Rattle.prelude.proofs.Tests.{facts}
 use Rattle.prelude.proofs.Readers.{orError-by, need-by, bind-by, bad-got}
 use Rattle.leb128.proofs.Laws.{get-ends}
 use Rattle.kind.specs.Kind.{rule, pending}
@@ -43,10 +44,12 @@ number-short at w s v rest e = orError-by _ _ e (λ e₁. getIf-end w s v rest e
 
 -- ---- what `scan` leaves
 
--- the body and the rest are shorter than s, and the counted items have a byte each
+-- the body and the rest are shorter than s, the counted items have a byte each, the kind is in use, and n is within its bound
 pub record Left (s : List ℕ) (t : Token) (rest : List ℕ) : Type 0 where
   pub behind : length (t .body) + length rest < length s
   pub count : pending (rule (t .kind)) (t .n) (t .args) ≤ suc (length rest)
+  pub used : 0 < rule (t .kind) .lows
+  pub most : t .n ≤ rule (t .kind) .most
 
 pub scan-left : (inner : Bool) (at : ℕ) (s : List ℕ) (t : Token) (rest : List ℕ) → scan inner at s ≡ got t rest → Left s t rest
 unfolding scan scanKind
@@ -63,4 +66,6 @@ scan-left inner at (h ∷ s) t rest e =
     rw et (record {
       behind = omega (arith, ap length sc, length-append b rest);
       count = omega (arith, rule-row (h / 16) .single);
+      used = omega facts;
+      most = omega facts;
     })))))))
