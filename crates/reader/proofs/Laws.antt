@@ -173,7 +173,7 @@ pub record Reached (s : List ℕ) (p : Spot) (m : Met) : Type 0 where
   pub other : m .head .kind ≡ 15 → ⊥
   pub down : m .place + m .hops ≤ p .place + p .hops
 
-abbrev Reaches : List ℕ → Spot → Answer Fault Met → Type 0
+abbrev pub Reaches : List ℕ → Spot → Answer Fault Met → Type 0
 Reaches s p (ok m) = Reached s p m
 Reaches s p (error e) = Unit {0}
 

@@ -2,3 +2,5 @@
 pub mod Laws
 -- the part that a body is
 pub mod Bodies
+-- what the queries promise
+pub mod Theorems
