@@ -1,12 +1,14 @@
 -- Laws of the kind table, each one computed test over all rows.
 use mathlib.Core.Path.{_≡_, refl}
+use mathlib.Core.Bool.{Bool, true, false, not, _&&_}
 use Prim.Native.Nat.{ℕ, _+_, _-_, _*_, _^_, _≤_, _<_, min}
 use native.Mathlib.Omega.{arith}
-use lib.Dec.{leb, ltb}
+use lib.Dec.{leb, ltb, eqb}
 use lib.ListN.{length, getD, List·getD-eq-default}
-use borrow.Author.Tests.{leb-true, ltb-true}
+use borrow.Author.Tests.{leb-true, ltb-true, eqb-true, not-true}
+use Rattle.prelude.proofs.Tests.{and-l, and-r}
 use Rattle.prelude.proofs.Tables.{every-getD}
-use Rattle.kind.specs.Kind.{rule, table, reserved}
+use Rattle.kind.specs.Kind.{rule, table, reserved, immediate}
 use Rattle.kind.specs.declared.Rule.{Rule}
 
 pub rule-past : (k : ℕ) → 15 < k → rule k ≡ reserved
@@ -30,3 +32,21 @@ rule-row k = record {
   unit = leb-true _ _ (every-getD (λ r. leb (r .scale + r .each) 4) table k reserved refl refl);
   need = ltb-true _ _ (every-getD (λ r. ltb (r .fixed + (r .scale + r .each) * min (r .most) (2 ^ 63 - 1)) (2 ^ 64)) table k reserved refl refl);
 }
+
+-- an immediate has no items
+pub record None (r : Rule) : Type 0 where
+  pub single : r .single ≡ 0
+  pub each : r .each ≡ 0
+  pub args : r .args ≡ false
+
+pub immediate-none : (r : Rule) → immediate r ≡ true → None r
+immediate-none r e =
+    let used = ltb 0 (r .lows) in
+    let s = eqb (r .single) 0 in
+    let i = eqb (r .each) 0 in
+    let l = and-l (used && s && i) (not (r .args)) e in
+    record {
+      single = eqb-true (r .single) 0 (and-r used s (and-l (used && s) i l));
+      each = eqb-true (r .each) 0 (and-r (used && s) i l);
+      args = not-true (r .args) (and-r (used && s && i) (not (r .args)) e);
+    }

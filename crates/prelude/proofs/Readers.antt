@@ -1,6 +1,6 @@
 -- Readers that answered: what their parts answered, in continuation style, so that what comes out is a variable.
 --
--- In order: an error is no value; `guard`, `then`, `orError`; the `do` form's `>>` and `>>=`; `measured`: under a
+-- In order: an error is no value; `guard`, `then`, `orError`; the `do` form's `>>` and `>>=`, and a test that passed; `measured`: under a
 -- guard, and what an answer that was told says of the reader's.
 use mathlib.Core.Path.{_≡_, refl, sym, ap}
 use mathlib.Core.Bool.{Bool, true, false}
@@ -39,6 +39,11 @@ module _ {E A X : Type 0} {a : A} {s : List ℕ} where
       → ((b : B) (n : List ℕ) → r m ≡ got b n → f b n ≡ got a s → X) → X
   unfolding _>>=_
   bind-by r f m q k = then-by _ _ q k
+
+-- a test that passed
+pub need-ok : {E A : Type 0} {a : A} {s : List ℕ} (c : Need E) (r : List ℕ → Res E A) (m : List ℕ) → c .test ≡ true → r m ≡ got a s → (c >> r) m ≡ got a s
+unfolding _>>_ guard
+need-ok c r m t q = rw t q
 
 pub measured-guard : {E A : Type 0} (t : Bool) (e : E) (r : Res E A) → measured (guard t e r) ≡ pick t (measured r) (error e)
 unfolding guard measured

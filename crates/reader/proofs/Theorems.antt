@@ -1,22 +1,26 @@
 -- What the queries promise, of every file.
 --
--- In order: an item number at or past the count is NO_ITEM (`no-item`); following goes down by each hop (`follow-down`); what following
--- comes to is no pointer (`follow-stops`).
+-- In order: an item number at or past the count is NO_ITEM (`no-item`); item i + 1 starts where skipping item i ends (`item-next`), and the
+-- last item ends where the value does (`item-last`); following goes down by each hop (`follow-down`).
 use mathlib.Core.Path.{_≡_, refl, sym, ap, _∙_, subst}
-use Prim.Native.Nat.{ℕ, _+_, _≤_}
+use Prim.Native.Nat.{ℕ, zero, suc, _+_, _≤_}
 use mathlib.Core.Bool.{Bool, true, false}
 use mathlib.Core.List.{List}
 use native.Mathlib.Omega.{arith}
 use lib.ListN.{length, take}
+use lib.Dec.{leb, ltb}
 use borrow.Author.Tests.{le-leb}
 use Rattle.prelude.specs.Answer.{Answer, ok, error, bind}
+use Rattle.prelude.specs.Pick.{pick}
+use Rattle.prelude.proofs.Tests.{pick-elim}
 use Rattle.prelude.proofs.Readers.{bind-ok}
-use Rattle.error.specs.Error.{Fault, fault, NO_ITEM}
+use Rattle.error.specs.Error.{Fault, fault, BAD_TARGET, NO_ITEM}
 use Rattle.kind.specs.Kind.{rule, immediate}
 use Rattle.scan.specs.declared.Head.{Head}
-use Rattle.reader.specs.Region.{gate, inside, peek}
-use Rattle.reader.specs.Query.{Met, spot, trail, itemOn, itemIn, itemOf, followIn, followOf}
-use Rattle.reader.proofs.Laws.{inside-ok, trail-reaches, Reaches}
+use Rattle.scan.proofs.Places.{scanAt-item}
+use Rattle.reader.specs.Region.{gate, inside, below, peek, walk}
+use Rattle.reader.specs.Query.{Met, spot, trail, skipIn, startsIn, itemOn, itemIn, itemOf, followIn, followOf}
+use Rattle.reader.proofs.Laws.{inside-ok, peek-scan, walk-none, trail-reaches, Reaches}
 
 -- of a value that reads without fault and has items, whatever stands behind it
 pub no-item : (file : List ℕ) (at i n : ℕ) (h : Head) → ok n ≡ gate (length file) at → ok h ≡ peek false (take n file) at
@@ -24,6 +28,82 @@ pub no-item : (file : List ℕ) (at i n : ℕ) (h : Head) → ok n ≡ gate (len
 unfolding itemIn itemOn
 no-item file at i n h inside looked kind past =
     inside-ok file at (λ s. itemIn s at i) n inside (bind-ok (itemOn (take n file) at i) looked (rw (kind, le-leb _ _ past)))
+
+-- ---- items one after the other
+
+module _ (s : List ℕ) where
+  -- an item, skipped as a value of its own, ends where it ends as an item
+  skip-item : (q : ℕ) (h : Head) → ok h ≡ peek true s q → ok (h .end) ≡ skipIn s q
+  unfolding peek skipIn bind
+  skip-item q h e =
+      let scanned = peek-scan true s q h e in
+      let i = scanAt-item s q h scanned in
+      let looked : ok h ≡ pick (below q h) (error (fault BAD_TARGET q)) (ok h) = rw (← scanned) at e in
+      bind-ok _ (bind-ok _ (i .value) looked) (walk-none s (h .end) (h .items) (omega (arith, i .none)))
+
+  -- one item more
+  walk-suc : (k q : ℕ) → walk s (suc k) q ≡ bind (walk s k q) (λ p. bind (peek true s p) (λ h. ok (h .end)))
+  unfolding walk bind
+  walk-suc zero q = refl
+  walk-suc (suc k) q = by-cases (peek true s q) (walk-suc k)
+    where
+      by-cases : (a : Answer Fault Head) → ((p : ℕ) → walk s (suc k) p ≡ bind (walk s k p) (λ p. bind (peek true s p) (λ h. ok (h .end))))
+          → bind a (λ h. walk s (suc k) (h .end)) ≡ bind (bind a (λ h. walk s k (h .end))) (λ p. bind (peek true s p) (λ h. ok (h .end)))
+      by-cases (ok h) more = more (h .end)
+      by-cases (error e) more = refl
+
+  walk-next : (k q p e : ℕ) → ok p ≡ walk s k q → ok e ≡ walk s (suc k) q → ok e ≡ skipIn s p
+  unfolding bind
+  walk-next k q p e here next = by-cases (peek true s p) refl (rw (walk-suc k q, ← here) at next)
+    where
+      by-cases : (a : Answer Fault Head) → peek true s p ≡ a → ok e ≡ bind a (λ h. ok (h .end)) → ok e ≡ skipIn s p
+      by-cases (ok h) q e′ = e′ ∙ skip-item p h (sym q)
+      by-cases (error f) q e′ = let z : _≡_ {A = ℕ} 0 1 = cc in absurd (omega arith)
+
+  -- what an item's offset tells
+  record Found (at i p : ℕ) : Type 0 where
+    head : Head
+    looked : ok head ≡ peek false s at
+    walked : ok p ≡ walk s i (head .end)
+
+  abbrev Finds : ℕ → ℕ → Answer Fault ℕ → Type 0
+  Finds at i (ok p) = Found at i p
+  Finds at i (error e) = Unit {0}
+
+  finds : (at i : ℕ) → Finds at i (itemIn s at i)
+  unfolding itemIn itemOn startsIn bind
+  finds at i = by-head (peek false s at) refl
+    where
+      by-walk : (h : Head) → ok h ≡ peek false s at → (a : Answer Fault ℕ) → a ≡ walk s i (h .end) → Finds at i (bind a (startsIn (length s)))
+      by-walk h e (ok p) w =
+          pick-elim (Finds at i) (ltb p (length s)) (λ t. record { head = h; looked = e; walked = w }) (λ t. tt)
+      by-walk h e (error f) w = tt
+
+      by-head : (a : Answer Fault Head) → peek false s at ≡ a → Finds at i (bind a (itemOn s at i))
+      by-head (ok h) e =
+          pick-elim (Finds at i) (immediate (rule (h .kind))) (λ t. tt)
+          (λ t. pick-elim (Finds at i) (leb (h .items) i) (λ u. tt) (λ u. by-walk h (sym e) (walk s i (h .end)) refl))
+      by-head (error f) e = tt
+
+  found : (at i p : ℕ) → ok p ≡ itemIn s at i → Found at i p
+  found at i p e = subst (Finds at i) (sym e) (finds at i)
+
+  pub item-next : (at i p e : ℕ) → ok p ≡ itemIn s at i → ok e ≡ itemIn s at (suc i) → ok e ≡ skipIn s p
+  item-next at i p e here next =
+      let f = found at i p here in
+      let g = found at (suc i) e next in
+      let same : g .head ≡ f .head = cc (f .looked, g .looked) in
+      walk-next i (f .head .end) p e (f .walked) (rw same at (g .walked))
+
+  pub item-last : (at i p e : ℕ) (h : Head) → ok h ≡ peek false s at → h .items ≡ suc i → ok p ≡ itemIn s at i → ok e ≡ skipIn s at → ok e ≡ skipIn s p
+  unfolding skipIn bind
+  item-last at i p e h looked count here end =
+      let f = found at i p here in
+      let same : f .head ≡ h = cc (f .looked) in
+      let all : ok e ≡ walk s (suc i) (h .end) = rw count at (rw (← looked) at end) in
+      walk-next i (h .end) p e (rw same at (f .walked)) all
+
+-- ---- following
 
 -- the offset told and the pointers met come to no more than the offset asked
 abbrev Down : ℕ → Answer Fault (ℕ × ℕ) → Type 0

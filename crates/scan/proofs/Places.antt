@@ -1,15 +1,15 @@
 -- Where a token that was scanned stands.
 --
 -- In order: behind its header and in its region (`scan-within`); what was emitted at an offset is read there (`scanAt-emit`), and what is
--- read at an offset is what would be emitted there, its body the bytes from `first` to `end` (`emit-scanAt`).
-use mathlib.Core.Path.{_≡_, refl, ap, _∙_}
+-- read at an offset is what would be emitted there, its body the bytes from `first` to `end` (`emit-scanAt`); an item reads as a value too (`scanAt-item`).
+use mathlib.Core.Path.{_≡_, refl, sym, ap, _∙_}
 use Prim.Native.Nat.{ℕ, suc, _+_, _-_, _≤_, _<_}
-use mathlib.Core.Bool.{Bool}
+use mathlib.Core.Bool.{Bool, true, false}
 use mathlib.Core.List.{List, _++_}
 use native.Mathlib.Omega.{arith}
 use lib.ListN.{length, take, drop, length-drop, length-append}
 use lib.Seq.{take-append-seam, drop-append-seam, drop-drop}
-use Rattle.prelude.specs.Answer.{ok, Res, got, bad}
+use Rattle.prelude.specs.Answer.{Answer, ok, Res, got, bad}
 use Rattle.prelude.specs.Bytes.{Bytes}
 use Rattle.prelude.proofs.Parts.{bytes-drop}
 use Rattle.error.specs.Error.{Fault}
@@ -17,7 +17,7 @@ use Rattle.kind.specs.Kind.{rule, pending}
 use Rattle.token.specs.Token.{Token, emit, Fits}
 use Rattle.token.specs.Scan.{scan}
 use Rattle.token.proofs.Laws.{length-emit, drop-emit, scan-emit, emit-scan}
-use Rattle.token.proofs.Ends.{Left, scan-left}
+use Rattle.token.proofs.Ends.{Left, scan-left, scan-item, item-pending}
 use Rattle.scan.specs.Told.{seen, scanAt}
 use Rattle.scan.specs.declared.Head.{Head}
 
@@ -60,6 +60,13 @@ within-left s at h (bad f) left e = seen-bad (length s) h f e
 pub scan-within : (inner : Bool) (s : List ℕ) (at : ℕ) (h : Head) → ok h ≡ scanAt inner s at → Within s at h
 unfolding scanAt
 scan-within inner s at h e = within-left s at h (scan inner at (drop at s)) (scan-left inner at (drop at s)) e
+
+seen-items : (len : ℕ) (h : Head) (t : Token) (rest : List ℕ) → ok h ≡ seen len (got t rest) → h .items ≡ pending (rule (t .kind)) (t .n) (t .args)
+unfolding seen
+seen-items len h t rest e = let same = headOf h e in ap (λ (x : Head). x .items) same
+  where
+    headOf : {g : Head} (h : Head) → _≡_ {A = Answer Fault Head} (ok h) (ok g) → h ≡ g
+    headOf h e = cc
 
 -- ---- by what is emitted
 
@@ -116,4 +123,22 @@ emit-scanAt inner s at h b e = by-cases (scan inner at (drop at s)) refl e
         let all : length s ≡ at + length (emit t) + length rest = omega (arith, ap length (r .same), length-drop at s) in
         let head : h ≡ headAt at t = cc (head-seen at (length s) t rest all) in
         record { token = t; rest = rest; same = r .same; fits = r .fits; head = head; body = rw head (body-read s rest at t (r .same)) }
+    by-cases (bad f) q e′ = seen-bad _ h f e′
+
+-- ---- items
+
+-- an item reads as a value too, and has no items itself
+pub record Item (s : List ℕ) (at : ℕ) (h : Head) : Type 0 where
+  pub value : ok h ≡ scanAt false s at
+  pub none : h .items ≡ 0
+
+pub scanAt-item : (s : List ℕ) (at : ℕ) (h : Head) → ok h ≡ scanAt true s at → Item s at h
+unfolding scanAt
+scanAt-item s at h e = by-cases (scan true at (drop at s)) refl e
+  where
+    by-cases : (r : Res Fault Token) → scan true at (drop at s) ≡ r → ok h ≡ seen (length s) r → Item s at h
+    by-cases (got t rest) q e′ = record {
+      value = e′ ∙ ap (seen (length s)) (sym (scan-item at (drop at s) t rest q));
+      none = seen-items (length s) h t rest e′ ∙ item-pending at (drop at s) t rest q;
+    }
     by-cases (bad f) q e′ = seen-bad _ h f e′

@@ -1,19 +1,22 @@
 -- What `scan` leaves of the bytes, in any form of the numbers, not the shortest alone.
 --
--- In order: the rest behind a number is an end of the bytes; the body and the rest behind a token are shorter than them.
+-- In order: the rest behind a number is an end of the bytes; the body and the rest behind a token are shorter than them; an item reads as
+-- a value too, and has no items itself.
 use mathlib.Core.Path.{_≡_, refl, ap, _∙_}
 use Prim.Native.Nat.{ℕ, suc, _+_, _-_, _/_, _≤_, _<_}
-use mathlib.Core.Bool.{Bool, true, false}
+use mathlib.Core.Bool.{Bool, true, false, true≢false}
 use mathlib.Core.List.{List, [], _∷_}
+use native.Mathlib.Nat.{zero-mul}
 use native.Mathlib.Omega.{arith}
+use borrow.Author.Tests.{not-true, not-false}
 use lib.ListN.{length, drop, length-drop, length-append}
 use lib.Seq.{drop-drop}
 use Rattle.prelude.specs.Answer.{Res, got}
 use Rattle.prelude.proofs.Tests.{facts}
-use Rattle.prelude.proofs.Readers.{orError-by, need-by, bind-by, bad-got}
+use Rattle.prelude.proofs.Readers.{orError-by, need-by, need-ok, bind-by, bad-got}
 use Rattle.leb128.proofs.Laws.{get-ends}
 use Rattle.kind.specs.Kind.{rule, pending}
-use Rattle.kind.proofs.Laws.{rule-row}
+use Rattle.kind.proofs.Laws.{rule-row, immediate-none}
 use Rattle.token.specs.Token.{Token}
 use Rattle.token.specs.Scan.{getIf, number, scanKind, scan}
 use Rattle.token.proofs.Laws.{body-by}
@@ -69,3 +72,33 @@ scan-left inner at (h ∷ s) t rest e =
       used = omega facts;
       most = omega facts;
     })))))))
+
+-- ---- items
+
+-- a number that is not there is 0
+number-none : (at : ℕ) (w : Bool) (s : List ℕ) (v : ℕ) (rest : List ℕ) → w ≡ false → number at w s ≡ got v rest → v ≡ 0
+unfolding number getIf
+number-none at true s v rest f e = absurd (true≢false f)
+number-none at false s v rest f e = orError-by _ _ e (λ e₁. cc)
+
+-- what is read as an item is read as a value
+pub scan-item : (at : ℕ) (s : List ℕ) (t : Token) (rest : List ℕ) → scan true at s ≡ got t rest → scan false at s ≡ got t rest
+unfolding scan scanKind
+scan-item at [] t rest e = bad-got e
+scan-item at (h ∷ s) t rest e =
+    need-by _ _ _ e (λ low e₁. need-by _ _ _ e₁ (λ flat e₂. need-ok _ _ s low (need-ok _ _ s refl e₂)))
+
+-- and has no items
+pub item-pending : (at : ℕ) (s : List ℕ) (t : Token) (rest : List ℕ) → scan true at s ≡ got t rest → pending (rule (t .kind)) (t .n) (t .args) ≡ 0
+unfolding scan scanKind
+item-pending at [] t rest e = bad-got e
+item-pending at (h ∷ s) t rest e =
+    need-by _ _ _ e (λ low e₁.
+    need-by _ _ _ e₁ (λ flat e₂.
+    bind-by _ _ _ e₂ (λ v s₁ ev e₃.
+    need-by _ _ _ e₃ (λ most e₄.
+    bind-by _ _ _ e₄ (λ a s₂ ea e₅.
+    body-by _ _ _ _ a s₂ t rest e₅ (λ b et sc sized room.
+    let none = immediate-none (rule (h / 16)) (not-false _ (not-true _ flat)) in
+    let z = number-none _ (rule (h / 16) .args) s₁ a s₂ (none .args) ea in
+    rw (et, none .single, none .each, z, zero-mul)))))))
