@@ -1,9 +1,9 @@
 -- Tests as equations, both ways, and `pick`.
 --
--- In order: a property of both arms of a `pick`, and equal arms; one order or the other, inside a term; tests joined by `&&`; tests
+-- In order: a property of both arms of a `pick`, and equal arms; one order or the other, inside a term; tests joined by `&&` and `||`; tests
 -- that a flag tells, and that follow from each other; the rulesets. The tests themselves (`lt-ltb`, `ltb-true`, ..) are those of `borrow.Author.Tests`.
 use mathlib.Core.Path.{_≡_, refl, sym, _∙_}
-use mathlib.Core.Bool.{Bool, true, false, _&&_, false≢true}
+use mathlib.Core.Bool.{Bool, true, false, _&&_, _||_, false≢true}
 use Prim.Native.Nat.{ℕ, _≤_, _<_}
 use native.Mathlib.Decide.{decLe}
 use native.Mathlib.Nat.{lt-of-not-le}
@@ -32,6 +32,11 @@ and-l false b e = e
 pub and-r : (a b : Bool) → a && b ≡ true → b ≡ true
 and-r true b e = e
 and-r false b e = absurd (false≢true e)
+
+-- tests joined by `||` of which one passed
+pub or-true : {X : Type 0} (a b : Bool) → a || b ≡ true → (a ≡ true → X) → (b ≡ true → X) → X
+or-true true b e f g = f refl
+or-true false b e f g = g e
 
 -- a test that a flag tells
 pub le-of-flag : (a b : ℕ) {t : Bool} → t ≡ leb a b → t ≡ true → a ≤ b

@@ -12,7 +12,7 @@ use native.Mathlib.Omega.{arith}
 use lib.Dec.{eqb, ltb, leb}
 use lib.ListN.{length, take, drop, getD, drop-of-length-le}
 use lib.Seq.{length-take-le, drop-cons}
-use borrow.Author.Tests.{ltb-true, eqb-true, eqb-false, eq-eqb, ne-eqb}
+use borrow.Author.Tests.{lt-ltb, ltb-true, eqb-true, eqb-false, eq-eqb, ne-eqb}
 use Rattle.prelude.specs.Pick.{pick}
 use Rattle.prelude.specs.Loop.{Turn, go, stop, follow}
 use Rattle.prelude.specs.Answer.{Answer, ok, error, bind}
@@ -33,9 +33,9 @@ use Rattle.reader.specs.Stages.{Looked, orStop, valueOf, keyOf, followOf
 
 -- ---- the region
 
--- a region of n bytes has the offset and is in the file
+-- a region of n bytes has the offset, is in the file, and is the one of every offset before
 abbrev Gated : ℕ → ℕ → Answer Fault ℕ → Type 0
-Gated len at (ok n) = (at < n) × (n ≤ len)
+Gated len at (ok n) = (at < n) × (n ≤ len) × ((p : ℕ) → p ≤ at → ok n ≡ gate len p)
 Gated len at (error e) = Unit {0}
 
 gated : (len at : ℕ) → Gated len at (gate len at)
@@ -43,10 +43,13 @@ unfolding gate
 gated len at =
     pick-elim (Gated len at) (eqb len 0) (λ e. tt)
     (λ e. pick-elim (Gated len at) (ltb LIMIT len) (λ f. tt)
-    (λ f. pick-elim (Gated len at) (ltb at (len - 1)) (λ g. (ltb-true at (len - 1) g, omega arith)) (λ g. tt)))
+    (λ f. pick-elim (Gated len at) (ltb at (len - 1)) (λ g. let l = ltb-true at (len - 1) g in (l, omega arith, λ p h. rw (e, f, lt-ltb p (len - 1) (omega arith)))) (λ g. tt)))
 
-gate-within : (len at n : ℕ) → ok n ≡ gate len at → (at < n) × (n ≤ len)
+gate-within : (len at n : ℕ) → ok n ≡ gate len at → (at < n) × (n ≤ len) × ((p : ℕ) → p ≤ at → ok n ≡ gate len p)
 gate-within len at n e = subst (Gated len at) (sym e) (gated len at)
+
+pub gate-before : (len at n p : ℕ) → ok n ≡ gate len at → p ≤ at → ok n ≡ gate len p
+gate-before len at n p e h = gate-within len at n e .2 p h
 
 module _ (file : List ℕ) (at : ℕ) where
   -- the region, as the code takes it

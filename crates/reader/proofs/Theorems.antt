@@ -1,26 +1,30 @@
 -- What the queries promise, of every file.
 --
 -- In order: an item number at or past the count is NO_ITEM (`no-item`); item i + 1 starts where skipping item i ends (`item-next`), and the
--- last item ends where the value does (`item-last`); following goes down by each hop (`follow-down`).
+-- last item ends where the value does (`item-last`); following goes down by each hop (`follow-down`); a body is the
+-- text or byte string that reading tells where following comes to (`body-read`).
 use mathlib.Core.Path.{_≡_, refl, sym, ap, _∙_, subst}
 use Prim.Native.Nat.{ℕ, zero, suc, _+_, _≤_}
-use mathlib.Core.Bool.{Bool, true, false}
+use mathlib.Core.Bool.{Bool, true, false, _||_}
+use mathlib.Core.Logic.{_⊎_, inl, inr}
 use mathlib.Core.List.{List}
 use native.Mathlib.Omega.{arith}
 use lib.ListN.{length, take}
-use lib.Dec.{leb, ltb}
-use borrow.Author.Tests.{le-leb}
+use lib.Dec.{eqb, leb, ltb}
+use borrow.Author.Tests.{le-leb, eqb-true}
 use Rattle.prelude.specs.Answer.{Answer, ok, error, bind}
 use Rattle.prelude.specs.Pick.{pick}
-use Rattle.prelude.proofs.Tests.{pick-elim}
+use Rattle.prelude.proofs.Tests.{pick-elim, or-true}
 use Rattle.prelude.proofs.Readers.{bind-ok}
 use Rattle.error.specs.Error.{Fault, fault, BAD_TARGET, NO_ITEM}
 use Rattle.kind.specs.Kind.{rule, immediate}
 use Rattle.scan.specs.declared.Head.{Head}
 use Rattle.scan.proofs.Places.{scanAt-item}
 use Rattle.reader.specs.Region.{gate, inside, below, peek, walk}
-use Rattle.reader.specs.Query.{Met, spot, trail, skipIn, startsIn, itemOn, itemIn, itemOf, followIn, followOf}
-use Rattle.reader.proofs.Laws.{inside-ok, peek-scan, walk-none, trail-reaches, Reaches}
+use Rattle.reader.specs.Query.{Met, spot, trail, skipIn, startsIn, itemOn, itemIn, itemOf, followIn, followOf, bodyAt, bodyIn, bodyOf}
+use Rattle.reader.specs.Read.{shown, readIn, readOf}
+use Rattle.reader.specs.declared.Value.the-variants.{Text, Bytes}
+use Rattle.reader.proofs.Laws.{gate-before, inside-ok, peek-scan, shown-kind, walk-none, trail-reached, trail-reaches, Reaches}
 
 -- of a value that reads without fault and has items, whatever stands behind it
 pub no-item : (file : List ℕ) (at i n : ℕ) (h : Head) → ok n ≡ gate (length file) at → ok h ≡ peek false (take n file) at
@@ -128,3 +132,58 @@ follow-downs file at = by-cases (gate (length file) at)
 
 pub follow-down : (file : List ℕ) (at place hops : ℕ) → ok (place, hops) ≡ followOf file at → place + hops ≤ at
 follow-down file at place hops e = subst (Down at) (sym e) (follow-downs file at)
+
+-- ---- bodies
+
+-- the part of len bytes from `first` on is the text or byte string that reading tells where following from `at` comes to
+pub record Body (file : List ℕ) (at first len : ℕ) : Type 0 where
+  pub place : ℕ
+  pub hops : ℕ
+  pub follows : ok (place, hops) ≡ followOf file at
+  pub reads : (ok (Text first len) ≡ readOf file place) ⊎ (ok (Bytes first len) ≡ readOf file place)
+
+abbrev Bodied : List ℕ → ℕ → Answer Fault (ℕ × ℕ) → Type 0
+Bodied file at (ok p) = Body file at (p .0) (p .1)
+Bodied file at (error e) = Unit {0}
+
+module _ (file : List ℕ) (at n : ℕ) (gated : ok n ≡ gate (length file) at) where
+  abbrev region : List ℕ
+  region = take n file
+
+  body-met : (m : Met) → ok m ≡ trail region (spot at 0) → Bodied file at (bodyAt (m .place) (m .head))
+  unfolding followIn readIn
+  body-met m e =
+      let r = trail-reached region (spot at 0) m e in
+      let h = m .head in
+      let here = gate-before (length file) at n (m .place) gated (omega (arith, r .down)) in
+      let follows : ok (m .place, m .hops) ≡ followOf file at = inside-ok file at (λ s. followIn s at) n gated (bind-ok _ e refl) in
+      let reads : ok (shown region (m .place) h) ≡ readOf file (m .place) = inside-ok file (m .place) (λ s. readIn s (m .place)) n here (bind-ok _ (r .looked) refl) in
+      pick-elim (Bodied file at) (eqb (h .kind) 4 || eqb (h .kind) 5)
+      (λ t. record {
+        place = m .place;
+        hops = m .hops;
+        follows = follows;
+        reads = or-true (eqb (h .kind) 4) (eqb (h .kind) 5) t
+            (λ k. inl (ap ok (shown-kind region (m .place) h 4 (eqb-true (h .kind) 4 k)) ∙ reads))
+            (λ k. inr (ap ok (shown-kind region (m .place) h 5 (eqb-true (h .kind) 5 k)) ∙ reads));
+      })
+      (λ t. tt)
+
+  body-bodied : Bodied file at (bodyIn region at)
+  unfolding bodyIn bind
+  body-bodied = by-cases (trail region (spot at 0)) refl
+    where
+      by-cases : (a : Answer Fault Met) → trail region (spot at 0) ≡ a → Bodied file at (bind a (λ m. bodyAt (m .place) (m .head)))
+      by-cases (ok m) e = body-met m (sym e)
+      by-cases (error f) e = tt
+
+body-bodies : (file : List ℕ) (at : ℕ) → Bodied file at (bodyOf file at)
+unfolding inside bind
+body-bodies file at = by-cases (gate (length file) at) refl
+  where
+    by-cases : (a : Answer Fault ℕ) → gate (length file) at ≡ a → Bodied file at (bind a (λ n. bodyIn (take n file) at))
+    by-cases (ok n) e = body-bodied file at n (sym e)
+    by-cases (error f) e = tt
+
+pub body-read : (file : List ℕ) (at first len : ℕ) → ok (first, len) ≡ bodyOf file at → Body file at first len
+body-read file at first len e = subst (Bodied file at) (sym e) (body-bodies file at)

@@ -27,20 +27,49 @@ pub enum Value {
     Float32(u32),
     Float64(u64),
     // The first offset of the bytes, and how many.
-    Text { first: usize, len: usize },
-    Bytes { first: usize, len: usize },
+    Text {
+        first: usize,
+        len: usize,
+    },
+    Bytes {
+        first: usize,
+        len: usize,
+    },
     // How many items, and the offset of the first; of a map also how many pairs, key and value by turns.
-    Array { items: u64, first: usize },
-    Map { pairs: u64, items: u64, first: usize },
+    Array {
+        items: u64,
+        first: usize,
+    },
+    Map {
+        pairs: u64,
+        items: u64,
+        first: usize,
+    },
     // The tag, and the offset of its one item.
-    Tag { tag: u64, item: usize },
+    Tag {
+        tag: u64,
+        item: usize,
+    },
     // The index of a variant, with no item, with the offset of its one item, and with many.
-    Variant { index: u32 },
-    Variant1 { index: u32, item: usize },
-    VariantN { index: u32, items: u64, first: usize },
+    Variant {
+        index: u32,
+    },
+    Variant1 {
+        index: u32,
+        item: usize,
+    },
+    VariantN {
+        index: u32,
+        items: u64,
+        first: usize,
+    },
     // The offset of the target.
-    Reference { target: usize },
-    Pointer { target: usize },
+    Reference {
+        target: usize,
+    },
+    Pointer {
+        target: usize,
+    },
 }
 
 // The answer of `read`.
@@ -221,9 +250,7 @@ fn value_of(region: &[u8], at: usize, h: Head) -> Value
         };
     }
     if kind < 11 {
-        return Value::Variant {
-            index: n as u32,
-        };
+        return Value::Variant { index: n as u32 };
     }
     if kind < 12 {
         return Value::Variant1 {
