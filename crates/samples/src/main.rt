@@ -1,15 +1,36 @@
 // Runs the samples on standard input, a line each, and prints each line with its answer:
 //
-//   tokens HEX    the tokens of a region, each as its offset, kind, n, items, first and end; `end` behind the last one, or the error
+//   tokens HEX            the tokens of a region, each as its offset, kind, n, items, first and end; `end` behind the last, or the error
+//   skip AT FILE          where the value at AT ends
+//   item AT INDEX FILE    the offset of an item
+//   follow AT FILE        the offset that pointers lead to, and the pointers met
+//   lookup AT KEY FILE    the offset of the value of a key
+//   body AT FILE          the first offset and the length of a body, and its bytes
 //
-// An error is its name and its place. A line that begins with # is printed as it is.
+// FILE, KEY and the bytes of a body are in hex, FILE and KEY `-` for no bytes; AT and INDEX are decimal, a larger one counts as 2^64-1.
+// An error is its name and its place. Another query is answered by ?. A line that begins with # is printed as it is.
 use error::Error;
 use libc::STDIN_FILENO;
 use libc::STDOUT_FILENO;
+use reader::BodyResult;
+use reader::FollowResult;
+use reader::OffsetResult;
 use scan::Head;
 use scan::ScanResult;
 ghost use Prim.Native.Nat.{_≤_, _<_};
 ghost use lib.ListN.{length};
+ghost use Rattle.io.specs.Counts.{Counts};
+
+// What a line asks.
+enum Query {
+    Tokens,
+    Skip,
+    Item,
+    Follow,
+    Lookup,
+    Body,
+    Unknown,
+}
 
 fn write(s: &[u8]) {
     io::write_all(STDOUT_FILENO, s);
@@ -69,7 +90,60 @@ fn tokens(region: &[u8]) {
     write(b" end");
 }
 
-// ---- the lines
+// The answer of `skip`, `item` and `lookup`.
+fn offset(r: OffsetResult) {
+    match r {
+        OffsetResult::Ok(at) => decimal(at as u64),
+        OffsetResult::Err(e) => refusal(e),
+    }
+}
+
+fn follow(file: &[u8], at: usize) {
+    match reader::follow(file, at) {
+        FollowResult::Ok { at, hops } => {
+            decimal(at as u64);
+            decimal(hops as u64);
+        }
+        FollowResult::Err(e) => refusal(e),
+    }
+}
+
+fn body_place(file: &[u8], at: usize) {
+    match reader::body_place(file, at) {
+        BodyResult::Ok { first, len } => {
+            decimal(first as u64);
+            decimal(len as u64);
+        }
+        BodyResult::Err(e) => refusal(e),
+    }
+}
+
+fn byte(b: u8) {
+    io::print_hex(STDOUT_FILENO, b as u64, 2);
+}
+
+fn hex(part: &[u8]) {
+    let mut i: usize = 0;
+    while i < part.len() {
+        byte(part[i]);
+        i += 1;
+    }
+}
+
+// The bytes of a part; nothing of an empty one.
+fn bytes(part: &[u8]) {
+    if 0 < part.len() {
+        write(b" ");
+        hex(part);
+    }
+}
+
+fn body(file: &[u8], at: usize) {
+    body_place(file, at);
+    bytes(reader::body(file, at));
+}
+
+// ---- words
 
 // The value of a hex digit; 0 of another byte.
 fn digit(b: u8) -> u8
@@ -86,7 +160,7 @@ fn digit(b: u8) -> u8
 
 // The bytes that s has in hex, as far as they go into out; answers how many.
 fn unhex(s: &[u8], out: &mut [u8]) -> usize
-    ensures { λ r. ⌜ r ≤ length (now (out .exit)) ⌝ }
+    ensures { λ r. ⌜ Counts r (now (out .exit)) ⌝ }
 {
     let mut i: usize = 0;
     let mut n: usize = 0;
@@ -118,27 +192,130 @@ fn find(s: &[u8], at: usize, b: u8) -> usize
     i
 }
 
-// The answer to a query on the bytes that s has in hex.
-fn answer(s: &[u8], space: &mut [u8]) {
-    let n = unhex(s, space);
-    tokens(&space[..n]);
+// The first word of s.
+fn word(s: &[u8]) -> &[u8] {
+    let end = find(s, 0, b' ');
+    &s[0..end]
 }
 
-fn query(line: &[u8]) {
-    let end = find(line, 0, b' ');
-    if end < line.len() {
+// What stands behind the first word of s.
+fn behind(s: &[u8]) -> &[u8] {
+    let end = find(s, 0, b' ');
+    if end < s.len() {
         let start = end + 1;
-        let mut space = [0u8; 16384];
-        write(b":");
-        answer(&line[start..], &mut space);
+        return &s[start..];
     }
+    &s[end..]
+}
+
+// The offset of the last word of s.
+fn last(s: &[u8]) -> usize
+    ensures { λ r. ⌜ r ≤ length (now (s .entry)) ⌝ }
+{
+    let mut i = s.len();
+    while 0 < i {
+        if s[i - 1] == b' ' {
+            return i;
+        }
+        i -= 1;
+    }
+    i
+}
+
+// n with one digit more, at most 2^64-1.
+fn longer(n: usize, d: u8) -> usize {
+    let d = d as usize;
+    if (18446744073709551615 - d) / 10 < n {
+        return 18446744073709551615;
+    }
+    n * 10 + d
+}
+
+// The number that the first word of s is.
+fn number(s: &[u8]) -> usize {
+    let end = find(s, 0, b' ');
+    let mut i: usize = 0;
+    let mut n: usize = 0;
+    while i < end {
+        n = longer(n, digit(s[i]));
+        i += 1;
+    }
+    n
+}
+
+fn same(a: &[u8], b: &[u8]) -> bool {
+    if a.len() != b.len() {
+        return false;
+    }
+    let mut i: usize = 0;
+    while i < a.len() {
+        if a[i] != b[i] {
+            return false;
+        }
+        i += 1;
+    }
+    true
+}
+
+// ---- the lines
+
+// The query of a name.
+fn named(s: &[u8]) -> Query {
+    if same(s, b"tokens") {
+        return Query::Tokens;
+    }
+    if same(s, b"skip") {
+        return Query::Skip;
+    }
+    if same(s, b"item") {
+        return Query::Item;
+    }
+    if same(s, b"follow") {
+        return Query::Follow;
+    }
+    if same(s, b"lookup") {
+        return Query::Lookup;
+    }
+    if same(s, b"body") {
+        return Query::Body;
+    }
+    Query::Unknown
+}
+
+// A lookup of the key that s has in hex.
+fn lookup(file: &[u8], at: usize, s: &[u8]) {
+    let mut space = [0u8; 16384];
+    let n = unhex(s, &mut space);
+    offset(reader::lookup(file, at, &space[..n]));
+}
+
+// The answer to a query of these arguments.
+fn ask(q: Query, args: &[u8], file: &[u8]) {
+    match q {
+        Query::Tokens => tokens(file),
+        Query::Skip => offset(reader::skip(file, number(args))),
+        Query::Item => offset(reader::item(file, number(args), number(behind(args)))),
+        Query::Follow => follow(file, number(args)),
+        Query::Lookup => lookup(file, number(args), word(behind(args))),
+        Query::Body => body(file, number(args)),
+        Query::Unknown => write(b" ?"),
+    }
+}
+
+// The answer to a line, whose last word is the file.
+fn answer(line: &[u8]) {
+    let mut space = [0u8; 16384];
+    let start = last(line);
+    let n = unhex(&line[start..], &mut space);
+    write(b":");
+    ask(named(word(line)), behind(line), &space[..n]);
 }
 
 fn run(line: &[u8]) {
     write(line);
     if 0 < line.len() {
         if line[0] != b'#' {
-            query(line);
+            answer(line);
         }
     }
     write(b"\n");

@@ -1,7 +1,8 @@
--- `samples::unhex` is safe and ends, and answers at most the length of out.
+-- `samples::unhex` is safe and ends, and answers a count of its bytes.
 use mathlib.Core.Path.{_≡_}
 use Prim.Native.Nat.{_-_, _≤_}
 use lib.ListN.{length}
+use Rattle.io.proofs.Counting.{counts}
 use borrow.Author.Needs.{needs}
 use Rattle.samples.proofs.unhex.Statement.{statement}
 use Rattle.samples.proofs.unhex.Tie as tie
@@ -21,18 +22,18 @@ unhex-spec =
     (λ c. search needs)
     (λ c. search needs)
     (λ c. search needs)
+    (λ c. counts _ _ (search needs))
+    (λ c. search needs)
+    (λ c κs. search needs)
     (λ c. search needs)
     (λ c. search needs)
     (λ c κs. search needs)
     (λ c. search needs)
     (λ c. search needs)
-    (λ c κs. search needs)
     (λ c. search needs)
     (λ c. search needs)
     (λ c. search needs)
     (λ c. search needs)
     (λ c. search needs)
     (λ c. search needs)
-    (λ c. search needs)
-    (λ c. search needs)
-    (λ c. search needs))
+    (λ c. counts _ _ (search needs)))
