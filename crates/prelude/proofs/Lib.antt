@@ -8,3 +8,5 @@ pub mod Readers
 pub mod Parts
 -- loops
 pub mod Turns
+-- signed numbers
+pub mod Signs

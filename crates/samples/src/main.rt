@@ -1,6 +1,7 @@
 // Runs the samples on standard input, a line each, and prints each line with its answer:
 //
 //   tokens HEX            the tokens of a region, each as its offset, kind, n, items, first and end; `end` behind the last, or the error
+//   read AT FILE          the value at AT: its name, then its numbers in the order of `reader::Value`
 //   skip AT FILE          where the value at AT ends
 //   item AT INDEX FILE    the offset of an item
 //   follow AT FILE        the offset that pointers lead to, and the pointers met
@@ -15,15 +16,18 @@ use libc::STDOUT_FILENO;
 use reader::BodyResult;
 use reader::FollowResult;
 use reader::OffsetResult;
+use reader::ReadResult;
+use reader::Value;
 use scan::Head;
 use scan::ScanResult;
-ghost use Prim.Native.Nat.{_≤_, _<_};
+ghost use Prim.Native.Nat.{_≤_, _<_, _^_};
 ghost use lib.ListN.{length};
 ghost use Rattle.io.specs.Counts.{Counts};
 
 // What a line asks.
 enum Query {
     Tokens,
+    Read,
     Skip,
     Item,
     Follow,
@@ -91,6 +95,74 @@ fn tokens(region: &[u8]) {
 }
 
 // The answer of `skip`, `item` and `lookup`.
+// z, or -z-1 of a negative z.
+fn magnitude(z: i64) -> u64
+    ensures { λ r. ⌜ r < 2 ^ 63 ⌝ }
+{
+    if z < 0 { (-1 - z) as u64 } else { z as u64 }
+}
+
+fn integer(z: i64) {
+    let m = magnitude(z);
+    if z < 0 {
+        write(b" integer -");
+        io::print_decimal(STDOUT_FILENO, m + 1);
+        return;
+    }
+    one(b" integer", m);
+}
+
+fn one(name: &[u8], a: u64) {
+    write(name);
+    decimal(a);
+}
+
+fn two(name: &[u8], a: u64, b: u64) {
+    one(name, a);
+    decimal(b);
+}
+
+fn three(name: &[u8], a: u64, b: u64, c: u64) {
+    two(name, a, b);
+    decimal(c);
+}
+
+fn value(v: Value) {
+    match v {
+        Value::False => write(b" false"),
+        Value::True => write(b" true"),
+        Value::Null => write(b" null"),
+        Value::Integer(z) => integer(z),
+        Value::Float32(bits) => one(b" float32", bits as u64),
+        Value::Float64(bits) => one(b" float64", bits),
+        Value::Text { first, len } => two(b" text", first as u64, len as u64),
+        Value::Bytes { first, len } => two(b" bytes", first as u64, len as u64),
+        Value::Array { items, first } => two(b" array", items, first as u64),
+        Value::Map {
+            pairs,
+            items,
+            first,
+        } => three(b" map", pairs, items, first as u64),
+        Value::Tag { tag, item } => two(b" tag", tag, item as u64),
+        Value::Variant { index } => one(b" variant", index as u64),
+        Value::Variant1 { index, item } => two(b" variant1", index as u64, item as u64),
+        Value::VariantN {
+            index,
+            items,
+            first,
+        } => three(b" variantn", index as u64, items, first as u64),
+        Value::Reference { target } => one(b" reference", target as u64),
+        Value::Pointer { target } => one(b" pointer", target as u64),
+    }
+}
+
+fn read(r: ReadResult) {
+    match r {
+        ReadResult::Ok(v) => value(v),
+        ReadResult::Err(e) => refusal(e),
+    }
+}
+
 fn offset(r: OffsetResult) {
     match r {
         OffsetResult::Ok(at) => decimal(at as u64),
@@ -264,6 +336,9 @@ fn named(s: &[u8]) -> Query {
     if same(s, b"tokens") {
         return Query::Tokens;
     }
+    if same(s, b"read") {
+        return Query::Read;
+    }
     if same(s, b"skip") {
         return Query::Skip;
     }
@@ -293,6 +368,7 @@ fn lookup(file: &[u8], at: usize, s: &[u8]) {
 fn ask(q: Query, args: &[u8], file: &[u8]) {
     match q {
         Query::Tokens => tokens(file),
+        Query::Read => read(reader::read(file, number(args))),
         Query::Skip => offset(reader::skip(file, number(args))),
         Query::Item => offset(reader::item(file, number(args), number(behind(args)))),
         Query::Follow => follow(file, number(args)),
