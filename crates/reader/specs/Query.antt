@@ -3,7 +3,8 @@
 --   skipOf file at          where the value ends; its items are looked at
 --   itemOf file at i        the offset of item i: WRONG_KIND of a kind without items, NO_ITEM, the items before it, and TRUNC where it would
 --                           start at the region's end
---   trail s at              from pointer to pointer to a value of another kind: its offset, its head, and the pointers met
+--   trail s p               from the spot p, an offset and the pointers met before it, from pointer to pointer to a value of another kind: its
+--                           offset, its head, and the pointers met
 --   followOf file at        the same from any offset of a file: offset and hops
 --   lookupOf file at key    in a map, the offset of the value of the first pair whose key, followed, is a text of these bytes
 --   bodyOf file at          first offset and length of the text or byte string that `at` leads to

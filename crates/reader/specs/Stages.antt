@@ -3,6 +3,7 @@
 --   Looked s at h     what a head that was looked at as a value at `at` of the region s tells of itself
 --   pairOf s key q    one pair of a map, from q on: where the next one starts, or the answer; its stages: the key is looked at
 --                     (`pairOf`), followed (`followOfKey`), held against `key` (`keyOf`), the value is looked at (`valueOf`)
+--   toldTrail r       a `TrailResult`: where following came to, or the error's number and place
 --   toldPair r        a `PairResult` as such a turn
 --   orStop a f        what f makes of a's value; a stop with a's error where it is one
 use Prim.Native.Nat.{ℕ, _≤_, _<_}
@@ -12,12 +13,15 @@ use lib.ListN.{length}
 use Rattle.prelude.specs.Pick.{pick}
 use Rattle.prelude.specs.Answer.{Answer, ok, error}
 use Rattle.prelude.specs.Loop.{Turn, go, stop}
+use Rattle.error.specs.Error as errors
 use Rattle.error.specs.Error.{Fault}
 use Rattle.kind.specs.Kind.{rule}
 use Rattle.scan.specs.declared.Head.{Head}
 use Rattle.reader.specs.Region.{peek}
-use Rattle.reader.specs.Query.{spot, trail, keyed, startsIn}
+use Rattle.reader.specs.Query.{Met, met, spot, trail, keyed, startsIn}
 use Rattle.reader.specs.Told.{toldOffset}
+use Rattle.reader.specs.declared.TrailResult as trails
+use Rattle.reader.specs.declared.TrailResult.the-variants as trails-are
 use Rattle.reader.specs.declared.PairResult.{PairResult}
 use Rattle.reader.specs.declared.PairResult.the-variants.{Next, Stop}
 
@@ -47,3 +51,7 @@ pairOf s key q = orStop (peek true s q) (λ h. followOfKey s key q (h .end))
 abbrev pub toldPair : PairResult → Turn ℕ (Answer Fault ℕ)
 toldPair (Next q) = go q
 toldPair (Stop r) = stop (toldOffset r)
+
+abbrev pub toldTrail : trails.TrailResult → Answer Fault Met
+toldTrail (trails-are.Ok at hops h) = ok (met at hops h)
+toldTrail (trails-are.Err e) = error (errors.told e)

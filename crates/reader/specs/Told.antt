@@ -1,11 +1,10 @@
 -- What the answers of this crate's functions mean.
 --
---   toldRead, toldOffset, toldFollow, toldTrail, toldBody    what is told, or the error's number and place
+--   toldRead, toldOffset, toldFollow, toldBody    what is told, or the error's number and place
 use Prim.Native.Nat.{ℕ}
 use Rattle.prelude.specs.Answer.{Answer, ok, error}
 use Rattle.error.specs.Error as errors
 use Rattle.error.specs.Error.{Fault}
-use Rattle.reader.specs.Query.{Met, met}
 use Rattle.reader.specs.declared.Value.{Value}
 use Rattle.reader.specs.declared.ReadResult as read
 use Rattle.reader.specs.declared.ReadResult.the-variants as read-is
@@ -13,8 +12,6 @@ use Rattle.reader.specs.declared.OffsetResult as offset
 use Rattle.reader.specs.declared.OffsetResult.the-variants as offset-is
 use Rattle.reader.specs.declared.FollowResult as follow
 use Rattle.reader.specs.declared.FollowResult.the-variants as follow-is
-use Rattle.reader.specs.declared.TrailResult as trail
-use Rattle.reader.specs.declared.TrailResult.the-variants as trail-is
 use Rattle.reader.specs.declared.BodyResult as body
 use Rattle.reader.specs.declared.BodyResult.the-variants as body-is
 
@@ -25,10 +22,6 @@ toldOffset (offset-is.Err e) = error (errors.told e)
 abbrev pub toldFollow : follow.FollowResult → Answer Fault (ℕ × ℕ)
 toldFollow (follow-is.Ok at hops) = ok (at, hops)
 toldFollow (follow-is.Err e) = error (errors.told e)
-
-abbrev pub toldTrail : trail.TrailResult → Answer Fault Met
-toldTrail (trail-is.Ok at hops h) = ok (met at hops h)
-toldTrail (trail-is.Err e) = error (errors.told e)
 
 abbrev pub toldBody : body.BodyResult → Answer Fault (ℕ × ℕ)
 toldBody (body-is.Ok first len) = ok (first, len)

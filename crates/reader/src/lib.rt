@@ -14,10 +14,10 @@ ghost use Rattle.scan.specs.Told as scans;
 ghost use Rattle.reader.specs.Region.{gate, below, peek, walk};
 ghost use Rattle.reader.specs.Read.{scalar, float, shown, readIn, readOf};
 ghost use Rattle.reader.specs.Query.{skipIn, skipOf, itemIn, itemOn, itemOf, startsIn, spot, trail, followIn, followOf, bodyAt, bodyIn, bodyOf, bodyBytes, same, keyed, pairs, lookupOn, lookupIn, lookupOf};
-ghost use Rattle.reader.specs.Stages.{Looked, valueOf, keyOf, followOfKey, pairOf, toldPair};
-ghost use Rattle.reader.specs.Told.{toldOffset, toldTrail, toldFollow, toldBody, toldRead};
+ghost use Rattle.reader.specs.Stages.{Looked, toldTrail, valueOf, keyOf, followOfKey, pairOf, toldPair};
+ghost use Rattle.reader.specs.Told.{toldOffset, toldFollow, toldBody, toldRead};
 
-// One value, as its header tells it. Items and text bytes are not looked at.
+// One value. Items and text bytes are not looked at.
 pub enum Value {
     False,
     True,
@@ -35,7 +35,7 @@ pub enum Value {
         first: usize,
         len: usize,
     },
-    // How many items, and the offset of the first; of a map also how many pairs, key and value by turns.
+    // How many items, and where the first would start, which may be the region's end; of a map also how many pairs, key and value by turns.
     Array {
         items: u64,
         first: usize,
@@ -45,12 +45,12 @@ pub enum Value {
         items: u64,
         first: usize,
     },
-    // The tag, and the offset of its one item.
+    // The tag, and where its one item would start.
     Tag {
         tag: u64,
         item: usize,
     },
-    // The index of a variant, with no item, with the offset of its one item, and with many.
+    // The index of a variant, with no item, with where its one item would start, and with many.
     Variant {
         index: u32,
     },
@@ -92,12 +92,12 @@ pub enum FollowResult {
 }
 
 // Where following came to, with the head there.
-pub enum TrailResult {
+enum TrailResult {
     Ok { at: usize, hops: usize, head: Head },
     Err(Error),
 }
 
-// The answer of `body`.
+// The answer of `body_place`.
 pub enum BodyResult {
     // The first offset of the body, and its length.
     Ok { first: usize, len: usize },
@@ -389,8 +389,8 @@ fn item_in(region: &[u8], at: usize, index: usize) -> OffsetResult
     }
 }
 
-// The offset of an item of the value at `at`, which is not followed. It takes time with the items before it: a loop over items goes on by
-// `skip` from one to the next.
+// The offset of an item of the value at `at`, which is not followed. It takes time with the items before it: of a value that `skip` accepts,
+// a loop over its items takes item 0 and then, as often as it has more, what `skip` tells of the one before.
 pub fn item(file: &[u8], at: usize, index: usize) -> OffsetResult
     ensures { λ r. ⌜ toldOffset r ≡ itemOf (now (file .entry)) at index ⌝ }
 {
@@ -477,7 +477,7 @@ fn body_in(region: &[u8], at: usize) -> BodyResult
     }
 }
 
-// Where the text or byte string stands that the value at `at` is or leads to.
+// Where the bytes stand of the text or byte string that the value at `at` is or leads to.
 pub fn body_place(file: &[u8], at: usize) -> BodyResult
     ensures { λ r. ⌜ toldBody r ≡ bodyOf (now (file .entry)) at ⌝ }
 {
@@ -621,8 +621,8 @@ fn lookup_in(region: &[u8], at: usize, key: &[u8]) -> OffsetResult
     }
 }
 
-// The offset of the value that a map has for a key: the first pair's whose key, followed, is a text of these bytes. The map itself is not
-// followed.
+// The offset of the value that a map has for a key: the first pair's whose key, followed, is a text of these bytes; it has to start in the
+// region. A fault in what stands before it is the answer. The map itself is not followed.
 pub fn lookup(file: &[u8], at: usize, key: &[u8]) -> OffsetResult
     ensures { λ r. ⌜ toldOffset r ≡ lookupOf (now (file .entry)) at (now (key .entry)) ⌝ }
 {
