@@ -1,17 +1,19 @@
 -- What the queries promise, of every file.
 --
--- In order: an item number at or past the count is NO_ITEM (`no-item`); item i + 1 starts where skipping item i ends (`item-next`), and the
+-- In order: an item number at or past the count is NO_ITEM (`no-item`); of a value that `skip` accepts, item i + 1 starts where skipping item i
+-- ends (`item-next`), and the
 -- last item ends where the value does (`item-last`); following goes down by each hop (`follow-down`); a body is the
 -- text or byte string that reading tells where following comes to (`body-read`).
 use mathlib.Core.Path.{_≡_, refl, sym, ap, _∙_, subst}
-use Prim.Native.Nat.{ℕ, zero, suc, _+_, _≤_}
+use Prim.Native.Nat.{ℕ, zero, suc, _+_, _-_, _≤_, _<_}
+use native.Mathlib.Nat.{zero-add, suc-add}
 use mathlib.Core.Bool.{Bool, true, false, _||_}
 use mathlib.Core.Logic.{_⊎_, inl, inr}
 use mathlib.Core.List.{List}
 use native.Mathlib.Omega.{arith}
 use lib.ListN.{length, take}
 use lib.Dec.{eqb, leb, ltb}
-use borrow.Author.Tests.{le-leb, eqb-true}
+use borrow.Author.Tests.{le-leb, lt-leb, lt-ltb, eqb-true}
 use Rattle.prelude.specs.Answer.{Answer, ok, error, bind}
 use Rattle.prelude.specs.Pick.{pick}
 use Rattle.prelude.proofs.Tests.{pick-elim, or-true}
@@ -19,7 +21,7 @@ use Rattle.prelude.proofs.Readers.{bind-ok}
 use Rattle.error.specs.Error.{Fault, fault, BAD_TARGET, NO_ITEM}
 use Rattle.kind.specs.Kind.{rule, immediate}
 use Rattle.scan.specs.declared.Head.{Head}
-use Rattle.scan.proofs.Places.{scanAt-item}
+use Rattle.scan.proofs.Places.{scan-within, scanAt-item}
 use Rattle.reader.specs.Region.{gate, inside, below, peek, walk}
 use Rattle.reader.specs.Query.{Met, spot, trail, skipIn, startsIn, itemOn, itemIn, itemOf, followIn, followOf, bodyAt, bodyIn, bodyOf}
 use Rattle.reader.specs.Read.{shown, readIn, readOf}
@@ -64,10 +66,31 @@ module _ (s : List ℕ) where
       by-cases (ok h) q e′ = e′ ∙ skip-item p h (sym q)
       by-cases (error f) q e′ = let z : _≡_ {A = ℕ} 0 1 = cc in absurd (omega arith)
 
+  -- some items, and then some more
+  walk-add : (j k q : ℕ) → walk s (j + k) q ≡ bind (walk s j q) (walk s k)
+  unfolding walk bind
+  walk-add zero k q = rw zero-add
+  walk-add (suc j) k q = rw (suc-add j k) (by-cases (peek true s q) (walk-add j k))
+    where
+      by-cases : (a : Answer Fault Head) → ((p : ℕ) → walk s (j + k) p ≡ bind (walk s j p) (walk s k))
+          → bind a (λ h. walk s (j + k) (h .end)) ≡ bind (bind a (λ h. walk s j (h .end))) (walk s k)
+      by-cases (ok h) more = more (h .end)
+      by-cases (error e) more = refl
+
+  -- where an item was passed, it started in the region
+  walk-lt : (k q e : ℕ) → ok e ≡ walk s (suc k) q → q < length s
+  unfolding walk bind
+  walk-lt k q e w = by-cases (peek true s q) refl w
+    where
+      by-cases : (a : Answer Fault Head) → peek true s q ≡ a → ok e ≡ bind a (λ h. walk s k (h .end)) → q < length s
+      by-cases (ok h) l e′ = let w = scan-within true s q h (peek-scan true s q h (sym l)) in omega (arith, w .numbers, w .body, w .end)
+      by-cases (error f) l e′ = let z : _≡_ {A = ℕ} 0 1 = cc in absurd (omega arith)
+
   -- what an item's offset tells
   record Found (at i p : ℕ) : Type 0 where
     head : Head
     looked : ok head ≡ peek false s at
+    holds : immediate (rule (head .kind)) ≡ false
     walked : ok p ≡ walk s i (head .end)
 
   abbrev Finds : ℕ → ℕ → Answer Fault ℕ → Type 0
@@ -78,26 +101,39 @@ module _ (s : List ℕ) where
   unfolding itemIn itemOn startsIn bind
   finds at i = by-head (peek false s at) refl
     where
-      by-walk : (h : Head) → ok h ≡ peek false s at → (a : Answer Fault ℕ) → a ≡ walk s i (h .end) → Finds at i (bind a (startsIn (length s)))
-      by-walk h e (ok p) w =
-          pick-elim (Finds at i) (ltb p (length s)) (λ t. record { head = h; looked = e; walked = w }) (λ t. tt)
-      by-walk h e (error f) w = tt
+      by-walk : (h : Head) → ok h ≡ peek false s at → immediate (rule (h .kind)) ≡ false → (a : Answer Fault ℕ) → a ≡ walk s i (h .end) → Finds at i (bind a (startsIn (length s)))
+      by-walk h e k (ok p) w =
+          pick-elim (Finds at i) (ltb p (length s)) (λ t. record { head = h; looked = e; holds = k; walked = w }) (λ t. tt)
+      by-walk h e k (error f) w = tt
 
       by-head : (a : Answer Fault Head) → peek false s at ≡ a → Finds at i (bind a (itemOn s at i))
       by-head (ok h) e =
           pick-elim (Finds at i) (immediate (rule (h .kind))) (λ t. tt)
-          (λ t. pick-elim (Finds at i) (leb (h .items) i) (λ u. tt) (λ u. by-walk h (sym e) (walk s i (h .end)) refl))
+          (λ t. pick-elim (Finds at i) (leb (h .items) i) (λ u. tt) (λ u. by-walk h (sym e) t (walk s i (h .end)) refl))
       by-head (error f) e = tt
 
   found : (at i p : ℕ) → ok p ≡ itemIn s at i → Found at i p
   found at i p e = subst (Finds at i) (sym e) (finds at i)
 
-  pub item-next : (at i p e : ℕ) → ok p ≡ itemIn s at i → ok e ≡ itemIn s at (suc i) → ok e ≡ skipIn s p
-  item-next at i p e here next =
+  -- of a value that `skip` accepts, item i + 1 starts where skipping item i ends
+  pub item-next : (at i p e : ℕ) (h : Head) → ok h ≡ peek false s at → ok e ≡ skipIn s at → suc i < h .items → ok p ≡ itemIn s at i
+      → itemIn s at (suc i) ≡ skipIn s p
+  unfolding skipIn itemIn itemOn startsIn bind
+  item-next at i p e h looked end more here =
       let f = found at i p here in
-      let g = found at (suc i) e next in
-      let same : g .head ≡ f .head = cc (f .looked, g .looked) in
-      walk-next i (f .head .end) p e (f .walked) (rw same at (g .walked))
+      let same : f .head ≡ h = cc (f .looked) in
+      let holds : immediate (rule (h .kind)) ≡ false = rw same at (f .holds) in
+      let walked : ok p ≡ walk s i (h .end) = rw same at (f .walked) in
+      let count : h .items ≡ suc i + suc (h .items - suc i - 1) = omega arith in
+      let all : ok e ≡ walk s (h .items) (h .end) = rw (← looked) at end in
+      by-cases holds walked (walk s (suc i) (h .end)) refl (rw (count, walk-add (suc i) (suc (h .items - suc i - 1)) (h .end)) at all)
+    where
+      by-cases : immediate (rule (h .kind)) ≡ false → ok p ≡ walk s i (h .end) → (a : Answer Fault ℕ) → walk s (suc i) (h .end) ≡ a
+          → ok e ≡ bind a (walk s (suc (h .items - suc i - 1))) → itemIn s at (suc i) ≡ skipIn s p
+      by-cases k w (ok x) q rest =
+          let lt = walk-lt (h .items - suc i - 1) x e rest in
+          rw (← looked, k, lt-leb (h .items) (suc i) more, q, lt-ltb x (length s) lt) (walk-next i (h .end) p x w (sym q))
+      by-cases k w (error f) q rest = let z : _≡_ {A = ℕ} 0 1 = cc in absurd (omega arith)
 
   pub item-last : (at i p e : ℕ) (h : Head) → ok h ≡ peek false s at → h .items ≡ suc i → ok p ≡ itemIn s at i → ok e ≡ skipIn s at → ok e ≡ skipIn s p
   unfolding skipIn bind
