@@ -1,4 +1,4 @@
--- The code's packed form of a rule: sixteen bits.
+-- The code's packed form of a rule: sixteen bits. No public contract cites this file.
 --
 --   bound c     what n may be at most, of a code below 8: c itself below 3; 32, 63 and 64 bits for 3, 4 and 5
 --   unpack c    the rule of the packed form c

@@ -72,6 +72,7 @@ turned p (error e) = stop (error e)
 unfoldable pub turn : List ℕ → Spot → Turn Spot (Answer Fault Met)
 turn s p = turned p (peek false s (p .place))
 
+-- each pointer leads to a lower offset, so the loop stops; `fault 0 0` is never told
 unfoldable pub trail : List ℕ → Spot → Answer Fault Met
 trail s p = from (turn s) (λ q. q .place) (error (fault 0 0)) p
 

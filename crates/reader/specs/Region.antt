@@ -4,8 +4,8 @@
 --   gate len at      how long the region of a file of len bytes is, where the offset `at` is in it: all bytes but the last, which is the
 --                    delta; EMPTY, TOO_LONG, OUTSIDE in this order
 --   inside file at k what k makes of the region, or `gate`'s error
---   peek inner s at  the token at the offset `at` of the region s, as a query looks at it, an item (NESTED) where `inner` is true: its faults, then BAD_TARGET where its target is
---                    below 0; of text and targets nothing more
+--   peek inner s at  the token at the offset `at` of the region s, as a query looks at it, and as an item (NESTED) where `inner` is true: its
+--                    faults, then BAD_TARGET where its target is below 0; of text and targets nothing more
 --   walk s k at      the offset after k items from `at` on, each looked at
 use Prim.Native.Nat.{ℕ, zero, suc, _-_}
 use mathlib.Core.Bool.{Bool, true, false, _&&_}
