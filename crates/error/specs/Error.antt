@@ -8,6 +8,7 @@
 --   Fault            an error as the paper tells it: its number and its place
 --   fault f p        the error f at the place p
 --   told e           the code's error e as the paper tells it
+--   LIMIT            the most bytes that a file may have: one with more is TOO_LONG
 use Prim.Native.Nat.{ℕ}
 use mathlib.Core.List.{List, [], _∷_, _++_}
 use lib.ListN.{length, take, replicate, getD}
@@ -15,6 +16,9 @@ use Rattle.error.specs.declared.Error.{Error}
 use Rattle.error.specs.declared.ErrorName.{ErrorName}
 use Rattle.error.specs.declared.ErrorKind.{ErrorKind}
 use Rattle.error.specs.declared.ErrorKind.the-variants.{Empty, TooLong, Trunc, Reserved, Overlong, Range, Nested, BadText, BadTarget, Full, BadEntry, Outside, NoItem, WrongKind, NoRoom, Owed, Closed, BadState}
+
+abbrev pub LIMIT : ℕ
+LIMIT = 16777216
 
 abbrev pub EMPTY : ℕ
 EMPTY = 1

@@ -10,3 +10,5 @@ pub mod Parts
 pub mod Turns
 -- signed numbers
 pub mod Signs
+-- words searched in a list
+pub mod Searches

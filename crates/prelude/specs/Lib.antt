@@ -6,3 +6,5 @@ pub mod Answer
 pub mod Bytes
 -- a loop as a definition
 pub mod Loop
+-- words searched in a list
+pub mod Search

@@ -19,13 +19,13 @@ use Rattle.prelude.specs.Answer.{Answer, ok, error, bind}
 use Rattle.prelude.proofs.Tests.{pick-elim, split, and-false, facts}
 use Rattle.prelude.proofs.Readers.{bind-ok, bind-error}
 use Rattle.prelude.proofs.Turns.{from-go, from-stop, from-all}
-use Rattle.error.specs.Error.{Fault, fault, BAD_TARGET, NO_ITEM}
+use Rattle.error.specs.Error.{Fault, fault, LIMIT, BAD_TARGET, NO_ITEM}
 use Rattle.kind.specs.Kind.{rule}
 use Rattle.kind.proofs.Laws.{rule-past}
 use Rattle.scan.specs.Told.{scanAt}
 use Rattle.scan.specs.declared.Head.{Head}
 use Rattle.scan.proofs.Places.{Within, scan-within}
-use Rattle.reader.specs.Region.{LIMIT, gate, inside, below, peek, walk}
+use Rattle.reader.specs.Region.{gate, inside, below, peek, walk}
 use Rattle.reader.specs.Query.{Met, met, Spot, spot, turned, turn, trail, same, keyed, startsIn, pairs}
 use Rattle.reader.specs.Read.{rows, shown}
 use Rattle.reader.specs.declared.Value.the-variants.{Null}

@@ -19,6 +19,7 @@ use Rattle.prelude.specs.Answer.{Answer, ok, error, bind}
 use Rattle.prelude.specs.Loop.{Turn, go, stop, from}
 use Rattle.error.specs.Error.{Fault, fault, TRUNC, NO_ITEM, WRONG_KIND}
 use Rattle.kind.specs.Kind.{rule, immediate}
+use Rattle.scan.specs.Told.{bytesOf}
 use Rattle.scan.specs.declared.Head.{Head}
 use Rattle.reader.specs.Region.{inside, peek, walk}
 
@@ -89,10 +90,6 @@ same [] [] = true
 same [] (b ∷ t) = false
 same (a ∷ s) [] = false
 same (a ∷ s) (b ∷ t) = eqb a b && same s t
-
--- the bytes of a body
-abbrev pub bytesOf : List ℕ → Head → List ℕ
-bytesOf s h = take (h .end - h .first) (drop (h .first) s)
 
 -- a value of head h is a text of these bytes
 abbrev pub keyed : List ℕ → List ℕ → Head → Bool

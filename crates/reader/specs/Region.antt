@@ -1,6 +1,5 @@
 -- A file and its region (document 01, "Row of a file" and "Questions at an offset").
 --
---   LIMIT            the most bytes that a file may have
 --   gate len at      how long the region of a file of len bytes is, where the offset `at` is in it: all bytes but the last, which is the
 --                    delta; EMPTY, TOO_LONG, OUTSIDE in this order
 --   inside file at k what k makes of the region, or `gate`'s error
@@ -14,12 +13,9 @@ use lib.Dec.{eqb, ltb, leb}
 use lib.ListN.{length, take}
 use Rattle.prelude.specs.Pick.{pick}
 use Rattle.prelude.specs.Answer.{Answer, ok, error, bind}
-use Rattle.error.specs.Error.{Fault, fault, EMPTY, TOO_LONG, OUTSIDE, BAD_TARGET}
+use Rattle.error.specs.Error.{Fault, fault, LIMIT, EMPTY, TOO_LONG, OUTSIDE, BAD_TARGET}
 use Rattle.scan.specs.Told.{scanAt}
 use Rattle.scan.specs.declared.Head.{Head}
-
-abbrev pub LIMIT : ℕ
-LIMIT = 16777216
 
 unfoldable pub gate : ℕ → ℕ → Answer Fault ℕ
 gate len at =

@@ -3,10 +3,11 @@
 --   told r               a `ScanResult` as document 01 tells it: the head, or the error's number and place
 --   seen len r           what was scanned, by offsets of a region of len bytes: `first` is just after the numbers, `end` after the body
 --   scanAt inner s at    the token at the offset `at` of the region s
+--   bytesOf s h          the body's bytes of a token of head h in the region s
 use Prim.Native.Nat.{ℕ, _-_}
 use mathlib.Core.Bool.{Bool}
 use mathlib.Core.List.{List}
-use lib.ListN.{length, drop}
+use lib.ListN.{length, take, drop}
 use Rattle.prelude.specs.Answer.{Answer, ok, error, Res, got, bad}
 use Rattle.error.specs.Error as errors
 use Rattle.error.specs.Error.{Fault}
@@ -33,3 +34,6 @@ seen len (bad e) = error e
 
 unfoldable pub scanAt : Bool → List ℕ → ℕ → Answer Fault Head
 scanAt inner s at = seen (length s) (scan inner at (drop at s))
+
+abbrev pub bytesOf : List ℕ → Head → List ℕ
+bytesOf s h = take (h .end - h .first) (drop (h .first) s)

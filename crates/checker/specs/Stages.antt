@@ -1,0 +1,32 @@
+-- What this crate's private functions make. No public contract cites this file.
+--
+--   toldList r t      a `ListResult` with the table t that it left: the starts, or the error's number and place
+--   Listed r t        the starts that it tells are words of t
+--   toldIn r t        the same of a `CheckResult`: starts and entry
+--   Counted r t       so are the values that it counts
+use Prim.Native.Nat.{ℕ, _≤_}
+use mathlib.Core.List.{List}
+use lib.ListN.{length, take}
+use Rattle.prelude.specs.Answer.{Answer, ok, error}
+use Rattle.error.specs.Error as errors
+use Rattle.error.specs.Error.{Fault}
+use Rattle.checker.specs.declared.CheckResult as checks
+use Rattle.checker.specs.declared.CheckResult.the-variants as checks-are
+use Rattle.checker.specs.declared.ListResult as lists
+use Rattle.checker.specs.declared.ListResult.the-variants as lists-are
+
+abbrev pub toldList : lists.ListResult → List ℕ → Answer Fault (List ℕ)
+toldList (lists-are.Ok n) t = ok (take n t)
+toldList (lists-are.Err e) t = error (errors.told e)
+
+abbrev pub Listed : lists.ListResult → List ℕ → Type 0
+Listed (lists-are.Ok n) t = n ≤ length t
+Listed (lists-are.Err e) t = Unit {0}
+
+abbrev pub toldIn : checks.CheckResult → List ℕ → Answer Fault ((List ℕ) × ℕ)
+toldIn (checks-are.Ok count entry) t = ok (take count t, entry)
+toldIn (checks-are.Err e) t = error (errors.told e)
+
+abbrev pub Counted : checks.CheckResult → List ℕ → Type 0
+Counted (checks-are.Ok count entry) t = count ≤ length t
+Counted (checks-are.Err e) t = Unit {0}

@@ -1,0 +1,2 @@
+-- the ways through depths
+pub mod Laws

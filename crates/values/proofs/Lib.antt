@@ -1,0 +1,10 @@
+-- members of lists: `among` and `Each`
+pub mod Members
+-- bytes, starts and targets of values, and what each value and item has
+pub mod Laws
+-- a file has at most one reading
+pub mod Unique
+-- paths go back, and the depths are those of the longest paths
+pub mod Depths
+-- the definitions on examples
+mod Samples

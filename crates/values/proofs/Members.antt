@@ -1,0 +1,48 @@
+-- Members of lists: `Each` and `among`.
+--
+-- In order: `Each` of lists joined, and of what follows; what each has, one that is among them has; one that is among a list is among a longer one;
+-- the index of one that is among the first of a list that rises.
+use mathlib.Core.Path.{_≡_, sym, _∙_}
+use mathlib.Core.Logic.{_↔_}
+use mathlib.Core.Bool.{true, false≢true, or-comm}
+use mathlib.Core.List.{List, [], _∷_, _++_}
+use Prim.Native.Nat.{ℕ, _<_}
+use native.Mathlib.Omega.{arith}
+use lib.Dec.{eqb}
+use lib.ListN.{getD, take, length-take}
+use lib.Seq.{getD-take}
+use borrow.Author.Tests.{eqb-true}
+use Rattle.prelude.specs.Search.{among, rank, Rising}
+use Rattle.prelude.proofs.Tests.{or-true}
+use Rattle.prelude.proofs.Searches.{rank-at, among-by}
+use Rattle.values.specs.Values.{Each}
+
+module _ {A : Type 0} where
+  pub each-append : (P : A → Type 0) (a b : List A) → Each P (a ++ b) ↔ (Each P a × Each P b)
+  each-append P [] b = (λ e. (tt, e), λ e. e .1)
+  each-append P (x ∷ a) b =
+      let ih = each-append P a b in
+      (λ e. let r = ih .0 (e .1) in ((e .0, r .0), r .1), λ e. (e .0 .0, ih .1 (e .0 .1, e .1)))
+
+  pub each-imp : (P Q : A → Type 0) → ((x : A) → P x → Q x) → (xs : List A) → Each P xs → Each Q xs
+  each-imp P Q f [] e = tt
+  each-imp P Q f (x ∷ xs) e = (f x (e .0), each-imp P Q f xs (e .1))
+
+pub each-among : (P : ℕ → Type 0) (x : ℕ) (xs : List ℕ) → Each P xs → among x xs ≡ true → P x
+unfolding among
+each-among P x [] e h = absurd (false≢true h)
+each-among P x (y ∷ xs) e h =
+    or-true (eqb x y) (among x xs) h (λ q. rw (eqb-true x y q) (e .0)) (λ q. each-among P x xs (e .1) q)
+
+pub among-more : (x : ℕ) (a b : List ℕ) → among x a ≡ true → among x (a ++ b) ≡ true
+unfolding among
+among-more x [] b h = absurd (false≢true h)
+among-more x (y ∷ a) b h = or-true (eqb x y) (among x a) h (λ q. rw q) (λ q. rw (among-more x a b q, or-comm (eqb x y) true))
+
+-- its index is its rank, and below i
+pub among-take : (x : ℕ) (xs : List ℕ) (i : ℕ) → Rising xs → among x (take i xs) ≡ true → (rank x xs < i) × (getD xs (rank x xs) 0 ≡ x)
+among-take x xs i r h =
+    let (k, k<, e) = among-by x (take i xs) h in
+    let l = length-take i xs in
+    let at : getD xs k 0 ≡ x = sym (getD-take i xs k 0 (omega arith)) ∙ e in
+    rw (rank-at x xs r k (omega arith) at) (omega arith, at)

@@ -1,0 +1,60 @@
+-- Paths and depth (document 01: "descent").
+--
+--   targets q ts     the targets of the references and pointers among the tokens ts, the first at q
+--   targetsOf at vs  the targets that each of the values vs is or holds, the first value at `at`
+--   Leads vs i j     value number i is or holds a reference or pointer to the start of value number j
+--   Path vs i l      a path from value number i; l are the values met, i among them
+--   Depth vs i d     d is the depth of value number i: a path from it meets d values, and none meets more
+--   Falling l        each is less than those before it, so none is met twice
+--   depthsOf vs      the depths, from left to right, each one more than the greatest of its targets' depths
+use Prim.Native.Nat.{ℕ, suc, _+_, _-_, _≤_, _<_, max}
+use mathlib.Core.Path.{_≡_}
+use mathlib.Core.Bool.{true}
+use mathlib.Core.List.{List, [], _∷_, _++_, map}
+use lib.Dec.{leb}
+use lib.ListN.{length, getD}
+use Rattle.prelude.specs.Pick.{pick}
+use Rattle.prelude.specs.Search.{among, rank}
+use Rattle.token.specs.Token.{Token, emit}
+use Rattle.values.specs.Values.{Value, tokens, bytes, starts, Each}
+
+unfoldable pub targets : ℕ → List Token → List ℕ
+targets q [] = []
+targets q (t ∷ ts) =
+    let more = targets (q + length (emit t)) ts in
+    pick (leb 14 (t .kind)) ((q - t .n - 1) ∷ more) more
+
+unfoldable pub targetsOf : ℕ → List Value → List (List ℕ)
+targetsOf at [] = []
+targetsOf at (v ∷ vs) = targets at (tokens v) ∷ targetsOf (at + length (bytes (tokens v))) vs
+
+abbrev pub Leads : List Value → ℕ → ℕ → Type 0
+Leads vs i j = (j < length vs) × (among (getD (starts 0 vs) j 0) (getD (targetsOf 0 vs) i []) ≡ true)
+
+pub data Path (vs : List Value) : ℕ → List ℕ → Type 0 where
+  end : {i : ℕ} → Path vs i (i ∷ [])
+  step : {i j : ℕ} {l : List ℕ} → Leads vs i j → Path vs j l → Path vs i (i ∷ l)
+
+pub record Depth (vs : List Value) (i d : ℕ) : Type 0 where
+  pub values : List ℕ
+  pub path : Path vs i values
+  pub long : length values ≡ d
+  pub longest : (l : List ℕ) → Path vs i l → length l ≤ d
+
+abbrev pub Falling : List ℕ → Type 0
+Falling [] = Unit {0}
+Falling (x ∷ l) = Each (λ y. y < x) l × Falling l
+
+-- ---- the depths, reckoned
+
+-- the greatest depth of values by number; ds are the depths of the values before
+unfoldable pub deepest : List ℕ → List ℕ → ℕ
+deepest ds [] = 0
+deepest ds (j ∷ js) = max (getD ds j 0) (deepest ds js)
+
+unfoldable pub pass : List ℕ → List ℕ → List (List ℕ) → List ℕ
+pass ss ds [] = ds
+pass ss ds (os ∷ more) = pass ss (ds ++ (suc (deepest ds (map (λ x. rank x ss) os)) ∷ [])) more
+
+unfoldable pub depthsOf : List Value → List ℕ
+depthsOf vs = pass (starts 0 vs) [] (targetsOf 0 vs)

@@ -1,0 +1,90 @@
+-- Values and the well-formed file (document 01, "Row of a file"; the values in file order are its row).
+--
+--   Value               a token, the head, and its items
+--   tokens v            head and items
+--   bytes ts            the bytes of tokens, back to back
+--   region vs           the bytes of values, back to back
+--   starts at vs        the offsets where values start, the first at `at`: running sums of their sizes
+--   Sound t             t's kind allows it, and a text is text
+--   Formed v            head and items are sound, the items are immediates, and as many as the head says
+--   Reaches done q t    where t is a reference or pointer and its header is at q, its target q - n - 1 is not below 0, and is one of `done`
+--   Aimed done q ts     so does each of the tokens ts, the first at q
+--   Back done at vs     so do the tokens of each of the values vs, the first at `at`, with the starts of the values before: those that
+--                       ended before it began
+--   Values vs           vs are values as they may stand at the front of a file
+--   WellFormed file vs entry
+--                       the file is the values vs and a delta byte that names the start `entry` of one of them
+use Prim.Native.Nat.{ℕ, _+_, _-_, _≤_, _<_}
+use mathlib.Core.Path.{_≡_}
+use mathlib.Core.Bool.{true}
+use mathlib.Core.List.{List, [], _∷_, _++_}
+use lib.ListN.{length}
+use Rattle.prelude.specs.Search.{among}
+use Rattle.error.specs.Error.{LIMIT}
+use Rattle.kind.specs.Kind.{rule, pending, immediate}
+use Rattle.token.specs.Token.{Token, emit, Allowed}
+use Rattle.utf8.specs.Text.{Text}
+
+pub record Value : Type 0 where
+  pub head : Token
+  pub items : List Token
+
+abbrev pub tokens : Value → List Token
+tokens v = v .head ∷ v .items
+
+unfoldable pub bytes : List Token → List ℕ
+bytes [] = []
+bytes (t ∷ ts) = emit t ++ bytes ts
+
+unfoldable pub region : List Value → List ℕ
+region [] = []
+region (v ∷ vs) = bytes (tokens v) ++ region vs
+
+unfoldable pub starts : ℕ → List Value → List ℕ
+starts at [] = []
+starts at (v ∷ vs) = at ∷ starts (at + length (bytes (tokens v))) vs
+
+-- ---- the values of a file
+
+abbrev pub Each : {A : Type 0} → (A → Type 0) → List A → Type 0
+Each P [] = Unit {0}
+Each P (x ∷ xs) = P x × Each P xs
+
+pub record Sound (t : Token) : Type 0 where
+  pub allowed : Allowed t
+  pub text : t .kind ≡ 4 → Text (t .body)
+
+pub record Item (t : Token) : Type 0 where
+  pub sound : Sound t
+  pub immediate : immediate (rule (t .kind)) ≡ true
+
+pub record Formed (v : Value) : Type 0 where
+  pub head : Sound (v .head)
+  pub items : Each Item (v .items)
+  pub count : length (v .items) ≡ pending (rule (v .head .kind)) (v .head .n) (v .head .args)
+
+abbrev pub Reaches : List ℕ → ℕ → Token → Type 0
+Reaches done q t = 14 ≤ t .kind → (t .n < q) × (among (q - t .n - 1) done ≡ true)
+
+abbrev pub Aimed : List ℕ → ℕ → List Token → Type 0
+Aimed done q [] = Unit {0}
+Aimed done q (t ∷ ts) = Reaches done q t × Aimed done (q + length (emit t)) ts
+
+abbrev pub Back : List ℕ → ℕ → List Value → Type 0
+Back done at [] = Unit {0}
+Back done at (v ∷ vs) = Aimed done at (tokens v) × Back (done ++ (at ∷ [])) (at + length (bytes (tokens v))) vs
+
+pub record Values (vs : List Value) : Type 0 where
+  pub formed : Each Formed vs
+  pub aimed : Back [] 0 vs
+
+-- ---- the file
+
+pub record WellFormed (file : List ℕ) (vs : List Value) (entry : ℕ) : Type 0 where
+  pub short : length file ≤ LIMIT
+  pub values : Values vs
+  pub delta : ℕ
+  pub same : file ≡ region vs ++ (delta ∷ [])
+  -- with the delta byte at p = length (region vs), the entry is p - delta - 1
+  pub named : entry + delta + 1 ≡ length (region vs)
+  pub start : among entry (starts 0 vs) ≡ true
