@@ -1,0 +1,2 @@
+-- document 01's samples
+pub mod Samples

@@ -1,0 +1,59 @@
+-- The twelve marked samples of document 01, as one list: a file, what is asked of it, and what the paper says.
+--
+--   Query        check and depths, each with tables of four words; an item of the value at an offset; the value at an offset
+--   Reply        check's answer and table, and the depths; an offset; a value
+--   ask file q   what the definitions that the contracts cite tell
+use Prim.Native.Nat.{ℕ, _-_, _^_}
+use mathlib.Core.List.{List, [], _∷_, _++_}
+use lib.IntN.{negsuc}
+use lib.ListN.{replicate}
+use Rattle.prelude.specs.Answer.{Answer, ok, error}
+use Rattle.error.specs.Error.{Fault, fault, EMPTY, TRUNC, OVERLONG, RANGE, NESTED, BAD_TARGET, BAD_ENTRY, NO_ITEM}
+use Rattle.reader.specs.Read.{readOf}
+use Rattle.reader.specs.Query.{itemOf}
+use Rattle.reader.specs.declared.Value.{Value}
+use Rattle.reader.specs.declared.Value.the-variants.{Integer}
+use Rattle.checker.specs.Check.{Checked, checked, checkOf}
+use Rattle.depths.specs.Depths.{depthsOf}
+
+pub data Query : Type 0 where
+  check : Query
+  item : ℕ → ℕ → Query
+  read : ℕ → Query
+
+pub data Reply : Type 0 where
+  table : Checked → List ℕ → Reply
+  offset : Answer Fault ℕ → Reply
+  value : Answer Fault Value → Reply
+
+unfoldable pub ask : List ℕ → Query → Reply
+ask file check = table (checkOf file 4) (depthsOf file 4 4 .depths)
+ask file (item at i) = offset (itemOf file at i)
+ask file (read at) = value (readOf file at)
+
+-- an error of check leaves zeros
+abbrev refused : ℕ → ℕ → Reply
+refused f place = table (checked (error (fault f place)) (replicate 4 0)) (replicate 4 0)
+
+abbrev pub samples : List ((List ℕ) × Query × Reply)
+samples =
+    ([], check, refused EMPTY 0)
+    ∷ (0x00 ∷ [], check, refused BAD_ENTRY 0)
+    ∷ (0x00 ∷ 0x00 ∷ [], check, table (checked (ok (1, 0)) (0 ∷ 0 ∷ 0 ∷ 0 ∷ [])) (1 ∷ 0 ∷ 0 ∷ 0 ∷ []))
+    ∷ (
+      0x45 ∷ 0x68 ∷ 0x65 ∷ 0x6c ∷ 0x6c ∷ 0x6f ∷ 0x61 ∷ 0xf6 ∷ 0x62 ∷ 0xf8 ∷ 0xf3 ∷ 0x72 ∷ 0x41 ∷ 0x61 ∷ 0xf5 ∷ 0x41 ∷ 0x78 ∷ 0x01 ∷ 0x06 ∷ [],
+      check,
+      table (checked (ok (4, 11)) (0 ∷ 6 ∷ 8 ∷ 11 ∷ [])) (1 ∷ 2 ∷ 3 ∷ 4 ∷ []),
+    )
+    ∷ (0x61 ∷ 0x1f ∷ 0x1b ∷ 0x64 ∷ 0xf3 ∷ 0x11 ∷ 0x12 ∷ 0x13 ∷ 0x04 ∷ [], check, table (checked (ok (2, 3)) (0 ∷ 3 ∷ 0 ∷ 0 ∷ [])) (1 ∷ 2 ∷ 0 ∷ 0 ∷ []))
+    ∷ (0x61 ∷ 0x1f ∷ 0x1b ∷ 0x64 ∷ 0xf3 ∷ 0x11 ∷ 0x12 ∷ 0x13 ∷ 0x04 ∷ [], item 3 3, offset (ok 7))
+    ∷ (0x61 ∷ 0x1f ∷ 0x1b ∷ 0x64 ∷ 0xf3 ∷ 0x11 ∷ 0x12 ∷ 0x13 ∷ 0x04 ∷ [], item 3 4, offset (error (fault NO_ITEM 3)))
+    ∷ (0x61 ∷ 0xf0 ∷ 0x01 ∷ [], check, refused BAD_TARGET 1)
+    ∷ (0x1f ∷ 0x1b ∷ 0xe1 ∷ 0x00 ∷ [], check, table (checked (ok (2, 2)) (0 ∷ 2 ∷ 0 ∷ 0 ∷ [])) (1 ∷ 2 ∷ 0 ∷ 0 ∷ []))
+    ∷ (0x1f ∷ 0x80 ∷ 0x00 ∷ 0x02 ∷ [], check, refused OVERLONG 0)
+    ∷ (0x61 ∷ 0x61 ∷ 0x00 ∷ 0x02 ∷ [], check, refused NESTED 1)
+    ∷ (0x7f ∷ 0xf1 ∷ (replicate 7 0xff ++ (0x7f ∷ 0x00 ∷ [])), check, refused TRUNC 0)
+    ∷ (0x2f ∷ 0xf0 ∷ (replicate 7 0xff ++ (0x7f ∷ 0x09 ∷ [])), check, table (checked (ok (1, 0)) (0 ∷ 0 ∷ 0 ∷ 0 ∷ [])) (1 ∷ 0 ∷ 0 ∷ 0 ∷ []))
+    ∷ (0x2f ∷ 0xf0 ∷ (replicate 7 0xff ++ (0x7f ∷ 0x09 ∷ [])), read 0, value (ok (Integer (negsuc (2 ^ 63 - 1)))))
+    ∷ (0x1f ∷ 0xf1 ∷ (replicate 7 0xff ++ (0x7f ∷ 0x09 ∷ [])), check, refused RANGE 0)
+    ∷ []

@@ -1,0 +1,1 @@
+// No function: what the demands promise, as theorems over the definitions that the contracts cite.
