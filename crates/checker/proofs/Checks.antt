@@ -4,6 +4,7 @@
 use mathlib.Core.Path.{_≡_, refl, sym, ap, _∙_}
 use Prim.Native.Nat.{ℕ, _-_, _≤_, _<_}
 use mathlib.Core.List.{List, [], _++_, append-nil}
+use native.Mathlib.Nat.{sub-zero}
 use native.Mathlib.Omega.{arith}
 use borrow.Author.Tests.{ne-eqb, le-ltb}
 use borrow.Rule.Slice.PartMut.{putMid}
@@ -20,15 +21,15 @@ use Rattle.checker.specs.declared.CheckResult.{CheckResult}
 use Rattle.checker.specs.declared.CheckResult.the-variants.{Ok, Err}
 use Rattle.checker.specs.declared.ListResult as lists
 use Rattle.checker.specs.declared.ListResult.the-variants as lists-are
-use Rattle.checker.specs.Check.{between, startsFrom, entryAt, checkIn, filled, checked, checkOf}
+use Rattle.checker.specs.Check.{between, startsFrom, entryAt, checkIn, filled, checked, listed, checkOf}
 use Rattle.checker.specs.Told.{toldCheck}
-use Rattle.checker.specs.Stages.{toldList, Listed, toldIn, Counted}
+use Rattle.checker.specs.Stages.{toldList, Listed, toldIn, kept}
 use Rattle.checker.proofs.Walks.{come}
 
 -- starts in the first words of t, and the entry behind them
 pub record Entered (q : CheckResult) (t : List ℕ) (a : Answer Fault ((List ℕ) × ℕ)) : Type 0 where
   pub told : toldIn q t ≡ a
-  pub counted : Counted q t
+  pub fits : kept q ≤ length t
 
 entered : (t : List ℕ) (count : ℕ) → count ≤ length t → (q : CheckResult) (a : Answer Fault ℕ) → toldCheck q ≡ bind a (λ e. ok (length (take count t), e))
     → Entered q t (bind a (λ e. ok (take count t, e)))
@@ -37,10 +38,10 @@ entered t count fits (Ok c e) (ok x) told =
     let p : _≡_ {A = ℕ × ℕ} (c, e) (length (take count t), x) = cc in
     let same : c ≡ count = ap (λ (y : ℕ × ℕ). y .0) p ∙ length-take-le count t fits in
     let entry : e ≡ x = ap (λ (y : ℕ × ℕ). y .1) p in
-    record { told = rw (same, entry); counted = rw same fits }
+    record { told = rw (same, entry); fits = rw same fits }
 entered t count fits (Ok c e) (error f) told = let z : _≡_ {A = ℕ} 0 1 = cc in absurd (omega arith)
 entered t count fits (Err f) (ok x) told = let z : _≡_ {A = ℕ} 0 1 = cc in absurd (omega arith)
-entered t count fits (Err f) (error g) told = record { told = cc; counted = tt }
+entered t count fits (Err f) (error g) told = record { told = cc; fits = omega arith }
 
 pub listed-fits : (r : lists.ListResult) (t : List ℕ) (count : ℕ) → r ≡ lists-are.Ok count → Listed r t → count ≤ length t
 listed-fits r t count is l = rw is at l
@@ -60,12 +61,9 @@ module _ (file t : List ℕ) (cap : ℕ) (some : length file ≡ 0 → ⊥) (sho
   unfolding checkIn
   check-walked count is fits q e =
       let a = entered t count fits q (entryAt (length file - 1) (getD file (length file - 1) 0) (take count t)) e in
-      record { told = rw (ne-eqb _ _ some, le-ltb _ _ short) (bind-ok _ (rw is at told) (a .told)); counted = a .counted }
+      record { told = rw (ne-eqb _ _ some, le-ltb _ _ short) (bind-ok _ (rw is at told) (a .told)); fits = a .fits }
 
 -- ---- the table that is left
-
-pub in-fits : (q : CheckResult) (t : List ℕ) (count entry : ℕ) → q ≡ Ok count entry → Counted q t → count ≤ length t
-in-fits q t count entry is c = rw is at c
 
 -- zeros behind the first `count` words
 pub zeros-behind : (t : List ℕ) (count : ℕ) → count ≤ length t
@@ -73,14 +71,11 @@ pub zeros-behind : (t : List ℕ) (count : ℕ) → count ≤ length t
 zeros-behind t count h =
     rw (length-part count t, drop-of-length-le (drop count t) {i = length t - count} (rw length-drop (omega arith)), append-nil, length-take-le count t h)
 
-module _ (file t : List ℕ) (cap : ℕ) (long : length t ≡ cap) (q : CheckResult) (told : toldIn q t ≡ checkIn file cap) where
-  pub checkOf-ok : (count entry : ℕ) → q ≡ Ok count entry → count ≤ length t → (z : List ℕ) → z ≡ replicate (length (take (length t - count) (drop count t))) 0
-      → checked (ok (count, entry)) (putMid count (length t - count) t z) ≡ checkOf file cap
-  unfolding checkOf
-  checkOf-ok count entry is fits z e =
-      let found : ok (take count t, entry) ≡ checkIn file cap = rw is at told in
-      rw (← found, ← long, e, zeros-behind t count fits, length-take-le count t fits)
-
-  pub checkOf-error : (f : Error) → q ≡ Err f → (z : List ℕ) → z ≡ replicate (length t) 0 → checked (error (errors.told f)) z ≡ checkOf file cap
-  unfolding checkOf
-  checkOf-error f is z e = let found : error (errors.told f) ≡ checkIn file cap = rw is at told in rw (← found, ← long, e)
+pub check-left : (file t : List ℕ) (cap : ℕ) → length t ≡ cap → (q : CheckResult) → toldIn q t ≡ checkIn file cap → (n : ℕ) → n ≡ kept q → kept q ≤ length t
+    → (z : List ℕ) → z ≡ replicate (length (take (length t - n) (drop n t))) 0 → checked (toldCheck q) (putMid n (length t - n) t z) ≡ checkOf file cap
+unfolding checkOf
+check-left file t cap long q told n is fits z e = rw (e, is, zeros-behind t (kept q) fits, ← told, ← long) (by-cases q fits)
+  where
+    by-cases : (q : CheckResult) → kept q ≤ length t → checked (toldCheck q) (filled (length t) (take (kept q) t)) ≡ listed (length t) (toldIn q t)
+    by-cases (Ok count entry) fits = rw (length-take-le count t fits)
+    by-cases (Err f) fits = rw sub-zero

@@ -3,7 +3,7 @@
 --   toldList r t      a `ListResult` with the table t that it left: the starts, or the error's number and place
 --   Listed r t        the starts that it tells are words of t
 --   toldIn r t        the same of a `CheckResult`: starts and entry
---   Counted r t       so are the values that it counts
+--   kept r            how many words of the table it keeps
 use Prim.Native.Nat.{ℕ, _≤_}
 use mathlib.Core.List.{List}
 use lib.ListN.{length, take}
@@ -27,6 +27,6 @@ abbrev pub toldIn : checks.CheckResult → List ℕ → Answer Fault ((List ℕ)
 toldIn (checks-are.Ok count entry) t = ok (take count t, entry)
 toldIn (checks-are.Err e) t = error (errors.told e)
 
-abbrev pub Counted : checks.CheckResult → List ℕ → Type 0
-Counted (checks-are.Ok count entry) t = count ≤ length t
-Counted (checks-are.Err e) t = Unit {0}
+abbrev pub kept : checks.CheckResult → ℕ
+kept (checks-are.Ok count entry) = count
+kept (checks-are.Err e) = 0

@@ -16,7 +16,7 @@ ghost use Rattle.utf8.specs.Text.{isText};
 ghost use Rattle.scan.specs.Told as scans;
 ghost use Rattle.checker.specs.Check.{aimed, judge, between, next, due, startsFrom, entryAt, checkIn, checked, checkOf};
 ghost use Rattle.checker.specs.Told.{toldCheck};
-ghost use Rattle.checker.specs.Stages.{toldList, Listed, toldIn, Counted};
+ghost use Rattle.checker.specs.Stages.{toldList, Listed, toldIn, kept};
 
 // The answer of `check`.
 pub enum CheckResult {
@@ -178,7 +178,7 @@ fn entry_at(starts: &[u32], p: usize, d: u8) -> CheckResult
 
 // Lists the starts of a file's values in the first words of the table, and finds its entry.
 fn check_in(file: &[u8], starts: &mut [u32]) -> CheckResult
-    ensures { λ r. ⌜ (toldIn r (now (starts .exit)) ≡ checkIn (now (file .entry)) (length (now (starts .entry)))) × (Counted r (now (starts .exit))) ⌝ }
+    ensures { λ r. ⌜ (toldIn r (now (starts .exit)) ≡ checkIn (now (file .entry)) (length (now (starts .entry)))) × (kept r ≤ length (now (starts .exit))) ⌝ }
 {
     let len = file.len();
     if len == 0 {
@@ -200,19 +200,23 @@ fn check_in(file: &[u8], starts: &mut [u32]) -> CheckResult
     }
 }
 
+// How many words of the table an answer keeps: a start for each value, none on an error.
+fn kept(answer: CheckResult) -> usize
+    ensures { λ r. ⌜ r ≡ kept answer ⌝ }
+{
+    match answer {
+        CheckResult::Ok { count, entry: _ } => count,
+        CheckResult::Err(e) => 0,
+    }
+}
+
 // Checks a file. The table gets the offsets where its values start, in rising order, and 0 in every other word; on an error 0 in every word.
 // A table with as many words as the file has bytes is never too short.
 pub fn check(file: &[u8], starts: &mut [u32]) -> CheckResult
     ensures { λ r. ⌜ checked (toldCheck r) (now (starts .exit)) ≡ checkOf (now (file .entry)) (length (now (starts .entry))) ⌝ }
 {
-    match check_in(file, starts) {
-        CheckResult::Ok { count, entry } => {
-            table::zero(&mut starts[count..]);
-            CheckResult::Ok { count, entry }
-        }
-        CheckResult::Err(e) => {
-            table::zero(starts);
-            CheckResult::Err(e)
-        }
-    }
+    let answer = check_in(file, starts);
+    let words = kept(answer);
+    table::zero(&mut starts[words..]);
+    answer
 }

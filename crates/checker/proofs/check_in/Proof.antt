@@ -23,8 +23,8 @@ unfolding checkIn
 check-in-spec =
     tie.close
     (tie.spec
-    (λ c. (search ladder, tt))
-    (λ c. (search ladder, tt))
+    (λ c. (search ladder, omega arith))
+    (λ c. (search ladder, omega arith))
     (λ c. search needs)
     (λ c. sym (length-take-le _ _ (omega arith)))
     (λ c κs. rw length-take (omega arith))
@@ -40,10 +40,10 @@ check-in-spec =
     let w = walked k .before .before .before .before in
     let a = w .before .before .before .args in
     let e = check-walked (a .file .now) _ (length (a .starts .now)) (w .if1 .left) (omega arith) _ (walked k .list-starts .ensures .0) _ (k .count .given .1) (fits k) (c .entry-at .result) (c .entry-at .ensures) in
-    (e .told, e .counted))
+    (e .told, e .fits))
     (λ c. search needs)
     (λ c. let k = c .before in
     let l = k .before .before .before .before in
     let w = l .before .before .before .before in
     let a = w .before .before .before .args in
-    (check-error (a .file .now) _ (length (a .starts .now)) (w .if1 .left) (omega arith) _ (l .list-starts .ensures .0) _ (k .e .given .1), tt)))
+    (check-error (a .file .now) _ (length (a .starts .now)) (w .if1 .left) (omega arith) _ (l .list-starts .ensures .0) _ (k .e .given .1), omega arith)))

@@ -1,0 +1,160 @@
+-- Depths of a well-formed file: what `depths` tells is the depth, as paths tell it.
+--
+-- In order: where a value ends; the greatest depth that the tokens of a value reach; the depths from left to right; `depth-exact`.
+use mathlib.Core.Path.{_≡_, refl, sym, ap, _∙_, subst}
+use Prim.Native.Nat.{ℕ, zero, suc, _+_, _-_, _≤_, _<_, max}
+use mathlib.Core.Bool.{Bool, true, false, _&&_}
+use mathlib.Core.List.{List, [], _∷_, _++_, append-assoc, append-nil, map}
+use native.Mathlib.Nat.{add-zero, zero-add}
+use native.Mathlib.Omega.{arith}
+use borrow.Author.Tests.{lt-ltb, le-ltb, le-leb, lt-leb, leb-true}
+use lib.Dec.{leb, ltb}
+use lib.ListN.{length, take, getD, length-append}
+use lib.Seq.{append-snoc}
+use Rattle.prelude.specs.Pick.{pick}
+use Rattle.prelude.specs.Answer.{Answer, ok, error}
+use Rattle.prelude.specs.Search.{rank}
+use Rattle.prelude.proofs.Tests.{split}
+use Rattle.token.specs.Token.{Token, emit, Fits}
+use Rattle.scan.specs.Told.{scanAt}
+use Rattle.scan.specs.declared.ScanResult.the-variants.{Ok}
+use Rattle.scan.proofs.Places.{headAt, scanAt-emit, scanAt-item}
+use Rattle.values.specs.Values.{Value, tokens, bytes, region, starts, Each, Item, Formed, Aimed, Reaches, Back, Values, WellFormed}
+use Rattle.values.specs.Paths.{targets, targetsOf, deepest, pass}
+use Rattle.values.specs.Paths as paths
+use Rattle.values.proofs.Laws.{emit-pos, region-append, region-at, length-starts, starts-append, start-of, fits-item, fits-head}
+use Rattle.depths.specs.Depths.{reached, sight, deepestFrom, depthAt, depthsTo}
+use Rattle.depths.proofs.Laws.{deepest-end, deepest-token}
+
+-- ---- where a value ends
+
+ends : (at : ℕ) (a : List Value) (v : Value) (b : List Value) (len : ℕ) → len ≡ at + length (region (a ++ (v ∷ b)))
+    → getD (starts at (a ++ (v ∷ b))) (suc (length a)) len ≡ at + length (region a) + length (bytes (tokens v))
+unfolding starts region
+ends at [] v [] len e = omega (arith, length-append (bytes (tokens v)) [])
+ends at [] v (w ∷ b) len e = omega arith
+ends at (x ∷ a) v b len e =
+    let ih = ends (at + length (bytes (tokens x))) a v b len (omega (arith, length-append (bytes (tokens x)) (region (a ++ (v ∷ b))))) in
+    omega (arith, length-append (bytes (tokens x)) (region a))
+
+ends-next : (a : List Value) (v : Value) (b : List Value)
+    → getD (starts 0 (a ++ (v ∷ b))) (suc (length a)) (length (region (a ++ (v ∷ b)))) ≡ length (region a) + length (bytes (tokens v))
+ends-next a v b = ends 0 a v b (length (region (a ++ (v ∷ b)))) (omega arith) ∙ omega arith
+
+-- one value more
+length-snoc : (a : List Value) (v : Value) → length (region (a ++ (v ∷ []))) ≡ length (region a) + length (bytes (tokens v))
+unfolding region
+length-snoc a v = ap length (region-append a (v ∷ [])) ∙ length-append (region a) (bytes (tokens v) ++ []) ∙ rw append-nil
+
+starts-snoc : (a : List Value) (v : Value) → starts 0 (a ++ (v ∷ [])) ≡ starts 0 a ++ (length (region a) ∷ [])
+unfolding starts
+starts-snoc a v = starts-append 0 a (v ∷ []) ∙ rw zero-add
+
+-- ---- the tokens of a value
+
+-- the depth that a token's target has
+abbrev aim : List ℕ → List ℕ → ℕ → Token → ℕ
+aim ss ds q t = pick (leb 14 (t .kind)) (getD ds (rank (q - t .n - 1) ss) 0) 0
+
+module _ (ss ds : List ℕ) where
+  -- a token is reached as its target is not below 0
+  reached-aim : (done : List ℕ) (q : ℕ) (t : Token) → Reaches done q t → reached ss ds q (headAt q t) ≡ aim ss ds q t
+  reached-aim done q t r = by-cases (leb 14 (t .kind)) refl
+    where
+      by-cases : (k : Bool) → leb 14 (t .kind) ≡ k
+          → pick (k && ltb (t .n) q) (getD ds (rank (q - t .n - 1) ss) 0) 0 ≡ pick k (getD ds (rank (q - t .n - 1) ss) 0) 0
+      by-cases true e = rw (lt-ltb (t .n) q (r (leb-true 14 (t .kind) e) .0))
+      by-cases false e = refl
+
+  -- the greatest depth of the targets of tokens, token by token
+  targets-deepest : (q : ℕ) (t : Token) (ts : List Token)
+      → deepest ds (map (λ x. rank x ss) (targets q (t ∷ ts))) ≡ max (aim ss ds q t) (deepest ds (map (λ x. rank x ss) (targets (q + length (emit t)) ts)))
+  unfolding targets deepest
+  targets-deepest q t ts = by-cases (leb 14 (t .kind))
+    where
+      more : List ℕ
+      more = targets (q + length (emit t)) ts
+
+      by-cases : (k : Bool) → deepest ds (map (λ x. rank x ss) (pick k ((q - t .n - 1) ∷ targets (q + length (emit t)) ts) (targets (q + length (emit t)) ts)))
+          ≡ max (pick k (getD ds (rank (q - t .n - 1) ss) 0) 0) (deepest ds (map (λ x. rank x ss) (targets (q + length (emit t)) ts)))
+      by-cases true = refl
+      by-cases false = omega arith
+
+  module _ (end : ℕ) where
+    -- one token
+    token-deep : (inner : Bool) (done p : List ℕ) (t : Token) (rest : List ℕ) (deep : ℕ) → Fits inner t rest → Reaches done (length p) t → length p < end
+        → deepestFrom (p ++ (emit t ++ rest)) ss ds end (sight (length p + length (emit t)) (max deep (aim ss ds (length p) t)))
+        ≡ deepestFrom (p ++ (emit t ++ rest)) ss ds end (sight (length p) deep)
+    token-deep inner done p t rest deep f r lt =
+        deepest-token (p ++ (emit t ++ rest)) ss ds end (length p) deep lt (Ok (headAt (length p) t)) (by-cases inner f) (headAt (length p) t) refl _ _
+        (sym (reached-aim done (length p) t r)) refl
+      where
+        by-cases : (inner : Bool) → Fits inner t rest → ok (headAt (length p) t) ≡ scanAt false (p ++ (emit t ++ rest)) (length p)
+        by-cases false f = sym (scanAt-emit false p t rest f)
+        by-cases true f = scanAt-item (p ++ (emit t ++ rest)) (length p) (headAt (length p) t) (sym (scanAt-emit true p t rest f)) .value
+
+    -- the items of a value
+    items-deep : (done p : List ℕ) (ts : List Token) (rest : List ℕ) (deep : ℕ) → Each Item ts → Aimed done (length p) ts → end ≡ length p + length (bytes ts)
+        → deepestFrom (p ++ (bytes ts ++ rest)) ss ds end (sight (length p) deep) ≡ max deep (deepest ds (map (λ x. rank x ss) (targets (length p) ts)))
+    unfolding bytes targets deepest
+    items-deep done p [] rest deep is a e = sym (deepest-end (p ++ rest) ss ds end (length p) deep (omega arith)) ∙ omega arith
+    items-deep done p (t ∷ ts) rest deep is a e =
+        let long = length-append p (emit t) in
+        let sum = length-append (emit t) (bytes ts) in
+        let ih = items-deep done (p ++ emit t) ts rest (max deep (aim ss ds (length p) t)) (is .1) (rw long (a .1)) (omega arith) in
+        rw (append-assoc (emit t) (bytes ts) rest)
+        (sym (token-deep true done p t (bytes ts ++ rest) deep (fits-item t (is .0) (bytes ts ++ rest)) (a .0) (omega (arith, emit-pos t)))
+        ∙ (rw (append-assoc p (emit t) (bytes ts ++ rest), long) at ih)
+        ∙ omega (arith, targets-deepest (length p) t ts))
+
+    -- a value
+    value-deep : (done p : List ℕ) (v : Value) (rest : List ℕ) → Formed v → Aimed done (length p) (tokens v) → end ≡ length p + length (bytes (tokens v))
+        → deepestFrom (p ++ (bytes (tokens v) ++ rest)) ss ds end (sight (length p) 0) ≡ deepest ds (map (λ x. rank x ss) (targets (length p) (tokens v)))
+    unfolding bytes
+    value-deep done p v rest f a e =
+        let t = v .head in
+        let ts = v .items in
+        let long = length-append p (emit t) in
+        let sum = length-append (emit t) (bytes ts) in
+        let more = items-deep done (p ++ emit t) ts rest (max 0 (aim ss ds (length p) t)) (f .items) (rw long (a .1)) (omega arith) in
+        rw (append-assoc (emit t) (bytes ts) rest)
+        (sym (token-deep false done p t (bytes ts ++ rest) 0 (fits-head v f rest) (a .0) (omega (arith, emit-pos t)))
+        ∙ (rw (append-assoc p (emit t) (bytes ts ++ rest), long) at more)
+        ∙ omega (arith, targets-deepest (length p) t ts))
+
+-- ---- the depths from left to right
+
+module _ (vs : List Value) where
+  -- the depth of the value behind a
+  depth-value : (a : List Value) (v : Value) (b : List Value) (ds : List ℕ) → vs ≡ a ++ (v ∷ b) → Formed v → Aimed (starts 0 a) (length (region a)) (tokens v)
+      → depthAt (region vs) (starts 0 vs) ds (length a) ≡ suc (deepest ds (map (λ x. rank x (starts 0 vs)) (targets (length (region a)) (tokens v))))
+  unfolding depthAt
+  depth-value a v b ds e f aimed =
+      let last : getD (starts 0 vs) (suc (length a)) (length (region vs)) ≡ length (region a) + length (bytes (tokens v)) = rw e (ends-next a v b) in
+      let first : getD (starts 0 vs) (length a) 0 ≡ length (region a) = rw e (start-of a v b) in
+      let all : region vs ≡ region a ++ (bytes (tokens v) ++ region b) = rw e (region-at a v b) in
+      rw (last, first, all) (ap suc (value-deep (starts 0 vs) ds _ (starts 0 a) (region a) v (region b) f aimed refl))
+
+  depths-pass : (a b : List Value) → vs ≡ a ++ b → Each Formed b → Back (starts 0 a) (length (region a)) b
+      → pass (starts 0 vs) (depthsTo (region vs) (starts 0 vs) (length a)) (targetsOf (length (region a)) b) ≡ depthsTo (region vs) (starts 0 vs) (length a + length b)
+  unfolding pass targetsOf depthsTo
+  depths-pass a [] e f k = rw add-zero
+  depths-pass a (v ∷ b) e f k =
+      let ds = depthsTo (region vs) (starts 0 vs) (length a) in
+      let one = depth-value a v b ds e (f .0) (k .0) in
+      let long : length (a ++ (v ∷ [])) ≡ suc (length a) = length-append a (v ∷ []) ∙ omega arith in
+      let count : suc (length a) + length b ≡ length a + suc (length b) = omega arith in
+      let rest : Back (starts 0 (a ++ (v ∷ []))) (length (region (a ++ (v ∷ [])))) b = rw (starts-snoc a v, length-snoc a v) (k .1) in
+      let ih = depths-pass (a ++ (v ∷ [])) b (e ∙ sym (append-assoc a (v ∷ []) b)) (f .1) rest in
+      ap (λ d. pass (starts 0 vs) (ds ++ (d ∷ [])) (targetsOf (length (region a) + length (bytes (tokens v))) b)) (sym one)
+      ∙ (rw (long, length-snoc a v) at ih)
+      ∙ ap (depthsTo (region vs) (starts 0 vs)) count
+
+-- ---- what depths tells
+
+pub depths-are : (vs : List Value) → Values vs → depthsTo (region vs) (starts 0 vs) (length (starts 0 vs)) ≡ paths.depthsOf vs
+unfolding paths.depthsOf depthsTo starts region
+depths-are vs w =
+    let e = depths-pass vs [] vs refl (w .formed) (w .aimed) in
+    let many : length (starts 0 vs) ≡ 0 + length vs = length-starts 0 vs ∙ omega arith in
+    rw many (sym e)
