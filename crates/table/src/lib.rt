@@ -1,6 +1,7 @@
 // A table of words: filled with zeros, searched by halves.
 ghost use mathlib.Core.Path.{_≡_};
 ghost use lib.ListN.{length, replicate};
+ghost use Rattle.prelude.specs.Pick.{pick};
 ghost use Rattle.prelude.specs.Search.{among, rank, Rising};
 
 // Makes every word 0.
@@ -14,22 +15,34 @@ pub fn zero(t: &mut [u32])
     }
 }
 
+// x where the test passes, and else y: a choice without a jump.
+fn pick(test: bool, x: usize, y: usize) -> usize
+    ensures { λ r. ⌜ r ≡ pick test x y ⌝ }
+{
+    if test {
+        return x;
+    }
+    y
+}
+
 // How many words of a rising table are less than x: x's index, where the table has it.
 pub fn rank(t: &[u32], x: u32) -> usize
     requires { ⌜ Rising (now t) ⌝ }
     ensures { λ r. ⌜ r ≡ rank x (now (t .entry)) ⌝ }
 {
-    let mut lo = 0;
-    let mut hi = t.len();
-    while lo < hi {
-        let mid = lo + (hi - lo) / 2;
-        if t[mid] < x {
-            lo = mid + 1;
-        } else {
-            hi = mid;
-        }
+    if t.len() == 0 {
+        return 0;
     }
-    lo
+    // the rank is one of lo to lo + size
+    let mut lo: usize = 0;
+    let mut size = t.len();
+    while 1 < size {
+        let half = size / 2;
+        let mid = lo + half;
+        lo = pick(t[mid] < x, mid, lo);
+        size = size - half;
+    }
+    pick(t[lo] < x, lo + 1, lo)
 }
 
 // Whether a rising table has x.

@@ -1,18 +1,14 @@
--- `table::rank` meets its contract. The invariant: the rank is neither before lo nor past hi.
-use Prim.Native.Nat.{_-_, _≤_}
-use native.Mathlib.Omega.{arith}
+-- `table::rank` meets its contract.
 use borrow.Author.Needs.{needs}
-use lib.ListN.{length}
-use Rattle.prelude.specs.Search.{rank}
-use Rattle.prelude.proofs.Searches.{rank-le, rank-after, rank-until}
+use Rattle.table.proofs.Halves.{Between, rank-none, between-all, halved, last}
 use Rattle.table.proofs.rank.Statement.{statement}
 use Rattle.table.proofs.rank.Tie as tie
 
 abbrev Inv-loop : tie.InvT-loop
-Inv-loop t x lo₀ hi₀ lo hi = (lo ≤ rank x t) × (rank x t ≤ hi) × (hi ≤ length t)
+Inv-loop t x lo₀ size₀ lo size = Between x t lo size
 
 abbrev μ-loop : tie.MeasureT-loop
-μ-loop t x lo₀ hi₀ lo hi = hi - lo
+μ-loop t x lo₀ size₀ lo size = size
 
 pub rank-spec : {M : Type 1} → statement M
 rank-spec =
@@ -20,16 +16,17 @@ rank-spec =
     (tie.spec
     Inv-loop
     μ-loop
-    (λ c. search (rank-le, needs))
+    (λ c. rank-none _ _ (c .if1 .taken))
+    (λ c. between-all _ _ (c .if1 .left))
     (λ c. search needs)
     (λ c. search needs)
     (λ c. search needs)
+    (λ c κs. search needs)
+    (λ c. search needs)
+    (λ c. search needs)
+    (λ c. let l = c .before .before in halved _ _ (l .before .before .before .before .pre) _ _ (l .before .loop .inv) (l .loop-test .taken) _ (c .pick .ensures))
     (λ c. search needs)
     (λ c. search needs)
     (λ c. search needs)
-    (λ c. let l = c .before .before .before in
-    (rank-after _ _ (l .before .pre) _ (omega arith) (c .if1 .taken), l .loop .inv .1, l .loop .inv .2))
-    (λ c. search needs)
-    (λ c. let l = c .before .before .before in
-    (l .loop .inv .0, rank-until _ _ (l .before .pre) _ (c .if1 .left), omega arith))
-    (λ c. search needs))
+    (λ c κs. search needs)
+    (λ c. let l = c .before .before in last _ _ (l .before .before .before .before .pre) _ _ (l .before .loop .inv) (l .loop-test .left) _ (c .pick2 .ensures)))

@@ -1,0 +1,2 @@
+-- a search by halves
+pub mod Halves
