@@ -1,14 +1,14 @@
 -- The ways through check.
 --
 -- In order: the entry behind the starts; a file whose region was walked; the table that is left.
-use mathlib.Core.Path.{_≡_, refl, sym, ap, _∙_}
-use Prim.Native.Nat.{ℕ, _-_, _≤_, _<_}
-use mathlib.Core.List.{List, [], _++_, append-nil}
+use mathlib.Core.Path.{_≡_, ap, _∙_}
+use Prim.Native.Nat.{ℕ, _-_, _≤_}
+use mathlib.Core.List.{List, [], append-nil}
 use native.Mathlib.Nat.{sub-zero}
 use native.Mathlib.Omega.{arith}
 use borrow.Author.Tests.{ne-eqb, le-ltb}
 use borrow.Rule.Slice.PartMut.{putMid}
-use lib.ListN.{length, take, drop, getD, replicate, drop-of-length-le, length-drop, length-replicate}
+use lib.ListN.{length, take, drop, getD, replicate, drop-of-length-le, length-drop}
 use lib.Seq.{length-take-le}
 use Rattle.prelude.specs.Answer.{Answer, ok, error, bind}
 use Rattle.prelude.specs.Search.{Rising}

@@ -2,18 +2,17 @@
 --
 -- In order: a token that the walk takes; what holds of a walk, and of the walk behind a token; turns; the starts that it comes to rise and
 -- are within the region; the walk as the code makes it, with the starts in the first words of a table.
-use mathlib.Core.Path.{_≡_, refl, sym, ap, _∙_, subst}
-use Prim.Native.Nat.{ℕ, suc, _+_, _-_, _≤_, _<_}
-use mathlib.Core.Bool.{Bool, true, false, not, _&&_}
+use mathlib.Core.Path.{_≡_, refl, sym, _∙_, subst}
+use Prim.Native.Nat.{ℕ, _+_, _-_, _≤_, _<_}
+use mathlib.Core.Bool.{true, false, not, _&&_}
 use mathlib.Core.List.{List, [], _∷_, _++_}
 use native.Mathlib.Nat.{not-suc-le-zero}
 use native.Mathlib.Numerals.{add-one}
 use native.Mathlib.Omega.{arith}
-use borrow.Author.Tests.{eq-eqb, ne-eqb, eqb-true, eqb-false, lt-leb}
+use borrow.Author.Tests.{eq-eqb, ne-eqb, eqb-false}
 use lib.Dec.{eqb, ltb, leb}
 use lib.ListN.{length, take, getD, set, length-set, length-append, List·getD-append}
 use lib.Seq.{length-take-le, take-suc-set, getD-append-seam}
-use Rattle.prelude.specs.Pick.{pick}
 use Rattle.prelude.specs.Answer.{Answer, ok, error, bind}
 use Rattle.prelude.specs.Loop.{Turn, go, stop}
 use Rattle.prelude.specs.Search.{Rising}

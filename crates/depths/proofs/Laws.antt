@@ -14,10 +14,8 @@ use borrow.Rule.Slice.PartMut.{putMid}
 use lib.Dec.{leb, ltb, eqb}
 use lib.ListN.{length, take, drop, getD, set, replicate, length-replicate, length-append, List·getD-append, List·getD-eq-default}
 use lib.Seq.{take-suc-set, getD-append-seam, take-append-seam, getD-take, length-take-le}
-use Rattle.prelude.specs.Pick.{pick}
 use Rattle.prelude.specs.Answer.{Answer, ok, error, bind}
 use Rattle.prelude.specs.Loop.{Turn, go, stop}
-use Rattle.prelude.specs.Search.{rank}
 use Rattle.prelude.proofs.Tests.{pick-elim, split, facts}
 use Rattle.prelude.proofs.Searches.{rising-ge}
 use Rattle.prelude.proofs.Turns.{from-go, from-stop, from-all}

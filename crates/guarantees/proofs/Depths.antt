@@ -1,30 +1,35 @@
 -- Depths of a well-formed file: what `depths` tells is the depth, as paths tell it.
 --
 -- In order: where a value ends; the greatest depth that the tokens of a value reach; the depths from left to right; `depth-exact`.
-use mathlib.Core.Path.{_≡_, refl, sym, ap, _∙_, subst}
-use Prim.Native.Nat.{ℕ, zero, suc, _+_, _-_, _≤_, _<_, max}
+use mathlib.Core.Path.{_≡_, refl, sym, ap, _∙_}
+use Prim.Native.Nat.{ℕ, suc, _+_, _-_, _≤_, _<_, max}
 use mathlib.Core.Bool.{Bool, true, false, _&&_}
 use mathlib.Core.List.{List, [], _∷_, _++_, append-assoc, append-nil, map}
 use native.Mathlib.Nat.{add-zero, zero-add}
 use native.Mathlib.Omega.{arith}
-use borrow.Author.Tests.{lt-ltb, le-ltb, le-leb, lt-leb, leb-true}
+use borrow.Author.Tests.{lt-ltb, le-ltb, leb-true}
 use lib.Dec.{leb, ltb}
-use lib.ListN.{length, take, getD, length-append}
-use lib.Seq.{append-snoc}
+use lib.ListN.{length, take, getD, replicate, length-append, List·getD-append}
+use lib.Seq.{take-at}
 use Rattle.prelude.specs.Pick.{pick}
 use Rattle.prelude.specs.Answer.{Answer, ok, error}
 use Rattle.prelude.specs.Search.{rank}
-use Rattle.prelude.proofs.Tests.{split}
+use Rattle.prelude.proofs.Tests.{pick-elim}
+use Rattle.error.specs.Error.{Fault, fault, FULL}
 use Rattle.token.specs.Token.{Token, emit, Fits}
 use Rattle.scan.specs.Told.{scanAt}
 use Rattle.scan.specs.declared.ScanResult.the-variants.{Ok}
 use Rattle.scan.proofs.Places.{headAt, scanAt-emit, scanAt-item}
 use Rattle.values.specs.Values.{Value, tokens, bytes, region, starts, Each, Item, Formed, Aimed, Reaches, Back, Values, WellFormed}
-use Rattle.values.specs.Paths.{targets, targetsOf, deepest, pass}
+use Rattle.values.specs.Paths.{targets, targetsOf, deepest, pass, Depth}
 use Rattle.values.specs.Paths as paths
 use Rattle.values.proofs.Laws.{emit-pos, region-append, region-at, length-starts, starts-append, start-of, fits-item, fits-head}
-use Rattle.depths.specs.Depths.{reached, sight, deepestFrom, depthAt, depthsTo}
+use Rattle.values.proofs.Depths.{length-depths, depth-is}
+use Rattle.checker.specs.Check.{filled, checkIn, checkOf}
+use Rattle.depths.specs.Depths.{reached, sight, deepestFrom, depthAt, depthsTo, Deepened, deepened, measured, depthsOf}
 use Rattle.depths.proofs.Laws.{deepest-end, deepest-token}
+use Rattle.guarantees.proofs.Files.{answer-error}
+use Rattle.guarantees.proofs.Accepts.{finds}
 
 -- ---- where a value ends
 
@@ -158,3 +163,50 @@ depths-are vs w =
     let e = depths-pass vs [] vs refl (w .formed) (w .aimed) in
     let many : length (starts 0 vs) ≡ 0 + length vs = length-starts 0 vs ∙ omega arith in
     rw many (sym e)
+
+module _ (file : List ℕ) (vs : List Value) (entry cap room : ℕ) (w : WellFormed file vs entry) (words : length vs ≤ cap) where
+  region-is : take (length file - 1) file ≡ region vs
+  region-is =
+      let long : length (region vs) ≡ length file - 1 = omega (arith, ap length (w .same), length-append (region vs) (w .delta ∷ [])) in
+      ap (take (length file - 1)) (w .same) ∙ take-at (region vs) (w .delta ∷ []) (length file - 1) long
+
+  pub depths-tell : length vs ≤ room
+      → depthsOf file cap room ≡ deepened (ok (length vs, entry)) (filled cap (starts 0 vs)) (filled room (paths.depthsOf vs))
+  unfolding depthsOf
+  depths-tell enough =
+      let many = length-starts 0 vs in
+      rw (← finds file vs entry cap w words, le-ltb room (length (starts 0 vs)) (omega arith), region-is, depths-are vs (w .values), many)
+
+  -- a second table that is too short
+  pub depths-full : room < length vs → depthsOf file cap room ≡ deepened (error (fault FULL (getD (starts 0 vs) room 0))) (replicate cap 0) (replicate room 0)
+  unfolding depthsOf
+  depths-full few =
+      let many = length-starts 0 vs in
+      rw (← finds file vs entry cap w words, lt-ltb room (length (starts 0 vs)) (omega arith))
+
+  -- the depths are those that paths tell
+  pub depth-exact : length vs ≤ room → (i : ℕ) → i < length vs → Depth vs i (getD (depthsOf file cap room .depths) i 0)
+  depth-exact enough i h =
+      let told : depthsOf file cap room .depths ≡ filled room (paths.depthsOf vs) = ap (λ (d : Deepened). d .depths) (depths-tell enough) in
+      let word = List·getD-append (paths.depthsOf vs) (replicate (room - length (paths.depthsOf vs)) 0) 0 i (omega (arith, length-depths vs)) in
+      rw (told, word) (depth-is vs (w .values) i h)
+
+-- on an error both tables are all 0
+abbrev pub Zeros : ℕ → ℕ → Deepened → Type 0
+Zeros cap room d = (d .starts ≡ replicate cap 0) × (d .depths ≡ replicate room 0)
+
+pub depths-zero : (file : List ℕ) (cap room : ℕ) (f : Fault) → depthsOf file cap room .answer ≡ error f → Zeros cap room (depthsOf file cap room)
+unfolding depthsOf
+depths-zero file cap room f e = by-cases (checkIn file cap) e
+  where
+    by-cases : (a : Answer Fault ((List ℕ) × ℕ)) → measured (take (length file - 1) file) cap room a .answer ≡ error f
+        → Zeros cap room (measured (take (length file - 1) file) cap room a)
+    by-cases (ok r) q =
+        pick-elim (λ (d : Deepened). d .answer ≡ error f → Zeros cap room d) (ltb room (length (r .0)))
+        (λ t z. (refl, refl)) (λ t z. let y : _≡_ {A = ℕ} 0 1 = cc in absurd (omega arith)) q
+    by-cases (error g) q = (refl, refl)
+
+-- and check's errors come first
+pub depths-errors : (file : List ℕ) (cap room : ℕ) (f : Fault) → checkOf file cap .answer ≡ error f → depthsOf file cap room .answer ≡ error f
+unfolding depthsOf checkOf
+depths-errors file cap room f e = rw (← answer-error cap f (checkIn file cap) e)

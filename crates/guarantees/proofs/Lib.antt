@@ -1,4 +1,28 @@
--- document 01's samples, proved of the definitions
-pub mod Samples
+-- a file as check reads it
+pub mod Files
+-- a token as the walk of check takes it
+pub mod Taken
+-- what the walk of check has passed
+pub mod Walked
+-- what scan refuses is not FULL
+pub mod Faults
+-- where the walk of check ends
+pub mod Ends
+-- check accepts every well-formed file
+pub mod Accepts
+-- and no other
+pub mod Accepted
+-- FULL, and the table that check leaves
+pub mod Full
+-- a token in a region
+pub mod Tokens
+-- a pointer leads where its target leads
+pub mod Pointers
+-- the reader tells a well-formed file's values as the pages do
+pub mod Tells
+-- following comes to a value that is no pointer
+pub mod Hops
 -- depths of a well-formed file
 pub mod Depths
+-- document 01's samples, proved of the definitions
+pub mod Samples

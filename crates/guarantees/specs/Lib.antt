@@ -1,2 +1,8 @@
+-- what check accepts, and when its table is too short
+pub mod Accepts
+-- what the pages say of a token
+pub mod Tells
+-- the tokens of a file's values by their place, and where following comes to
+pub mod Places
 -- document 01's samples
 pub mod Samples

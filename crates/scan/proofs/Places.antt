@@ -103,7 +103,8 @@ pub record Read (inner : Bool) (s : List ℕ) (at : ℕ) (h : Head) : Type 0 whe
   pub head : h ≡ headAt at token
   pub body : take (h .end - h .first) (drop (h .first) s) ≡ token .body
 
-body-read : (s rest : List ℕ) (at : ℕ) (t : Token) → drop at s ≡ emit t ++ rest
+-- the body's bytes, where a token stands
+pub body-read : (s rest : List ℕ) (at : ℕ) (t : Token) → drop at s ≡ emit t ++ rest
     → take (headAt at t .end - headAt at t .first) (drop (headAt at t .first) s) ≡ t .body
 body-read s rest at t same =
     let long = length-emit (t .kind) (t .n) (t .args) (t .body) in

@@ -1,7 +1,6 @@
 -- `checker::look` meets its contract.
-use mathlib.Core.Path.{sym, _∙_}
+use mathlib.Core.Path.{sym}
 use borrow.Author.Needs.{needs}
-use native.Mathlib.Omega.{arith}
 use lib.Seq.{length-take-le}
 use Rattle.prelude.proofs.Readers.{bind-ok, bind-error}
 use Rattle.scan.proofs.Places.{scan-within}

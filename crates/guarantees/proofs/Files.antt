@@ -1,0 +1,154 @@
+-- A file as check reads it: its region, and the delta byte.
+--
+-- In order: a file is refused at once, or is a region and a delta byte (`shape`), and then check walks the region (`checkIn-whole`); the entry
+-- that the delta byte names (`entered-named`, `entered-told`); what an answer tells: of check's table (`answer-ok`, `answer-error`), and of the
+-- walk (`found-ok`, `found-error`).
+use mathlib.Core.Path.{_≡_, refl, sym, ap, _∙_, subst}
+use Prim.Native.Nat.{ℕ, suc, _+_, _-_, _≤_, _<_}
+use mathlib.Core.Bool.{true, _&&_}
+use mathlib.Core.List.{List, [], _∷_, _++_}
+use native.Mathlib.Omega.{arith}
+use borrow.Author.Tests.{eq-eqb, ne-eqb, lt-ltb, le-ltb, ltb-true}
+use lib.Dec.{ltb}
+use lib.ListN.{length, take, getD, length-append, drop-of-length-le}
+use lib.Seq.{split-at, take-append-seam, getD-append-seam}
+use Rattle.prelude.specs.Answer.{Answer, ok, error, bind}
+use Rattle.prelude.specs.Bytes.{Bytes}
+use Rattle.prelude.specs.Search.{among}
+use Rattle.prelude.proofs.Tests.{pick-elim, split, and-l, and-r}
+use Rattle.error.specs.Error.{Fault, fault, LIMIT, EMPTY, TOO_LONG, TRUNC, BAD_ENTRY}
+use Rattle.checker.specs.Check.{between, startsFrom, entryAt, checkIn, listed}
+
+-- ---- the shape of a file
+
+-- a region and a delta byte
+pub record Whole (file : List ℕ) : Type 0 where
+  pub region : List ℕ
+  pub delta : ℕ
+  pub short : length file ≤ LIMIT
+  pub same : file ≡ region ++ (delta ∷ [])
+
+pub whole : (file : List ℕ) → 1 ≤ length file → length file ≤ LIMIT → Whole file
+whole file some short =
+    let p = length file - 1 in
+    record {
+      region = take p file;
+      delta = getD file p 0;
+      short = short;
+      same = split-at file p 0 (omega arith) ∙ rw (drop-of-length-le file {i = suc p} (omega arith));
+    }
+
+-- or else it is refused at once, whatever the table
+pub data Shape (file : List ℕ) : Type 0 where
+  refused : (e : Fault) → e .number < TRUNC → ((cap : ℕ) → error e ≡ checkIn file cap) → Shape file
+  read : Whole file → Shape file
+
+pub shape : (file : List ℕ) → Shape file
+unfolding checkIn
+shape file =
+    split 0 (length file)
+    (λ some. split LIMIT (length file)
+    (λ long. refused (fault TOO_LONG 0) (omega arith) (λ cap. rw (ne-eqb (length file) 0 (λ z. omega arith), lt-ltb _ _ long)))
+    (λ short. read (whole file some short)))
+    (λ none. refused (fault EMPTY 0) (omega arith) (λ cap. rw (eq-eqb (length file) 0 (omega arith))))
+
+-- what check makes of the starts of a region's values, with the delta byte d at p behind the region
+abbrev pub entered : ℕ → ℕ → List ℕ → Answer Fault ((List ℕ) × ℕ)
+entered p d done = bind (entryAt p d done) (λ e. ok (done, e))
+
+checkIn-region : (s : List ℕ) (d cap : ℕ) → length (s ++ (d ∷ [])) ≤ LIMIT
+    → checkIn (s ++ (d ∷ [])) cap ≡ bind (startsFrom s cap (between 0 [])) (entered (length s) d)
+unfolding checkIn
+checkIn-region s d cap short =
+    let n : length (s ++ (d ∷ [])) ≡ length s + 1 = length-append s (d ∷ []) in
+    let p : length s + 1 - 1 ≡ length s = omega arith in
+    rw (n, ne-eqb (length s + 1) 0 (λ z. omega arith), le-ltb LIMIT (length s + 1) (omega arith), p, take-append-seam, getD-append-seam)
+
+bytes-front : (p s : List ℕ) → Bytes (p ++ s) → Bytes p
+bytes-front [] s b = tt
+bytes-front (x ∷ p) s b = (b .0, bytes-front p s (b .1))
+
+module _ (file : List ℕ) (w : Whole file) where
+  pub length-whole : length file ≡ length (w .region) + 1
+  length-whole = ap length (w .same) ∙ length-append (w .region) (w .delta ∷ [])
+
+  pub bytes-whole : Bytes file → Bytes (w .region)
+  bytes-whole b = bytes-front (w .region) (w .delta ∷ []) (subst Bytes (w .same) b)
+
+  pub checkIn-whole : (cap : ℕ) → checkIn file cap ≡ bind (startsFrom (w .region) cap (between 0 [])) (entered (length (w .region)) (w .delta))
+  checkIn-whole cap = ap (λ f. checkIn f cap) (w .same) ∙ checkIn-region (w .region) (w .delta) cap (rw (w .same) at (w .short))
+
+-- ---- the entry
+
+pub entered-named : (p d entry : ℕ) (done : List ℕ) → entry + d + 1 ≡ p → among entry done ≡ true → ok (done, entry) ≡ entered p d done
+unfolding entryAt bind
+entered-named p d entry done named start =
+    let e : p - d - 1 ≡ entry = omega arith in
+    rw (lt-ltb d p (omega arith), e, start)
+
+abbrev Enters : ℕ → ℕ → List ℕ → Answer Fault ((List ℕ) × ℕ) → Type 0
+Enters p d done (ok r) = (r .0 ≡ done) × (r .1 + d + 1 ≡ p) × (among (r .1) done ≡ true)
+Enters p d done (error f) = f .number ≡ BAD_ENTRY
+
+module _ (p d : ℕ) (done : List ℕ) where
+  enters : Enters p d done (entered p d done)
+  unfolding entryAt bind
+  enters =
+      pick-elim (λ a. Enters p d done (bind a (λ e. ok (done, e)))) (ltb d p && among (p - d - 1) done)
+      (λ t. (refl, omega (arith, ltb-true d p (and-l (ltb d p) _ t)), and-r (ltb d p) _ t)) (λ t. refl)
+
+  entered-told : (a : Answer Fault ((List ℕ) × ℕ)) → a ≡ entered p d done → Enters p d done a
+  entered-told a e = subst (Enters p d done) (sym e) enters
+
+-- ---- what an answer tells
+
+bind-ok-by : {E A B X : Type 0} {x : B} (r : Answer E A) (f : A → Answer E B) → ok x ≡ bind r f → ((a : A) → ok a ≡ r → ok x ≡ f a → X) → X
+unfolding bind
+bind-ok-by (ok a) f e k = k a refl e
+bind-ok-by (error g) f e k = let z : _≡_ {A = ℕ} 0 1 = cc in absurd (omega arith)
+
+bind-error-by : {E A B X : Type 0} {x : E} (r : Answer E A) (f : A → Answer E B) → error x ≡ bind r f → (error x ≡ r → X)
+    → ((a : A) → ok a ≡ r → error x ≡ f a → X) → X
+unfolding bind
+bind-error-by (ok a) f e k l = l a refl e
+bind-error-by (error g) f e k l = k (cc)
+
+pub answer-ok : {X : Type 0} (cap count entry : ℕ) (a : Answer Fault ((List ℕ) × ℕ)) → listed cap a .answer ≡ ok (count, entry)
+    → ((done : List ℕ) → ok (done, entry) ≡ a → count ≡ length done → X) → X
+answer-ok cap count entry (ok r) e k =
+    let pair : _≡_ {A = ℕ × ℕ} (length (r .0), r .1) (count, entry) = cc in
+    k (r .0) (ap (λ (y : ℕ × ℕ). ok (r .0, y .1)) (sym pair)) (ap (λ (y : ℕ × ℕ). y .0) (sym pair))
+answer-ok cap count entry (error f) e k = let z : _≡_ {A = ℕ} 0 1 = cc in absurd (omega arith)
+
+pub answer-error : (cap : ℕ) (f : Fault) (a : Answer Fault ((List ℕ) × ℕ)) → listed cap a .answer ≡ error f → error f ≡ a
+answer-error cap f (ok r) e = let z : _≡_ {A = ℕ} 0 1 = cc in absurd (omega arith)
+answer-error cap f (error g) e = cc
+
+module _ {X : Type 0} (file : List ℕ) (cap : ℕ) where
+  -- an accepted file: the starts that the walk came to, and the entry
+  pub found-ok : (done : List ℕ) (entry : ℕ) → ok (done, entry) ≡ checkIn file cap
+      → ((w : Whole file) → ok done ≡ startsFrom (w .region) cap (between 0 []) → entry + w .delta + 1 ≡ length (w .region)
+      → among entry done ≡ true → X)
+      → X
+  found-ok done entry e k = by-shape (shape file)
+    where
+      by-shape : Shape file → X
+      by-shape (refused f low r) = let q = e ∙ sym (r cap) in let z : _≡_ {A = ℕ} 0 1 = cc in absurd (omega arith)
+      by-shape (read w) =
+          bind-ok-by (startsFrom (w .region) cap (between 0 [])) _ (e ∙ checkIn-whole file w cap) (λ found walked q.
+          let (same, named, start) = entered-told (length (w .region)) (w .delta) found _ q in
+          k w (rw same walked) named (rw same start))
+
+  -- a file that was refused, but not for EMPTY, TOO_LONG or BAD_ENTRY
+  pub found-error : (f : Fault) → error f ≡ checkIn file cap → TRUNC ≤ f .number → f .number < BAD_ENTRY
+      → ((w : Whole file) → error f ≡ startsFrom (w .region) cap (between 0 []) → X) → X
+  found-error f e low high k = by-shape (shape file)
+    where
+      by-shape : Shape file → X
+      by-shape (refused g less r) =
+          let q = e ∙ sym (r cap) in
+          let same : f ≡ g = cc in
+          absurd (omega (arith, ap (λ (x : Fault). x .number) same))
+      by-shape (read w) =
+          bind-error-by (startsFrom (w .region) cap (between 0 [])) _ (e ∙ checkIn-whole file w cap) (λ q. k w q)
+          (λ found walked q. absurd (omega (arith, entered-told (length (w .region)) (w .delta) found (error f) q)))

@@ -1,0 +1,195 @@
+-- FULL, and the table that check leaves.
+--
+-- In order: when FULL is told (`full-exactly`); never where there are as many words as bytes in the region (`never-full`); too few words change
+-- nothing but that FULL is told (`fewer-words`); a file that is refused leaves zeros (`refused-zero`), and the table keeps its length
+-- (`length-table`).
+use mathlib.Core.Path.{_≡_, refl, sym, ap, _∙_, subst}
+use mathlib.Core.Logic.{_↔_, _⊎_, inl, inr}
+use Prim.Native.Nat.{ℕ, zero, suc, _+_, _-_, _≤_, _<_}
+use mathlib.Core.Bool.{Bool, true, false, _&&_}
+use mathlib.Core.List.{List, [], _∷_, _++_, append-assoc}
+use native.Mathlib.Omega.{arith}
+use borrow.Author.Tests.{ne-eqb, eq-eqb, le-leb, lt-leb}
+use lib.Dec.{eqb, leb}
+use lib.ListN.{length, take, drop, replicate, length-append, length-replicate, take-append-drop}
+use lib.Seq.{take-at, take-append-le}
+use Rattle.prelude.specs.Pick.{pick}
+use Rattle.prelude.specs.Answer.{Answer, ok, error, bind}
+use Rattle.prelude.specs.Bytes.{Bytes}
+use Rattle.prelude.specs.Loop.{Turn, go, stop, follow, run, from}
+use Rattle.prelude.proofs.Tests.{split}
+use Rattle.prelude.proofs.Searches.{rising-ge}
+use Rattle.prelude.proofs.Readers.{bind-error}
+use Rattle.error.specs.Error.{Fault, fault, FULL}
+use Rattle.values.specs.Values.{region, starts}
+use Rattle.values.proofs.Laws.{length-starts}
+use Rattle.checker.specs.Check.{Walk, between, next, turned, turn, startsFrom, checkIn, listed, checkOf}
+use Rattle.checker.proofs.Walks.{Going, walk-error, come}
+use Rattle.guarantees.specs.Accepts.{Overfull}
+use Rattle.guarantees.proofs.Files.{Whole, whole, length-whole, bytes-whole, checkIn-whole, Shape, refused, read, shape}
+use Rattle.guarantees.proofs.Files.{answer-error, found-ok, found-error}
+use Rattle.guarantees.proofs.Accepts.{walks-prefix}
+use Rattle.guarantees.proofs.Walked.{Walked, walked-between}
+use Rattle.guarantees.proofs.Ends.{Ends, walk-ends}
+use Rattle.guarantees.proofs.Accepted.{walked-ends}
+
+-- ---- when FULL is told
+
+full-by : {X : Type 0} (file : List ℕ) (cap p : ℕ) → checkOf file cap .answer ≡ error (fault FULL p)
+    → ((w : Whole file) → error (fault FULL p) ≡ startsFrom (w .region) cap (between 0 []) → X) → X
+unfolding checkOf
+full-by file cap p e k = found-error file cap (fault FULL p) (answer-error cap (fault FULL p) (checkIn file cap) e) (omega arith) (omega arith) k
+
+overfull : (file : List ℕ) (cap p : ℕ) → Bytes file → (w : Whole file) → error (fault FULL p) ≡ startsFrom (w .region) cap (between 0 [])
+    → Overfull file cap p
+overfull file cap p b w e =
+    let s = w .region in
+    let r = subst (Ends s cap (Walked s)) (sym e) (walked-ends s cap (bytes-whole file w b)) refl in
+    let v = walked-between s (r .walk) (r .wordless .between) (r .holds) in
+    let place : length (region (v .values)) ≡ p = sym (v .at) ∙ r .wordless .place in
+    let front : file ≡ region (v .values) ++ (v .rest ++ (w .delta ∷ [])) =
+    w .same ∙ rw (← append-assoc) (ap (λ x. x ++ (w .delta ∷ [])) (v .same)) in
+    record {
+      short = w .short;
+      values = v .values;
+      wellFormed = v .wellFormed;
+      count = omega (arith, ap length (v .done), length-starts 0 (v .values), r .going .count, r .wordless .none);
+      same = ap (take p) front ∙ take-at (region (v .values)) _ p place;
+      place = place;
+      more = omega (arith, r .inside, length-whole file w);
+    }
+
+-- the walk passes the values, and has no word for the next
+overfull-full : (file : List ℕ) (cap p : ℕ) → Overfull file cap p → (w : Whole file)
+    → error (fault FULL p) ≡ startsFrom (w .region) cap (between 0 [])
+unfolding next
+overfull-full file cap p o w =
+    let s = w .region in
+    let vs = o .values in
+    let inside : p < length s = omega (arith, o .more, length-whole file w) in
+    let front : take p s ≡ region vs = sym (take-append-le p s (w .delta ∷ []) (omega arith)) ∙ ap (take p) (sym (w .same)) ∙ o .same in
+    let same : s ≡ region vs ++ drop p s = sym (take-append-drop p s) ∙ ap (λ x. x ++ drop p s) front in
+    let walked = walks-prefix s cap [] 0 vs (drop p s) same (o .wellFormed .formed) (o .wellFormed .aimed) (omega (arith, o .count)) in
+    let full = le-leb cap (length (starts 0 vs)) (omega (arith, o .count, length-starts 0 vs)) in
+    let at : p ≡ 0 + length (region vs) = omega (arith, o .place) in
+    walk-error s cap (between p (starts 0 vs)) (lt-leb (length s) p inside) (fault FULL p) (rw full)
+    ∙ ap (λ q. startsFrom s cap (between q (starts 0 vs))) at ∙ sym walked
+
+pub full-exactly : (file : List ℕ) (cap p : ℕ) → Bytes file → (checkOf file cap .answer ≡ error (fault FULL p)) ↔ Overfull file cap p
+unfolding checkOf
+full-exactly file cap p b = (
+  λ e. full-by file cap p e (overfull file cap p b),
+  λ o. let w = whole file (omega (arith, o .more)) (o .short) in
+      let found : error (fault FULL p) ≡ checkIn file cap = bind-error _ (overfull-full file cap p o w) ∙ sym (checkIn-whole file w cap) in
+      rw (← found),
+)
+
+-- ---- never with words enough
+
+-- the values before the walk have a byte each
+done-le : (s : List ℕ) (cap : ℕ) (w : Walk) → Going s cap w → length (w .done) ≤ w .at
+done-le s cap w g =
+    let last : ℕ = length (w .done) - 1 in
+    split 0 (length (w .done))
+    (λ some. omega (arith, rising-ge (w .done) (g .rising) last (omega arith), g .below last (omega arith), g .start)) (λ none. omega arith)
+
+pub never-full : (file : List ℕ) (cap p : ℕ) → length file ≤ suc cap → checkOf file cap .answer ≡ error (fault FULL p) → ⊥
+never-full file cap p enough e =
+    full-by file cap p e (λ w q.
+    let s = w .region in
+    let r = subst (Ends s cap (λ v. Unit {0})) (sym q) (walk-ends s cap (λ v. Unit {0}) (λ v h t u. tt) tt) refl in
+    omega (arith, done-le s cap (r .walk) (r .going), r .wordless .none, r .wordless .place, r .inside, length-whole file w))
+
+-- ---- fewer words
+
+abbrev IsFull : Answer Fault (List ℕ) → Type 0
+IsFull a = (p : ℕ) × (a ≡ error (fault FULL p))
+
+-- two loops whose turns are the same, but where the first stops with an answer of P
+module _ {S R : Type 0} (P : R → Type 0) where
+  follow-or : (f g : S → R) → ((s : S) → P (f s) ⊎ (f s ≡ g s)) → (t : Turn S R) → P (follow t f) ⊎ (follow t f ≡ follow t g)
+  follow-or f g h (go s) = h s
+  follow-or f g h (stop a) = inr refl
+
+  run-or : (t u : S → Turn S R) (r : R) → ((s : S) → ((a : R) × (t s ≡ stop a) × P a) ⊎ (t s ≡ u s))
+      → (k : ℕ) (s : S) → P (run t r k s) ⊎ (run t r k s ≡ run u r k s)
+  unfolding run
+  run-or t u r same zero s = inr refl
+  run-or t u r same (suc k) s =
+      elim (same s) [
+        | inl (a, e, q) ↦ inl (rw e q)
+        | inr e ↦ rw e (follow-or (run t r k) (run u r k) (run-or t u r same k) (u s))
+      ]
+
+module _ (s : List ℕ) (cap more : ℕ) (le : cap ≤ more) where
+  next-fewer : (done : List ℕ) (pending at : ℕ)
+      → (next s cap done pending at ≡ error (fault FULL at)) ⊎ (next s cap done pending at ≡ next s more done pending at)
+  unfolding next
+  next-fewer done pending at =
+      split 0 pending
+      (λ busy. inr (rw (ne-eqb pending 0 (λ z. omega arith))))
+      (λ idle. split (length done) cap
+      (λ free. inr (rw (lt-leb cap (length done) free, lt-leb more (length done) (omega arith))))
+      (λ full. inl (rw (eq-eqb pending 0 (omega arith), le-leb cap (length done) full))))
+
+  turn-fewer : (w : Walk) → ((a : Answer Fault (List ℕ)) × (turn s cap w ≡ stop a) × IsFull a) ⊎ (turn s cap w ≡ turn s more w)
+  unfolding turn
+  turn-fewer w = by-test (eqb (w .pending) 0 && leb (length s) (w .at))
+    where
+      turned-at : ℕ → Bool → Turn Walk (Answer Fault (List ℕ))
+      turned-at c t = pick t (stop (ok (w .done))) (turned w (next s c (w .done) (w .pending) (w .at)))
+
+      by-test : (t : Bool) → ((a : Answer Fault (List ℕ)) × (turned-at cap t ≡ stop a) × IsFull a) ⊎ (turned-at cap t ≡ turned-at more t)
+      by-test true = inr refl
+      by-test false =
+          elim (next-fewer (w .done) (w .pending) (w .at)) [
+            | inl e ↦ inl (error (fault FULL (w .at)), rw e, (w .at, refl))
+            | inr e ↦ inr (rw e)
+          ]
+
+  starts-fewer : IsFull (startsFrom s cap (between 0 [])) ⊎ (startsFrom s cap (between 0 []) ≡ startsFrom s more (between 0 []))
+  unfolding startsFrom from
+  starts-fewer = run-or IsFull (turn s cap) (turn s more) (error (fault 0 0)) turn-fewer _ (between 0 [])
+
+checkIn-fewer : (file : List ℕ) (cap more : ℕ) → cap ≤ more
+    → ((p : ℕ) × (checkIn file cap ≡ error (fault FULL p))) ⊎ (checkIn file cap ≡ checkIn file more)
+unfolding bind
+checkIn-fewer file cap more le = by-shape (shape file)
+  where
+    by-shape : Shape file → ((p : ℕ) × (checkIn file cap ≡ error (fault FULL p))) ⊎ (checkIn file cap ≡ checkIn file more)
+    by-shape (refused e low r) = inr (sym (r cap) ∙ r more)
+    by-shape (read w) =
+        elim (starts-fewer (w .region) cap more le) [
+          | inl (p, e) ↦ inl (p, rw (checkIn-whole file w cap, e))
+          | inr e ↦ inr (rw (checkIn-whole file w cap, checkIn-whole file w more, e))
+        ]
+
+listed-answer : (cap more : ℕ) (a : Answer Fault ((List ℕ) × ℕ)) → listed cap a .answer ≡ listed more a .answer
+listed-answer cap more (ok r) = refl
+listed-answer cap more (error f) = refl
+
+pub fewer-words : (file : List ℕ) (cap more : ℕ) → cap ≤ more
+    → ((p : ℕ) × (checkOf file cap .answer ≡ error (fault FULL p))) ⊎ (checkOf file cap .answer ≡ checkOf file more .answer)
+unfolding checkOf
+fewer-words file cap more le =
+    elim (checkIn-fewer file cap more le) [
+      | inl (p, e) ↦ inl (p, rw e)
+      | inr e ↦ inr (rw e (listed-answer cap more (checkIn file more)))
+    ]
+
+-- ---- the table that is left
+
+pub refused-zero : (file : List ℕ) (cap : ℕ) (f : Fault) → checkOf file cap .answer ≡ error f → checkOf file cap .starts ≡ replicate cap 0
+unfolding checkOf
+refused-zero file cap f e = rw (← answer-error cap f (checkIn file cap) e)
+
+pub length-table : (file : List ℕ) (cap : ℕ) → length (checkOf file cap .starts) ≡ cap
+unfolding checkOf
+length-table file cap = by-cases (checkIn file cap) refl
+  where
+    by-cases : (a : Answer Fault ((List ℕ) × ℕ)) → a ≡ checkIn file cap → length (listed cap a .starts) ≡ cap
+    by-cases (ok r) e =
+        found-ok file cap (r .0) (r .1) e (λ w walked named start.
+        let zeros : ℕ = cap - length (r .0) in
+        omega (arith, come (w .region) cap (r .0) walked .1, length-append (r .0) (replicate zeros 0), length-replicate {A = ℕ} zeros 0))
+    by-cases (error f) e = length-replicate cap 0

@@ -1,0 +1,103 @@
+-- Of a well-formed file, following comes to a value that is no pointer, by at most j hops from value number j (document 01, "Questions at an
+-- offset").
+--
+-- In order: a token that is no pointer is where following stops (`hops-none`); a pointer's target is a value before the one that it is or is
+-- in, so following from it comes to one (`hops-pointer`), and so does following from a value (`hops`).
+use mathlib.Core.Path.{_≡_, refl, sym, ap, _∙_, subst}
+use mathlib.Core.List.{List, _∷_, _++_}
+use Prim.Native.Nat.{ℕ, zero, suc, _+_, _-_, _<_}
+use native.Mathlib.Decide.{ℕ-discrete}
+use native.Mathlib.Nat.{le-refl}
+use native.Mathlib.Omega.{arith}
+use lib.ListN.{length, getD, length-append, List·getD-append}
+use Rattle.prelude.specs.Answer.{ok}
+use Rattle.prelude.proofs.Readers.{bind-ok}
+use Rattle.prelude.proofs.Searches.{among-by}
+use Rattle.token.specs.Token.{Token}
+use Rattle.scan.proofs.Places.{headAt}
+use Rattle.values.specs.Values.{Value, region, starts, WellFormed}
+use Rattle.values.proofs.Laws.{value-at, start-of, length-starts, starts-append}
+use Rattle.reader.specs.Query.{followIn, followOf}
+use Rattle.reader.proofs.Laws.{trail-end}
+use Rattle.guarantees.specs.Places.{Stands, Comes}
+use Rattle.guarantees.proofs.Pointers.{further, follow-pointer}
+use Rattle.guarantees.proofs.Tells.{inside-region, within, looked, aims, head-stands}
+
+starts-before : (vs a b : List Value) (i : ℕ) → vs ≡ a ++ b → i < length (starts 0 a) → getD (starts 0 vs) i 0 ≡ getD (starts 0 a) i 0
+starts-before vs a b i e h = rw (e, starts-append 0 a b) (List·getD-append (starts 0 a) _ 0 i h)
+
+module _ (file : List ℕ) (vs : List Value) (entry : ℕ) (w : WellFormed file vs entry) where
+  module _ (j q : ℕ) (t : Token) (st : Stands vs j q t) where
+    follows : followOf file q ≡ followIn (region vs) q
+    follows = inside-region file vs entry w (λ s. followIn s q) q (within file vs entry w j q t st)
+
+    pub hops-none : (t .kind ≡ 15 → ⊥) → followOf file q ≡ ok (q, 0)
+    unfolding followIn
+    hops-none k = follows ∙ sym (bind-ok _ (trail-end (region vs) q 0 (headAt q t) (looked file vs entry w j q t st) k) refl)
+
+    module _ (k : t .kind ≡ 15) where
+      -- the number of the target
+      target : (i : ℕ) × (i < j) × (getD (starts 0 vs) i 0 ≡ q - t .n - 1)
+      target =
+          let (i, i<, e) = among-by (q - t .n - 1) (starts 0 (st .before)) (aims file vs entry w j q t st (omega arith) .1) in
+          (i, omega (arith, length-starts 0 (st .before), st .numbered), starts-before vs (st .before) (st .value ∷ st .after) i (st .values) i< ∙ e)
+
+      -- one hop more
+      hop : (i : ℕ) → i < j → getD (starts 0 vs) i 0 ≡ q - t .n - 1 → Comes file vs i (getD (starts 0 vs) i 0)
+          → Comes file vs j q
+      hop i less e c =
+          let p = q - t .n - 1 in
+          let there = inside-region file vs entry w (λ s. followIn s p) p (omega (arith, within file vs entry w j q t st)) in
+          let pointer = follow-pointer (region vs) q (headAt q t) (looked file vs entry w j q t st) k in
+          record {
+            before = c .before;
+            value = c .value;
+            after = c .after;
+            values = c .values;
+            number = c .number;
+            numbered = c .numbered;
+            other = c .other;
+            hops = c .hops + 1;
+            follows = follows ∙ pointer ∙ ap further (sym there ∙ rw e at (c .follows));
+            falls = omega (arith, c .falls);
+          }
+
+      through : ((i : ℕ) → i < j → Comes file vs i (getD (starts 0 vs) i 0)) → Comes file vs j q
+      through more = let (i, less, e) = target in hop i less e (more i less)
+
+  by-value : (a : List Value) (v : Value) (b : List Value) → vs ≡ a ++ (v ∷ b)
+      → ((i : ℕ) → i < length a → Comes file vs i (getD (starts 0 vs) i 0)) → Comes file vs (length a) (getD (starts 0 vs) (length a) 0)
+  by-value a v b e more =
+      let st = head-stands vs a v b e in
+      let at : getD (starts 0 vs) (length a) 0 ≡ length (region a) = rw e (start-of a v b) in
+      elim (ℕ-discrete (v .head .kind) 15) [
+        | yes k ↦ rw at (through (length a) (length (region a)) (v .head) st k more)
+        | no k ↦ record {
+          before = a;
+          value = v;
+          after = b;
+          values = e;
+          number = length a;
+          numbered = refl;
+          other = k;
+          hops = 0;
+          follows = rw at (hops-none (length a) (length (region a)) (v .head) st k);
+          falls = omega arith;
+        }
+      ]
+
+  come : (f j : ℕ) → j < f → j < length vs → Comes file vs j (getD (starts 0 vs) j 0)
+  come zero j l h = absurd (omega arith)
+  come (suc f) j l h =
+      let p = value-at vs j h in
+      subst (λ n. Comes file vs n (getD (starts 0 vs) n 0)) (p .number)
+      (by-value (p .before) (p .value) (p .after) (p .same) (λ i less. come f i (omega (arith, p .number)) (omega (arith, p .number))))
+
+  pub hops : (j : ℕ) → j < length vs → Comes file vs j (getD (starts 0 vs) j 0)
+  hops j h = come (suc j) j (le-refl _) h
+
+  -- from a pointer that is value number j, or an item of it
+  pub hops-pointer : (j q : ℕ) (t : Token) (st : Stands vs j q t) → t .kind ≡ 15 → Comes file vs j q
+  hops-pointer j q t st k =
+      let long = ap length (st .values) ∙ length-append (st .before) (st .value ∷ st .after) in
+      through j q t st k (λ i less. hops i (omega (arith, st .numbered)))

@@ -1,0 +1,35 @@
+-- The tokens of a file's values by their place, and where following comes to.
+--
+--   Stands vs j q t      t is a token of value number j of the values vs, its head or an item, and its header is at q
+--   Comes file vs j q    following from q comes to the start of value number `number`, which is no pointer; `hops` and `number` make at most j
+use Prim.Native.Nat.{ℕ, _+_, _≤_}
+use mathlib.Core.Path.{_≡_}
+use mathlib.Core.List.{List, _∷_, _++_}
+use lib.ListN.{length, getD}
+use Rattle.prelude.specs.Answer.{ok}
+use Rattle.token.specs.Token.{Token}
+use Rattle.values.specs.Values.{Value, tokens, bytes, region, starts}
+use Rattle.reader.specs.Query.{followOf}
+
+pub record Stands (vs : List Value) (j q : ℕ) (t : Token) : Type 0 where
+  pub before : List Value
+  pub value : Value
+  pub after : List Value
+  pub values : vs ≡ before ++ (value ∷ after)
+  pub numbered : length before ≡ j
+  pub front : List Token
+  pub back : List Token
+  pub tokens : tokens value ≡ front ++ (t ∷ back)
+  pub place : q ≡ length (region before) + length (bytes front)
+
+pub record Comes (file : List ℕ) (vs : List Value) (j q : ℕ) : Type 0 where
+  pub before : List Value
+  pub value : Value
+  pub after : List Value
+  pub values : vs ≡ before ++ (value ∷ after)
+  pub number : ℕ
+  pub numbered : length before ≡ number
+  pub other : value .head .kind ≡ 15 → ⊥
+  pub hops : ℕ
+  pub follows : followOf file q ≡ ok (getD (starts 0 vs) number 0, hops)
+  pub falls : hops + number ≤ j
