@@ -7,9 +7,14 @@
 //   follow AT FILE        the offset that pointers lead to, and the pointers met
 //   lookup AT KEY FILE    the offset of the value of a key
 //   body AT FILE          the first offset and the length of a body, and its bytes
+//   check WORDS FILE      `ok`, the count of values and the entry, or the error; then what a table of WORDS words has: the starts
+//   depths WORDS WORDS FILE
+//                         the same, then what a second table has: the depths
 //
 // FILE, KEY and the bytes of a body are in hex, FILE and KEY `-` for no bytes; AT and INDEX are decimal, a larger one counts as 2^64-1.
+// WORDS are decimal, a larger one counts as 32.
 // An error is its name and its place. Another query is answered by ?. A line that begins with # is printed as it is.
+use checker::CheckResult;
 use error::Error;
 use libc::STDIN_FILENO;
 use libc::STDOUT_FILENO;
@@ -24,6 +29,9 @@ ghost use Prim.Native.Nat.{_≤_, _<_, _^_};
 ghost use lib.ListN.{length};
 ghost use Rattle.io.specs.Counts.{Counts};
 
+// What each word of a table is before the query.
+const JUNK: u32 = 0xaaaaaaaa;
+
 // What a line asks.
 enum Query {
     Tokens,
@@ -33,6 +41,8 @@ enum Query {
     Follow,
     Lookup,
     Body,
+    Check,
+    Depths,
     Unknown,
 }
 
@@ -94,7 +104,6 @@ fn tokens(region: &[u8]) {
     write(b" end");
 }
 
-// The answer of `skip`, `item` and `lookup`.
 // z, or -z-1 of a negative z.
 fn magnitude(z: i64) -> u64
     ensures { λ r. ⌜ r < 2 ^ 63 ⌝ }
@@ -163,6 +172,7 @@ fn read(r: ReadResult) {
     }
 }
 
+// The answer of `skip`, `item` and `lookup`.
 fn offset(r: OffsetResult) {
     match r {
         OffsetResult::Ok(at) => decimal(at as u64),
@@ -213,6 +223,61 @@ fn bytes(part: &[u8]) {
 fn body(file: &[u8], at: usize) {
     body_place(file, at);
     bytes(reader::body(file, at));
+}
+
+// The answer of `check` and `depths`.
+fn checked(r: CheckResult) {
+    match r {
+        CheckResult::Ok { count, entry } => two(b" ok", count as u64, entry as u64),
+        CheckResult::Err(e) => refusal(e),
+    }
+}
+
+fn decimal_u32(n: u32) {
+    decimal(n as u64);
+}
+
+fn table_words(t: &[u32]) {
+    let mut i: usize = 0;
+    while i < t.len() {
+        decimal_u32(t[i]);
+        i += 1;
+    }
+}
+
+fn check(file: &[u8], starts: &mut [u32]) {
+    checked(checker::check(file, starts));
+    write(b":");
+    table_words(starts);
+}
+
+fn depths(file: &[u8], starts: &mut [u32], second: &mut [u32]) {
+    checked(depths::depths(file, starts, second));
+    write(b":");
+    table_words(starts);
+    write(b" /");
+    table_words(second);
+}
+
+// The first n words of a table; all of them where it has fewer.
+fn front(t: &mut [u32], n: usize) -> &mut [u32] {
+    if n < t.len() {
+        return &mut t[0..n];
+    }
+    t
+}
+
+// With a table of n words.
+fn check_in(file: &[u8], n: usize) {
+    let mut starts = [JUNK; 32];
+    check(file, front(&mut starts, n));
+}
+
+// With tables of n and of m words.
+fn depths_in(file: &[u8], n: usize, m: usize) {
+    let mut starts = [JUNK; 32];
+    let mut second = [JUNK; 32];
+    depths(file, front(&mut starts, n), front(&mut second, m));
 }
 
 // ---- words
@@ -354,6 +419,12 @@ fn named(s: &[u8]) -> Query {
     if same(s, b"body") {
         return Query::Body;
     }
+    if same(s, b"check") {
+        return Query::Check;
+    }
+    if same(s, b"depths") {
+        return Query::Depths;
+    }
     Query::Unknown
 }
 
@@ -374,6 +445,8 @@ fn ask(q: Query, args: &[u8], file: &[u8]) {
         Query::Follow => follow(file, number(args)),
         Query::Lookup => lookup(file, number(args), word(behind(args))),
         Query::Body => body(file, number(args)),
+        Query::Check => check_in(file, number(args)),
+        Query::Depths => depths_in(file, number(args), number(behind(args))),
         Query::Unknown => write(b" ?"),
     }
 }
