@@ -10,9 +10,11 @@
 --                      token's own faults in their order
 --   passed w h         the walk behind it: a value's start is listed when none of its items is pending
 --   turn s cap w       one turn: the starts at the region's end between two values, and else a token
+--   turned w a         the same by what `next` told
 --   startsFrom s cap w the starts of a region's values, or the first fault; the walk goes on from w
 --   entryAt p d done   the entry that the delta byte d at the offset p names, or BAD_ENTRY
 --   checkIn file cap   the starts of a file's values, and its entry; or the first fault
+--   listed cap a       the same as answer and table
 --   checkOf file cap   what check answers and leaves in a table of cap words: count and entry, and the starts and then zeros; or the first
 --                      fault, and zeros
 use Prim.Native.Nat.{ℕ, _-_}
@@ -56,7 +58,7 @@ next s cap done pending at =
     pick (eqb pending 0 && leb cap (length done)) (error (fault FULL at))
     (bind (scanAt (ltb 0 pending) s at) (judge s done at))
 
--- the items pending behind a token that has some itself
+-- the items pending behind a token: its own where it begins a value, and else one less than before
 abbrev pub due : ℕ → ℕ → ℕ
 due pending items = pick (eqb pending 0) items (pending - 1)
 

@@ -112,7 +112,7 @@ fn look(region: &[u8], starts: &[u32], count: usize, at: usize, pending: u64) ->
 
 // ---- the walk
 
-// The items pending behind a token that has some itself.
+// The items pending behind a token: its own where it begins a value, and else one less than before.
 fn due(pending: u64, items: u64) -> u64
     ensures { λ r. ⌜ r ≡ due pending items ⌝ }
 {
@@ -210,7 +210,8 @@ fn kept(answer: CheckResult) -> usize
     }
 }
 
-// Checks a file. The table gets the offsets where its values start, in rising order, and 0 in every other word; on an error 0 in every word.
+// Checks a file. The table gets the offsets where its values start, in rising order, and 0 in every other word; on an error 0 in every word. The
+// first value starts at 0, so that the count tells how many words are starts.
 // A table with as many words as the file has bytes is never too short.
 pub fn check(file: &[u8], starts: &mut [u32]) -> CheckResult
     ensures { λ r. ⌜ checked (toldCheck r) (now (starts .exit)) ≡ checkOf (now (file .entry)) (length (now (starts .entry))) ⌝ }

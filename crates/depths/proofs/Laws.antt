@@ -31,7 +31,7 @@ use Rattle.scan.proofs.Places.{scan-within}
 use Rattle.checker.specs.declared.CheckResult.{CheckResult}
 use Rattle.checker.specs.declared.CheckResult.the-variants as checks-are
 use Rattle.checker.specs.Check.{between, startsFrom, entryAt, checkIn, filled, Checked, checked, listed, checkOf}
-use Rattle.depths.specs.Depths.{reached, Sight, sight, looked, look, deepestFrom, deepestIn, depthAt, depthsTo, deepened, measured, depthsOf}
+use Rattle.depths.specs.Depths.{reached, Sight, sight, looked, look, deepestFrom, deepestIn, depthAt, depthsTo, deepened, deepen, depthsOf}
 use Rattle.checker.specs.Told.{toldCheck}
 use Rattle.depths.specs.Stages.{Starts}
 use Rattle.checker.proofs.Walks.{come}
@@ -232,7 +232,7 @@ module _ (file t : List ℕ) (cap : ℕ) (r : CheckResult) (left : checked (told
   depths-refused f is room z zeros = by-cases (checkIn file cap) (rw is at left)
     where
       by-cases : (a : Answer Fault ((List ℕ) × ℕ)) → checked (error (errors.told f)) t ≡ listed cap a
-          → deepened (error (errors.told f)) t z ≡ measured (take (length file - 1) file) cap room a
+          → deepened (error (errors.told f)) t z ≡ deepen (take (length file - 1) file) cap room a
       by-cases (ok p) q = ok-error (sym (ap (λ (x : Checked). x .answer) q))
       by-cases (error g) q =
           let words : t ≡ replicate cap 0 = ap (λ (x : Checked). x .starts) q in

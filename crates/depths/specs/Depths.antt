@@ -2,9 +2,12 @@
 --
 --   reached ss ds at h         the depth of what the token of head h at `at` targets, where the values start at ss and ds are the depths of
 --                              those before; 0 where it targets nothing
---   deepestIn s ss ds end at   the greatest such depth of the tokens of the region s from `at` to `end`
+--   look s ss ds end w         one turn: a token that starts before `end`, and the greater of its depth and the one so far
+--   deepestIn s ss ds end at   the greatest such depth of the tokens of the region s from `at` to `end`; a token that does not scan ends it,
+--                              which no accepted file has
 --   depthAt s ss ds i          the depth of value number i: one more than the greatest depth of its targets
 --   depthsTo s ss k            the depths of the first k values
+--   deepen ..                  the same of what check found
 --   depthsOf file cap room     what depths answers and leaves in tables of cap and of room words: check's errors; then FULL at the first value
 --                              without a word in the second; else check's answer, the starts, and the depths and then zeros
 use Prim.Native.Nat.{ℕ, zero, suc, _-_, max}
@@ -66,12 +69,12 @@ deepened a t d = record { answer = a; starts = t; depths = d }
 abbrev pub refused : ℕ → ℕ → Fault → Deepened
 refused cap room e = deepened (error e) (replicate cap 0) (replicate room 0)
 
-abbrev pub measured : List ℕ → ℕ → ℕ → Answer Fault ((List ℕ) × ℕ) → Deepened
-measured s cap room (ok r) =
+abbrev pub deepen : List ℕ → ℕ → ℕ → Answer Fault ((List ℕ) × ℕ) → Deepened
+deepen s cap room (ok r) =
     let ss = r .0 in
     pick (ltb room (length ss)) (refused cap room (fault FULL (getD ss room 0)))
     (deepened (ok (length ss, r .1)) (filled cap ss) (filled room (depthsTo s ss (length ss))))
-measured s cap room (error e) = refused cap room e
+deepen s cap room (error e) = refused cap room e
 
 unfoldable pub depthsOf : List ℕ → ℕ → ℕ → Deepened
-depthsOf file cap room = measured (take (length file - 1) file) cap room (checkIn file cap)
+depthsOf file cap room = deepen (take (length file - 1) file) cap room (checkIn file cap)

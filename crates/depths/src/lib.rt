@@ -96,7 +96,8 @@ fn measure(region: &[u8], starts: &[u32], depths: &mut [u32])
 
 // Checks a file, and tells how deep its values are: the depth of a value is the number of values on the longest path from it, a path going
 // from a value to any that it points at or refers to, or that an item of it does. The tables get the starts and the depths, one word a value,
-// and 0 in every other word; on an error 0 in every word. FULL also where the second table has fewer words than the file has values.
+// and 0 in every other word; on an error 0 in every word. Check's errors come first; then FULL where the second table has fewer words than the
+// file has values, at the start of the first value without a word.
 pub fn depths(file: &[u8], starts: &mut [u32], depths: &mut [u32]) -> CheckResult
     ensures { λ r. ⌜ deepened (toldCheck r) (now (starts .exit)) (now (depths .exit)) ≡ depthsOf (now (file .entry)) (length (now (starts .entry))) (length (now (depths .entry))) ⌝ }
 {

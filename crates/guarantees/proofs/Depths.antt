@@ -26,7 +26,7 @@ use Rattle.values.specs.Paths as paths
 use Rattle.values.proofs.Laws.{emit-pos, region-append, region-at, length-starts, starts-append, start-of, fits-item, fits-head}
 use Rattle.values.proofs.Depths.{length-depths, depth-is}
 use Rattle.checker.specs.Check.{filled, checkIn, checkOf}
-use Rattle.depths.specs.Depths.{reached, sight, deepestFrom, depthAt, depthsTo, Deepened, deepened, measured, depthsOf}
+use Rattle.depths.specs.Depths.{reached, sight, deepestFrom, depthAt, depthsTo, Deepened, deepened, deepen, depthsOf}
 use Rattle.depths.proofs.Laws.{deepest-end, deepest-token}
 use Rattle.guarantees.proofs.Files.{answer-error}
 use Rattle.guarantees.proofs.Accepts.{finds}
@@ -157,8 +157,8 @@ module _ (vs : List Value) where
 
 -- ---- what depths tells
 
-pub depths-are : (vs : List Value) → Values vs → depthsTo (region vs) (starts 0 vs) (length (starts 0 vs)) ≡ paths.depthsOf vs
-unfolding paths.depthsOf depthsTo starts region
+pub depths-are : (vs : List Value) → Values vs → depthsTo (region vs) (starts 0 vs) (length (starts 0 vs)) ≡ paths.depthsOfValues vs
+unfolding paths.depthsOfValues depthsTo starts region
 depths-are vs w =
     let e = depths-pass vs [] vs refl (w .formed) (w .aimed) in
     let many : length (starts 0 vs) ≡ 0 + length vs = length-starts 0 vs ∙ omega arith in
@@ -171,7 +171,7 @@ module _ (file : List ℕ) (vs : List Value) (entry cap room : ℕ) (w : WellFor
       ap (take (length file - 1)) (w .same) ∙ take-at (region vs) (w .delta ∷ []) (length file - 1) long
 
   pub depths-tell : length vs ≤ room
-      → depthsOf file cap room ≡ deepened (ok (length vs, entry)) (filled cap (starts 0 vs)) (filled room (paths.depthsOf vs))
+      → depthsOf file cap room ≡ deepened (ok (length vs, entry)) (filled cap (starts 0 vs)) (filled room (paths.depthsOfValues vs))
   unfolding depthsOf
   depths-tell enough =
       let many = length-starts 0 vs in
@@ -187,8 +187,8 @@ module _ (file : List ℕ) (vs : List Value) (entry cap room : ℕ) (w : WellFor
   -- the depths are those that paths tell
   pub depth-exact : length vs ≤ room → (i : ℕ) → i < length vs → Depth vs i (getD (depthsOf file cap room .depths) i 0)
   depth-exact enough i h =
-      let told : depthsOf file cap room .depths ≡ filled room (paths.depthsOf vs) = ap (λ (d : Deepened). d .depths) (depths-tell enough) in
-      let word = List·getD-append (paths.depthsOf vs) (replicate (room - length (paths.depthsOf vs)) 0) 0 i (omega (arith, length-depths vs)) in
+      let told : depthsOf file cap room .depths ≡ filled room (paths.depthsOfValues vs) = ap (λ (d : Deepened). d .depths) (depths-tell enough) in
+      let word = List·getD-append (paths.depthsOfValues vs) (replicate (room - length (paths.depthsOfValues vs)) 0) 0 i (omega (arith, length-depths vs)) in
       rw (told, word) (depth-is vs (w .values) i h)
 
 -- on an error both tables are all 0
@@ -199,8 +199,8 @@ pub depths-zero : (file : List ℕ) (cap room : ℕ) (f : Fault) → depthsOf fi
 unfolding depthsOf
 depths-zero file cap room f e = by-cases (checkIn file cap) e
   where
-    by-cases : (a : Answer Fault ((List ℕ) × ℕ)) → measured (take (length file - 1) file) cap room a .answer ≡ error f
-        → Zeros cap room (measured (take (length file - 1) file) cap room a)
+    by-cases : (a : Answer Fault ((List ℕ) × ℕ)) → deepen (take (length file - 1) file) cap room a .answer ≡ error f
+        → Zeros cap room (deepen (take (length file - 1) file) cap room a)
     by-cases (ok r) q =
         pick-elim (λ (d : Deepened). d .answer ≡ error f → Zeros cap room d) (ltb room (length (r .0)))
         (λ t z. (refl, refl)) (λ t z. let y : _≡_ {A = ℕ} 0 1 = cc in absurd (omega arith)) q

@@ -52,7 +52,7 @@ overfull file cap p b w e =
     record {
       short = w .short;
       values = v .values;
-      wellFormed = v .wellFormed;
+      formed = v .wellFormed;
       count = omega (arith, ap length (v .done), length-starts 0 (v .values), r .going .count, r .wordless .none);
       same = ap (take p) front ∙ take-at (region (v .values)) _ p place;
       place = place;
@@ -69,7 +69,7 @@ overfull-full file cap p o w =
     let inside : p < length s = omega (arith, o .more, length-whole file w) in
     let front : take p s ≡ region vs = sym (take-append-le p s (w .delta ∷ []) (omega arith)) ∙ ap (take p) (sym (w .same)) ∙ o .same in
     let same : s ≡ region vs ++ drop p s = sym (take-append-drop p s) ∙ ap (λ x. x ++ drop p s) front in
-    let walked = walks-prefix s cap [] 0 vs (drop p s) same (o .wellFormed .formed) (o .wellFormed .aimed) (omega (arith, o .count)) in
+    let walked = walks-prefix s cap [] 0 vs (drop p s) same (o .formed .formed) (o .formed .aimed) (omega (arith, o .count)) in
     let full = le-leb cap (length (starts 0 vs)) (omega (arith, o .count, length-starts 0 vs)) in
     let at : p ≡ 0 + length (region vs) = omega (arith, o .place) in
     walk-error s cap (between p (starts 0 vs)) (lt-leb (length s) p inside) (fault FULL p) (rw full)

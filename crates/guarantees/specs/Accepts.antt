@@ -24,7 +24,7 @@ pub record Accepted (file : List ℕ) (cap count entry : ℕ) (table : List ℕ)
 pub record Overfull (file : List ℕ) (cap p : ℕ) : Type 0 where
   pub short : length file ≤ LIMIT
   pub values : List Value
-  pub wellFormed : Values values
+  pub formed : Values values
   pub count : length values ≡ cap
   pub same : take p file ≡ region values
   pub place : length (region values) ≡ p

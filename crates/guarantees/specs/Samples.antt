@@ -1,4 +1,5 @@
--- The twelve marked samples of document 01, as one list: a file, what is asked of it, and what the paper says.
+-- The twelve marked samples of document 01, as one list: a file, what is asked of it, and what the paper says. Two of the samples ask more than
+-- one thing, and stand there for each.
 --
 --   Query        check and depths, each with tables of four words; an item of the value at an offset; the value at an offset
 --   Reply        check's answer and table, and the depths; an offset; a value

@@ -1,8 +1,8 @@
 -- What the Twine pages say of a token (document 01, "Row of a file"), by the token alone.
 --
 --   behind q t    the offset just behind the token t whose header is at q: where its items start
---   tellOf q t    the value that t is the head of: of sixteen rows, one for each kind in their order, the one of its kind; 9 and 13 are no
---                 kinds
+--   tellOf q t    the value that t is the head of: of sixteen rows, one for each kind in their order, the one of its kind; 9 and 13 are
+--                 reserved. `-` stops at 0: a target q - n - 1 means something where n < q, which it is in a well-formed file
 use Prim.Native.Nat.{ℕ, _+_, _-_, _*_}
 use mathlib.Core.List.{List, [], _∷_}
 use lib.Dec.{eqb}

@@ -5,7 +5,7 @@
 --   size r n        how many bytes the body has
 --   counted r n a   the items that the file counts, by n or by a second number a, which is 0 where the kind has none
 --   pending r n a   all items: those, and the one of a tag or a variant of one
---   immediate r     whether a value of this rule may be an item: it has none itself, and its kind is not reserved
+--   immediate r     whether a value of this rule may be an item: its kind never has items, and is not reserved
 use Prim.Native.Nat.{ℕ, _+_, _-_, _*_, _^_}
 use mathlib.Core.Bool.{Bool, true, false, not, _&&_}
 use mathlib.Core.List.{List, [], _∷_}

@@ -3,7 +3,7 @@
 --   scalar n           false, true, null for 0, 1, 2
 --   float s h          the bits of a float, 4 bytes for n = 0 and 8 for n = 1
 --   shown s at h       the value of head h at the offset `at` of the region s: of `rows`, a row for each kind in their order, the one of
---                      its kind; 9 and 13 are no kinds
+--                      its kind; 9 and 13 are reserved and never read
 --   readIn, readOf     the value at an offset of a region, and of a file: its faults as a query looks at a token; items and text bytes are
 --                      not looked at, and of a target only that it is not below 0
 use Prim.Native.Nat.{ℕ, zero, suc, _-_}

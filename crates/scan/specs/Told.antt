@@ -2,7 +2,7 @@
 --
 --   told r               a `ScanResult` as document 01 tells it: the head, or the error's number and place
 --   seen len r           what was scanned, by offsets of a region of len bytes: `first` is just after the numbers, `end` after the body
---   scanAt inner s at    the token at the offset `at` of the region s
+--   scanAt inner s at    the token at the offset `at` of the region s, as an item (NESTED) where `inner` is true
 --   bytesOf s h          the body's bytes of a token of head h in the region s
 use Prim.Native.Nat.{ℕ, _-_}
 use mathlib.Core.Bool.{Bool}

@@ -1,2 +1,2 @@
--- a search by halves
-pub mod Halves
+-- a search by quarters
+pub mod Quarters

@@ -1,4 +1,5 @@
--- Text (document 01, "Row of a file"): characters of one to four bytes, one after the other; all else is BAD_TEXT.
+-- Text (document 01, "Row of a file"): characters of one to four bytes, one after the other; all else is BAD_TEXT. The rule is looser than UTF-8:
+-- surrogates, and forms of three and four bytes that are longer than need be, pass.
 --
 --   Range           the bytes from lo to hi, both in it
 --   forms           the forms of a character, a range for each byte: the one table of the rule

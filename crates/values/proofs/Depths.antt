@@ -18,7 +18,7 @@ use Rattle.prelude.specs.Search.{among, rank}
 use Rattle.prelude.proofs.Tests.{split, or-true}
 use Rattle.prelude.proofs.Searches.{rank-getD}
 use Rattle.values.specs.Values.{Value, tokens, bytes, starts, Each, Back, Values}
-use Rattle.values.specs.Paths.{targetsOf, Leads, Path, end, step, Depth, Falling, deepest, pass, depthsOf}
+use Rattle.values.specs.Paths.{targetsOf, Leads, Path, end, step, Depth, Falling, deepest, pass, depthsOfValues}
 use Rattle.values.proofs.Members.{each-imp, each-among, among-take}
 use Rattle.values.proofs.Laws.{length-starts, rising-starts, targets-aimed}
 
@@ -97,8 +97,8 @@ targets-before done at (v ∷ vs) zero h b = rw append-nil (targets-aimed done a
 targets-before done at (v ∷ vs) (suc i) h b =
     rw (← append-snoc) (targets-before (done ++ (at ∷ [])) (at + length (bytes (tokens v))) vs i (omega arith) (b .1))
 
-pub length-depths : (vs : List Value) → length (depthsOf vs) ≡ length vs
-unfolding depthsOf
+pub length-depths : (vs : List Value) → length (depthsOfValues vs) ≡ length vs
+unfolding depthsOfValues
 length-depths vs = omega (arith, length-pass (starts 0 vs) [] (targetsOf 0 vs), length-targets 0 vs)
 
 -- the number of the value that starts at x
@@ -139,24 +139,24 @@ module _ (vs : List Value) (ok : Values vs) where
 
   -- ---- depths
 
-  depth-at : (i : ℕ) → i < length vs → getD (depthsOf vs) i 0 ≡ suc (deepest (depthsOf vs) (map (number vs) (aims vs i)))
-  unfolding depthsOf
+  depth-at : (i : ℕ) → i < length vs → getD (depthsOfValues vs) i 0 ≡ suc (deepest (depthsOfValues vs) (map (number vs) (aims vs i)))
+  unfolding depthsOfValues
   depth-at i h =
       let e = each-imp _ (λ x. number vs x < 0 + i) (λ x b. omega (arith, b .0)) (aims vs i) (before i h) in
       rw zero-add at (pass-at (starts 0 vs) [] (targetsOf 0 vs) i (omega (arith, length-targets 0 vs)) e)
 
-  no-longer : {i : ℕ} {l : List ℕ} → i < length vs → Path vs i l → length l ≤ getD (depthsOf vs) i 0
+  no-longer : {i : ℕ} {l : List ℕ} → i < length vs → Path vs i l → length l ≤ getD (depthsOfValues vs) i 0
   no-longer {i} h end = omega (arith, depth-at i h)
   no-longer {i} h (step {j = j} t p) =
       let j< = leads-earlier i j h t in
-      let d = deepest-ge (number vs) (depthsOf vs) (getD (starts 0 vs) j 0) (aims vs i) (t .1) in
+      let d = deepest-ge (number vs) (depthsOfValues vs) (getD (starts 0 vs) j 0) (aims vs i) (t .1) in
       omega (arith, depth-at i h, no-longer (omega arith) p, rw (number-start j (t .0)) at d)
 
-  one-as-long : (f i : ℕ) → i < f → i < length vs → (l : List ℕ) × Path vs i l × (length l ≡ getD (depthsOf vs) i 0)
+  one-as-long : (f i : ℕ) → i < f → i < length vs → (l : List ℕ) × Path vs i l × (length l ≡ getD (depthsOfValues vs) i 0)
   one-as-long zero i b h = absurd (omega arith)
   one-as-long (suc f) i b h =
       let is = depth-at i h in
-      elim (deepest-by (number vs) (depthsOf vs) (aims vs i)) [
+      elim (deepest-by (number vs) (depthsOfValues vs) (aims vs i)) [
         | inl z ↦ (i ∷ [], end, omega arith)
         | inr m ↦
             let j = number vs (m .0) in
@@ -166,13 +166,13 @@ module _ (vs : List Value) (ok : Values vs) where
             (i ∷ r .0, step t (r .1), omega arith)
       ]
 
-  pub depth-is : (i : ℕ) → i < length vs → Depth vs i (getD (depthsOf vs) i 0)
+  pub depth-is : (i : ℕ) → i < length vs → Depth vs i (getD (depthsOfValues vs) i 0)
   depth-is i h =
       let r = one-as-long (suc i) i (le-refl _) h in
       record { values = r .0; path = r .1; long = r .2; longest = λ l p. no-longer h p }
 
-  pub depth-le : (i : ℕ) → i < length vs → getD (depthsOf vs) i 0 ≤ suc i
+  pub depth-le : (i : ℕ) → i < length vs → getD (depthsOfValues vs) i 0 ≤ suc i
   depth-le i h = let d = depth-is i h in omega (arith, path-short h (d .path), d .long)
 
-  pub depth-pos : (i : ℕ) → i < length vs → 1 ≤ getD (depthsOf vs) i 0
+  pub depth-pos : (i : ℕ) → i < length vs → 1 ≤ getD (depthsOfValues vs) i 0
   depth-pos i h = omega (arith, depth-at i h)

@@ -11,7 +11,7 @@ use Rattle.token.specs.Token.{Token, token, putIf, emit, Allowed}
 use Rattle.utf8.specs.Text.{isText, textFrom, next, lead}
 use Rattle.utf8.proofs.Laws.{isText-text}
 use Rattle.values.specs.Values.{Value, bytes, region, starts, Each, Sound, Item, Formed, Back, WellFormed}
-use Rattle.values.specs.Paths.{targets, targetsOf, deepest, pass, depthsOf}
+use Rattle.values.specs.Paths.{targets, targetsOf, deepest, pass, depthsOfValues}
 use Rattle.values.proofs.Unique.{values-same, last-same}
 
 abbrev text : List ℕ → Token
@@ -98,8 +98,8 @@ starts-hello : starts 0 hello ≡ 0 ∷ 6 ∷ 8 ∷ 11 ∷ []
 unfolding starts bytes emit putIf rule
 starts-hello = refl
 
-depths-hello : depthsOf hello ≡ 1 ∷ 2 ∷ 3 ∷ 4 ∷ []
-unfolding depthsOf pass deepest targetsOf targets starts bytes emit putIf rule rank
+depths-hello : depthsOfValues hello ≡ 1 ∷ 2 ∷ 3 ∷ 4 ∷ []
+unfolding depthsOfValues pass deepest targetsOf targets starts bytes emit putIf rule rank
 depths-hello = refl
 
 -- ---- files without a reading

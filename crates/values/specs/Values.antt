@@ -5,15 +5,18 @@
 --   bytes ts            the bytes of tokens, back to back
 --   region vs           the bytes of values, back to back
 --   starts at vs        the offsets where values start, the first at `at`: running sums of their sizes
+--   Each P xs           P holds of each of xs
 --   Sound t             t's kind allows it, and a text is text
---   Formed v            head and items are sound, the items are immediates, and as many as the head says
+--   Item t              t is sound and an immediate
+--   Formed v            the head is sound, the items are items, and as many as the head says
 --   Reaches done q t    where t is a reference or pointer and its header is at q, its target q - n - 1 is not below 0, and is one of `done`
 --   Aimed done q ts     so does each of the tokens ts, the first at q
---   Back done at vs     so do the tokens of each of the values vs, the first at `at`, with the starts of the values before: those that
---                       ended before it began
+--   Back done at vs     so do the tokens of each of the values vs, the first at `at`, with the starts of the values before it, which ended
+--                       before it began; `done` are those of the values before the first
 --   Values vs           vs are values as they may stand at the front of a file
 --   WellFormed file vs entry
---                       the file is the values vs and a delta byte that names the start `entry` of one of them
+--                       the file is the values vs and a delta byte that names the start `entry` of one of them. That its elements are
+--                       bytes is said beside it where it is needed
 use Prim.Native.Nat.{ℕ, _+_, _-_, _≤_, _<_}
 use mathlib.Core.Path.{_≡_}
 use mathlib.Core.Bool.{true}

@@ -1,0 +1,62 @@
+-- A search by quarters: where the rank r of a word may be, in a table of n words.
+use mathlib.Core.Path.{_≡_}
+use Prim.Native.Nat.{ℕ, _+_, _-_, _*_, _/_, _≤_, _<_}
+use mathlib.Core.List.{List}
+use native.Mathlib.Omega.{arith}
+use borrow.Author.Tests.{lt-ltb, le-ltb}
+use lib.Dec.{ltb}
+use lib.ListN.{length, getD}
+use Rattle.prelude.specs.Pick.{pick}
+use Rattle.prelude.specs.Search.{rank, Rising}
+use Rattle.prelude.proofs.Tests.{split}
+use Rattle.prelude.proofs.Searches.{rank-le, rank-after, rank-until}
+
+-- what one word tells of the rank
+module _ (x : ℕ) (t : List ℕ) (i : ℕ) (up : Rising t) where
+  pub is-past : i < length t → getD t i 0 < x → _≡_ {A = ℕ} 1 (pick (ltb i (rank x t)) 1 0)
+  is-past h l = let past = rank-after x t up i h l in rw (lt-ltb i (rank x t) (omega arith))
+
+  pub not-past : x ≤ getD t i 0 → _≡_ {A = ℕ} 0 (pick (ltb i (rank x t)) 1 0)
+  not-past g = rw (le-ltb i (rank x t) (rank-until x t up i g))
+
+  pub past-le : i < length t → getD t i 0 < x → i ≤ rank x t
+  past-le h l = omega (arith, rank-after x t up i h l)
+
+-- the rank is one of lo to lo + size
+pub record Between (r n lo size : ℕ) : Type 0 where
+  pub low : lo ≤ r
+  pub high : r ≤ lo + size
+  pub fits : lo + size ≤ n
+
+pub within : (x : ℕ) (t : List ℕ) (lo : ℕ) → lo ≤ rank x t → lo ≤ length t
+within x t lo l = omega (arith, rank-le x t)
+
+pub between-from : (x : ℕ) (t : List ℕ) (lo : ℕ) → lo ≤ rank x t → Between (rank x t) (length t) lo (length t - lo)
+between-from x t lo l = let h = rank-le x t in record { low = l; high = omega arith; fits = omega arith }
+
+module _ (r n lo size : ℕ) (b : Between r n lo size) where
+  -- by the words at the ends of three quarters
+  pub quartered : 4 ≤ size → (i j k : ℕ) → i ≡ pick (ltb (lo + size / 4) r) 1 0 → j ≡ pick (ltb (lo + 2 * (size / 4)) r) 1 0
+      → k ≡ pick (ltb (lo + 3 * (size / 4)) r) 1 0 → Between r n (lo + size / 4 * (i + j + k)) (size - 3 * (size / 4))
+  quartered more i j k ei ej ek =
+      let low = b .low in
+      let high = b .high in
+      let fits = b .fits in
+      split (lo + size / 4) r
+      (λ p. split (lo + 2 * (size / 4)) r
+      (λ q. split (lo + 3 * (size / 4)) r
+      (λ s. rw (ei, ej, ek, lt-ltb _ _ p, lt-ltb _ _ q, lt-ltb _ _ s) (record { low = omega arith; high = omega arith; fits = omega arith }))
+      (λ s. rw (ei, ej, ek, lt-ltb _ _ p, lt-ltb _ _ q, le-ltb _ _ s) (record { low = omega arith; high = omega arith; fits = omega arith })))
+      (λ q. rw (ei, ej, ek, lt-ltb _ _ p, le-ltb _ _ q, le-ltb (lo + 3 * (size / 4)) r (omega arith)) (record { low = omega arith; high = omega arith; fits = omega arith })))
+      (λ p. rw (ei, ej, ek, le-ltb _ _ p, le-ltb (lo + 2 * (size / 4)) r (omega arith), le-ltb (lo + 3 * (size / 4)) r (omega arith)) (record { low = omega arith; high = omega arith; fits = omega arith }))
+
+  -- by the first word
+  pub shortened : 0 < size → (i : ℕ) → i ≡ pick (ltb lo r) 1 0 → Between r n (lo + i) (size - 1)
+  shortened some i e =
+      let low = b .low in let high = b .high in let fits = b .fits in
+      split lo r
+      (λ p. rw (e, lt-ltb _ _ p) (record { low = omega arith; high = omega arith; fits = omega arith }))
+      (λ p. rw (e, le-ltb _ _ p) (record { low = omega arith; high = omega arith; fits = omega arith }))
+
+  pub at-last : size ≤ 0 → lo ≡ r
+  at-last none = omega (arith, b .low, b .high)
