@@ -1,19 +1,22 @@
 -- Check accepts every well-formed file for which there are words enough.
 --
--- In order: the walk over the items of a value (`walks-items`), a value (`walks-value`), and values before any bytes (`walks-prefix`); the
--- file (`finds`, `accepts`).
+-- In order: the walk over items of a value (`walks-items`), its head and items so far (`walks-open`), a value (`walks-value`), values before any
+-- bytes (`walks-prefix`), and values alone (`walks-all`); the file (`finds`, `accepts`).
 use mathlib.Core.Path.{_≡_, sym, _∙_}
 use Prim.Native.Nat.{ℕ, suc, _+_, _≤_, _<_}
+use mathlib.Core.Bool.{false}
 use mathlib.Core.List.{List, [], _∷_, _++_, append-assoc, append-nil}
-use native.Mathlib.Nat.{add-zero}
+use native.Mathlib.Nat.{add-zero, zero-add}
 use native.Mathlib.Omega.{arith}
 use borrow.Author.Tests.{lt-ltb, le-leb}
 use lib.ListN.{length, drop, length-append}
 use lib.Seq.{append-snoc}
 use Rattle.prelude.specs.Answer.{ok}
 use Rattle.prelude.proofs.Readers.{bind-ok}
-use Rattle.token.specs.Token.{Token, emit}
-use Rattle.values.specs.Values.{Value, tokens, bytes, region, starts, Each, Item, Formed, Aimed, Back, WellFormed}
+use Rattle.kind.specs.Kind.{rule, pending}
+use Rattle.token.specs.Token.{Token, emit, Fits}
+use Rattle.utf8.specs.Text.{Text}
+use Rattle.values.specs.Values.{Value, tokens, bytes, region, starts, Each, Item, Formed, Aimed, Back, Values, WellFormed}
 use Rattle.values.proofs.Laws.{length-starts, fits-item, fits-head}
 use Rattle.checker.specs.Check.{between, startsFrom, checkIn, checked, filled, checkOf}
 use Rattle.checker.proofs.Walks.{walk-end}
@@ -23,41 +26,49 @@ use Rattle.guarantees.proofs.Taken.{drop-past, length-past, Stands, set
 -- ---- values
 
 module _ (s : List ℕ) (cap : ℕ) (done : List ℕ) where
-  walks-items : (start at : ℕ) (is : List Token) (rest : List ℕ) → drop at s ≡ bytes is ++ rest → Each Item is → Aimed done at is
-      → startsFrom s cap (settled start done at (length is)) ≡ startsFrom s cap (between (at + length (bytes is)) (done ++ (start ∷ [])))
+  -- the items `is`, and k more are pending behind them
+  walks-items : (start at k : ℕ) (is : List Token) (rest : List ℕ) → drop at s ≡ bytes is ++ rest → Each Item is → Aimed done at is
+      → startsFrom s cap (settled start done at (length is + k)) ≡ startsFrom s cap (settled start done (at + length (bytes is)) k)
   unfolding bytes
-  walks-items start at [] rest same f a = rw add-zero
-  walks-items start at (i ∷ is) rest same f a =
+  walks-items start at k [] rest same f a = rw (add-zero, zero-add)
+  walks-items start at k (i ∷ is) rest same f a =
       let here = same ∙ append-assoc (emit i) (bytes is) rest in
-      let st : Stands s cap (settled start done at (suc (length is))) i (bytes is ++ rest) = record {
+      let left : length (i ∷ is) + k ≡ suc (length is + k) = omega arith in
+      let st : Stands s cap (settled start done at (suc (length is + k))) i (bytes is ++ rest) = record {
         same = here;
-        fits = rw (lt-ltb 0 (suc (length is)) (omega arith)) (fits-item i (f .0) (bytes is ++ rest));
+        fits = rw (lt-ltb 0 (suc (length is + k)) (omega arith)) (fits-item i (f .0) (bytes is ++ rest));
         text = f .0 .sound .text;
         reaches = a .0;
         word = λ e. absurd (omega arith);
       } in
-      walk-stands s cap _ i (bytes is ++ rest) (length is) st (due-suc (length is) _)
-      ∙ walks-items start (at + length (emit i)) is rest (drop-past s at (emit i) _ here) (f .1) (a .1)
-      ∙ rw (length-past at (emit i) (bytes is))
+      rw left (walk-stands s cap _ i (bytes is ++ rest) (length is + k) st (due-suc (length is + k) _)
+      ∙ walks-items start (at + length (emit i)) k is rest (drop-past s at (emit i) _ here) (f .1) (a .1)
+      ∙ rw (length-past at (emit i) (bytes is)))
+
+  -- a head and the items `is`, and k more are pending behind them
+  pub walks-open : (at k : ℕ) (t : Token) (is : List Token) (rest : List ℕ) → drop at s ≡ bytes (t ∷ is) ++ rest → Fits false t (bytes is ++ rest)
+      → (t .kind ≡ 4 → Text (t .body)) → Each Item is → length is + k ≡ pending (rule (t .kind)) (t .n) (t .args) → Aimed done at (t ∷ is)
+      → length done < cap
+      → startsFrom s cap (between at done) ≡ startsFrom s cap (settled at done (at + length (bytes (t ∷ is))) k)
+  unfolding bytes
+  walks-open at k t is rest same fits text items count a room =
+      let here = same ∙ append-assoc (emit t) (bytes is) rest in
+      let st : Stands s cap (between at done) t (bytes is ++ rest) = record {
+        same = here;
+        fits = fits;
+        text = text;
+        reaches = a .0;
+        word = λ e. room;
+      } in
+      walk-stands s cap _ t (bytes is ++ rest) (length is + k) st (sym count)
+      ∙ walks-items at (at + length (emit t)) k is rest (drop-past s at (emit t) _ here) items (a .1)
+      ∙ rw (length-past at (emit t) (bytes is))
 
   walks-value : (at : ℕ) (v : Value) (rest : List ℕ) → drop at s ≡ bytes (tokens v) ++ rest → Formed v → Aimed done at (tokens v)
       → length done < cap
       → startsFrom s cap (between at done) ≡ startsFrom s cap (between (at + length (bytes (tokens v))) (done ++ (at ∷ [])))
-  unfolding bytes
   walks-value at v rest same f a room =
-      let t = v .head in
-      let is = v .items in
-      let here = same ∙ append-assoc (emit t) (bytes is) rest in
-      let st : Stands s cap (between at done) t (bytes is ++ rest) = record {
-        same = here;
-        fits = fits-head v f rest;
-        text = f .head .text;
-        reaches = a .0;
-        word = λ e. room;
-      } in
-      walk-stands s cap _ t (bytes is ++ rest) (length is) st (sym (f .count))
-      ∙ walks-items at (at + length (emit t)) is rest (drop-past s at (emit t) _ here) (f .items) (a .1)
-      ∙ rw (length-past at (emit t) (bytes is))
+      walks-open at 0 (v .head) (v .items) rest same (fits-head v f rest) (f .head .text) (f .items) (rw add-zero (f .count)) a room
 
 -- values from `at` on, behind those whose starts are `done`, and before any bytes
 pub walks-prefix : (s : List ℕ) (cap : ℕ) (done : List ℕ) (at : ℕ) (vs : List Value) (rest : List ℕ) → drop at s ≡ region vs ++ rest
@@ -73,6 +84,12 @@ walks-prefix s cap done at (v ∷ vs) rest same f b room =
     (omega (arith, length-append done (at ∷ [])))
     ∙ rw (length-past at own (region vs), append-snoc)
 
+pub walks-all : (vs : List Value) (cap : ℕ) → Values vs → length vs ≤ cap → ok (starts 0 vs) ≡ startsFrom (region vs) cap (between 0 [])
+walks-all vs cap v room =
+    let s = region vs in
+    let end : ok (starts 0 vs) ≡ startsFrom s cap (between (0 + length s) (starts 0 vs)) = walk-end s cap _ (le-leb (length s) (0 + length s) (omega arith)) in
+    end ∙ sym (walks-prefix s cap [] 0 vs [] (sym (append-nil s)) (v .formed) (v .aimed) (omega arith))
+
 -- ---- the file
 
 -- the starts and the entry that check finds
@@ -80,10 +97,8 @@ pub finds : (file : List ℕ) (vs : List Value) (entry cap : ℕ) → WellFormed
 finds file vs entry cap wf room =
     let s = region vs in
     let done = starts 0 vs in
-    let walked = walks-prefix s cap [] 0 vs [] (sym (append-nil s)) (wf .values .formed) (wf .values .aimed) (omega arith) in
-    let end : ok done ≡ startsFrom s cap (between (0 + length s) done) = walk-end s cap _ (le-leb (length s) (0 + length s) (omega arith)) in
     let file-is : Whole file = record { region = s; delta = wf .delta; short = wf .short; same = wf .same } in
-    bind-ok (entered (length s) (wf .delta)) (end ∙ sym walked) (entered-named (length s) (wf .delta) entry done (wf .named) (wf .start))
+    bind-ok (entered (length s) (wf .delta)) (walks-all vs cap (wf .values) room) (entered-named (length s) (wf .delta) entry done (wf .named) (wf .start))
     ∙ sym (checkIn-whole file file-is cap)
 
 pub accepts : (file : List ℕ) (vs : List Value) (entry cap : ℕ) → WellFormed file vs entry → length vs ≤ cap

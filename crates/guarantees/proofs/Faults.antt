@@ -1,8 +1,8 @@
--- What `scan` refuses is told with a number below that of FULL.
+-- What `scan` refuses is told at the header's offset, with a number from TRUNC on and below that of FULL.
 --
--- In order: what holds of a reader's errors, by the parts of the reader; the numbers of `get`, `number`, `scan` and `scanAt`.
-use Prim.Native.Nat.{ℕ, zero, suc, _<_}
-use mathlib.Core.Path.{_≡_}
+-- In order: what holds of a reader's errors, by the parts of the reader; the errors of `get`, `number`, `scan` and `scanAt`.
+use Prim.Native.Nat.{ℕ, zero, suc, _≤_, _<_}
+use mathlib.Core.Path.{_≡_, refl}
 use mathlib.Core.Bool.{Bool, true, false}
 use mathlib.Core.List.{List, [], _∷_}
 use native.Mathlib.Omega.{arith}
@@ -10,7 +10,7 @@ use lib.Dec.{ltb}
 use lib.ListN.{length, drop}
 use Rattle.prelude.specs.Answer.{error, Res, got, bad, guard, then, orError, Need, _>>_, _>>=_}
 use Rattle.prelude.proofs.Tests.{pick-elim}
-use Rattle.error.specs.Error.{Fault, fault, FULL}
+use Rattle.error.specs.Error.{Fault, fault, TRUNC, FULL}
 use Rattle.leb128.specs.Leb.{get}
 use Rattle.token.specs.Token.{Token}
 use Rattle.token.specs.Scan.{getIf, number, body, scanKind, scan}
@@ -42,42 +42,43 @@ module _ {E : Type 0} (Q : E → Type 0) where
   unfolding _>>=_
   fails-bind r f s h g = fails-then (r s) f h g
 
--- ---- the numbers
+-- ---- the numbers and the place
 
-abbrev Low : ℕ → Type 0
-Low f = f < FULL
+abbrev Number : ℕ → Type 0
+Number f = (TRUNC ≤ f) × (f < FULL)
 
-abbrev LowFault : Fault → Type 0
-LowFault e = Low (e .number)
+abbrev pub Placed : ℕ → Fault → Type 0
+Placed at e = (e .place ≡ at) × Number (e .number)
 
-get-low : (k least : ℕ) (s : List ℕ) → Fails Low (get k least s)
+get-number : (k least : ℕ) (s : List ℕ) → Fails Number (get k least s)
 unfolding get
-get-low k least [] = omega arith
-get-low zero least (b ∷ s) = fails-guard Low _ _ _ (omega arith) (fails-guard Low _ _ _ (omega arith) tt)
-get-low (suc k) least (b ∷ s) =
-    pick-elim (Fails Low) (ltb b 128) (λ t. fails-guard Low _ _ _ (omega arith) tt)
-    (λ t. fails-then Low (get k 1 s) _ (get-low k 1 s) (λ n rest. tt))
+get-number k least [] = omega arith
+get-number zero least (b ∷ s) = fails-guard Number _ _ _ (omega arith) (fails-guard Number _ _ _ (omega arith) tt)
+get-number (suc k) least (b ∷ s) =
+    pick-elim (Fails Number) (ltb b 128) (λ t. fails-guard Number _ _ _ (omega arith) tt)
+    (λ t. fails-then Number (get k 1 s) _ (get-number k 1 s) (λ n rest. tt))
 
-number-low : (at : ℕ) (w : Bool) (s : List ℕ) → Fails LowFault (number at w s)
-unfolding number getIf orError
-number-low at w s = by-cases (getIf w s) (pick-elim (Fails Low) w (λ t. get-low 9 0 s) (λ t. tt))
-  where
-    by-cases : (r : Res ℕ ℕ) → Fails Low r → Fails LowFault (orError (λ f. fault f at) r)
-    by-cases (got a m) h = tt
-    by-cases (bad e) h = h
+module _ (at : ℕ) where
+  number-placed : (w : Bool) (s : List ℕ) → Fails (Placed at) (number at w s)
+  unfolding number getIf orError
+  number-placed w s = by-cases (getIf w s) (pick-elim (Fails Number) w (λ t. get-number 9 0 s) (λ t. tt))
+    where
+      by-cases : (r : Res ℕ ℕ) → Fails Number r → Fails (Placed at) (orError (λ f. fault f at) r)
+      by-cases (got a m) h = tt
+      by-cases (bad e) h = (refl, h)
 
-scan-low : (inner : Bool) (at : ℕ) (s : List ℕ) → Fails LowFault (scan inner at s)
-unfolding scan scanKind body
-scan-low inner at [] = omega arith
-scan-low inner at (h ∷ s) =
-    fails-need LowFault _ _ s (omega arith) (fails-need LowFault _ _ s (omega arith) (fails-bind LowFault _ _ s (number-low at _ s)
-    (λ v m. fails-need LowFault _ _ m (omega arith) (fails-bind LowFault _ _ m (number-low at _ m)
-    (λ a m′. fails-guard LowFault _ _ _ (omega arith) tt)))))
+  scan-placed : (inner : Bool) (s : List ℕ) → Fails (Placed at) (scan inner at s)
+  unfolding scan scanKind body
+  scan-placed inner [] = omega arith
+  scan-placed inner (h ∷ s) =
+      fails-need (Placed at) _ _ s (omega arith) (fails-need (Placed at) _ _ s (omega arith) (fails-bind (Placed at) _ _ s (number-placed _ s)
+      (λ v m. fails-need (Placed at) _ _ m (omega arith) (fails-bind (Placed at) _ _ m (number-placed _ m)
+      (λ a m′. fails-guard (Placed at) _ _ _ (omega arith) tt)))))
 
-pub scanAt-low : (inner : Bool) (s : List ℕ) (at : ℕ) (f : Fault) → error f ≡ scanAt inner s at → f .number < FULL
-unfolding scanAt seen
-scanAt-low inner s at f e = by-cases (scan inner at (drop at s)) (scan-low inner at (drop at s)) e
-  where
-    by-cases : (r : Res Fault Token) → Fails LowFault r → error f ≡ seen (length s) r → f .number < FULL
-    by-cases (got t rest) h q = let z : _≡_ {A = ℕ} 0 1 = cc in absurd (omega arith)
-    by-cases (bad g) h q = let same : f ≡ g = cc in rw same h
+  pub scanAt-placed : (inner : Bool) (s : List ℕ) (f : Fault) → error f ≡ scanAt inner s at → Placed at f
+  unfolding scanAt seen
+  scanAt-placed inner s f e = by-cases (scan inner at (drop at s)) (scan-placed inner (drop at s)) e
+    where
+      by-cases : (r : Res Fault Token) → Fails (Placed at) r → error f ≡ seen (length s) r → Placed at f
+      by-cases (got t rest) h q = let z : _≡_ {A = ℕ} 0 1 = cc in absurd (omega arith)
+      by-cases (bad g) h q = let same : f ≡ g = cc in rw same h

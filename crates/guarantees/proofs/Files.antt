@@ -1,11 +1,11 @@
 -- A file as check reads it: its region, and the delta byte.
 --
--- In order: a file is refused at once, or is a region and a delta byte (`shape`), and then check walks the region (`checkIn-whole`); the entry
--- that the delta byte names (`entered-named`, `entered-told`); what an answer tells: of check's table (`answer-ok`, `answer-error`), and of the
--- walk (`found-ok`, `found-error`).
+-- In order: a file is refused at once (`at-once`), or is a region and a delta byte (`shape`), and then check walks the region (`checkIn-whole`);
+-- the entry that the delta byte names, or that it names none (`entered-named`, `entered-none`, `entered-told`); what an answer tells: of check's
+-- table (`answer-ok`, `answer-error`), of the walk of a file that is accepted (`found-ok`), and where a file failed (`failed`).
 use mathlib.Core.Path.{_≡_, refl, sym, ap, _∙_, subst}
 use Prim.Native.Nat.{ℕ, suc, _+_, _-_, _≤_, _<_}
-use mathlib.Core.Bool.{true, _&&_}
+use mathlib.Core.Bool.{true, false, _&&_}
 use mathlib.Core.List.{List, [], _∷_, _++_}
 use native.Mathlib.Omega.{arith}
 use borrow.Author.Tests.{eq-eqb, ne-eqb, lt-ltb, le-ltb, ltb-true}
@@ -16,7 +16,7 @@ use Rattle.prelude.specs.Answer.{Answer, ok, error, bind}
 use Rattle.prelude.specs.Bytes.{Bytes}
 use Rattle.prelude.specs.Search.{among}
 use Rattle.prelude.proofs.Tests.{pick-elim, split, and-l, and-r}
-use Rattle.error.specs.Error.{Fault, fault, LIMIT, EMPTY, TOO_LONG, TRUNC, BAD_ENTRY}
+use Rattle.error.specs.Error.{Fault, fault, LIMIT, EMPTY, TOO_LONG, BAD_ENTRY}
 use Rattle.checker.specs.Check.{between, startsFrom, entryAt, checkIn, listed}
 
 -- ---- the shape of a file
@@ -39,18 +39,24 @@ whole file some short =
     }
 
 -- or else it is refused at once, whatever the table
+pub data AtOnce (file : List ℕ) (f : Fault) : Type 0 where
+  empty : length file ≡ 0 → f ≡ fault EMPTY 0 → AtOnce file f
+  long : LIMIT < length file → f ≡ fault TOO_LONG 0 → AtOnce file f
+
+pub at-once : (file : List ℕ) (f : Fault) (cap : ℕ) → AtOnce file f → error f ≡ checkIn file cap
+unfolding checkIn
+at-once file f cap (empty z e) = rw (e, eq-eqb (length file) 0 z)
+at-once file f cap (long l e) = rw (e, ne-eqb (length file) 0 (λ z. omega arith), lt-ltb _ _ l)
+
 pub data Shape (file : List ℕ) : Type 0 where
-  refused : (e : Fault) → e .number < TRUNC → ((cap : ℕ) → error e ≡ checkIn file cap) → Shape file
+  refused : (f : Fault) → AtOnce file f → Shape file
   read : Whole file → Shape file
 
 pub shape : (file : List ℕ) → Shape file
-unfolding checkIn
 shape file =
     split 0 (length file)
-    (λ some. split LIMIT (length file)
-    (λ long. refused (fault TOO_LONG 0) (omega arith) (λ cap. rw (ne-eqb (length file) 0 (λ z. omega arith), lt-ltb _ _ long)))
-    (λ short. read (whole file some short)))
-    (λ none. refused (fault EMPTY 0) (omega arith) (λ cap. rw (eq-eqb (length file) 0 (omega arith))))
+    (λ some. split LIMIT (length file) (λ l. refused (fault TOO_LONG 0) (long l refl)) (λ short. read (whole file some short)))
+    (λ none. refused (fault EMPTY 0) (empty (omega arith) refl))
 
 -- what check makes of the starts of a region's values, with the delta byte d at p behind the region
 abbrev pub entered : ℕ → ℕ → List ℕ → Answer Fault ((List ℕ) × ℕ)
@@ -72,6 +78,11 @@ module _ (file : List ℕ) (w : Whole file) where
   pub length-whole : length file ≡ length (w .region) + 1
   length-whole = ap length (w .same) ∙ length-append (w .region) (w .delta ∷ [])
 
+  pub region-whole : take (length file - 1) file ≡ w .region
+  region-whole =
+      let len : length file - 1 ≡ length (w .region) = omega (arith, length-whole) in
+      rw len (ap (take (length (w .region))) (w .same) ∙ take-append-seam (w .region) (w .delta ∷ []))
+
   pub bytes-whole : Bytes file → Bytes (w .region)
   bytes-whole b = bytes-front (w .region) (w .delta ∷ []) (subst Bytes (w .same) b)
 
@@ -86,16 +97,30 @@ entered-named p d entry done named start =
     let e : p - d - 1 ≡ entry = omega arith in
     rw (lt-ltb d p (omega arith), e, start)
 
+-- none of the starts `done` is the entry that the delta byte d at p would name
+abbrev pub Nameless : ℕ → ℕ → List ℕ → Type 0
+Nameless p d done = (e : ℕ) → e + d + 1 ≡ p → among e done ≡ false
+
+pub entered-none : (p d : ℕ) (done : List ℕ) → Nameless p d done → error (fault BAD_ENTRY p) ≡ entered p d done
+unfolding entryAt bind
+entered-none p d done none = split d p (λ l. rw (lt-ltb d p l, none (p - d - 1) (omega arith))) (λ l. rw (le-ltb d p l))
+
 abbrev Enters : ℕ → ℕ → List ℕ → Answer Fault ((List ℕ) × ℕ) → Type 0
 Enters p d done (ok r) = (r .0 ≡ done) × (r .1 + d + 1 ≡ p) × (among (r .1) done ≡ true)
-Enters p d done (error f) = f .number ≡ BAD_ENTRY
+Enters p d done (error f) = (f ≡ fault BAD_ENTRY p) × Nameless p d done
 
 module _ (p d : ℕ) (done : List ℕ) where
   enters : Enters p d done (entered p d done)
   unfolding entryAt bind
   enters =
       pick-elim (λ a. Enters p d done (bind a (λ e. ok (done, e)))) (ltb d p && among (p - d - 1) done)
-      (λ t. (refl, omega (arith, ltb-true d p (and-l (ltb d p) _ t)), and-r (ltb d p) _ t)) (λ t. refl)
+      (λ t. (refl, omega (arith, ltb-true d p (and-l (ltb d p) _ t)), and-r (ltb d p) _ t))
+      (λ t. (
+        refl,
+        λ e named.
+            let is : p - d - 1 ≡ e = omega arith in
+            rw (lt-ltb d p (omega arith), is) at t,
+      ))
 
   entered-told : (a : Answer Fault ((List ℕ) × ℕ)) → a ≡ entered p d done → Enters p d done a
   entered-told a e = subst (Enters p d done) (sym e) enters
@@ -133,22 +158,28 @@ module _ {X : Type 0} (file : List ℕ) (cap : ℕ) where
   found-ok done entry e k = by-shape (shape file)
     where
       by-shape : Shape file → X
-      by-shape (refused f low r) = let q = e ∙ sym (r cap) in let z : _≡_ {A = ℕ} 0 1 = cc in absurd (omega arith)
+      by-shape (refused f a) = let q = e ∙ sym (at-once file f cap a) in let z : _≡_ {A = ℕ} 0 1 = cc in absurd (omega arith)
       by-shape (read w) =
           bind-ok-by (startsFrom (w .region) cap (between 0 [])) _ (e ∙ checkIn-whole file w cap) (λ found walked q.
           let (same, named, start) = entered-told (length (w .region)) (w .delta) found _ q in
           k w (rw same walked) named (rw same start))
 
-  -- a file that was refused, but not for EMPTY, TOO_LONG or BAD_ENTRY
-  pub found-error : (f : Fault) → error f ≡ checkIn file cap → TRUNC ≤ f .number → f .number < BAD_ENTRY
-      → ((w : Whole file) → error f ≡ startsFrom (w .region) cap (between 0 []) → X) → X
-  found-error f e low high k = by-shape (shape file)
-    where
-      by-shape : Shape file → X
-      by-shape (refused g less r) =
-          let q = e ∙ sym (r cap) in
-          let same : f ≡ g = cc in
-          absurd (omega (arith, ap (λ (x : Fault). x .number) same))
-      by-shape (read w) =
-          bind-error-by (startsFrom (w .region) cap (between 0 [])) _ (e ∙ checkIn-whole file w cap) (λ q. k w q)
-          (λ found walked q. absurd (omega (arith, entered-told (length (w .region)) (w .delta) found (error f) q)))
+-- where a file failed: at once, in the walk, or behind it
+pub data Failed (file : List ℕ) (cap : ℕ) (f : Fault) : Type 0 where
+  early : AtOnce file f → Failed file cap f
+  walking : (w : Whole file) → error f ≡ startsFrom (w .region) cap (between 0 []) → Failed file cap f
+  last : (w : Whole file) (done : List ℕ) → ok done ≡ startsFrom (w .region) cap (between 0 []) → f ≡ fault BAD_ENTRY (length (w .region))
+      → Nameless (length (w .region)) (w .delta) done → Failed file cap f
+
+pub failed : (file : List ℕ) (cap : ℕ) (f : Fault) → error f ≡ checkIn file cap → Failed file cap f
+failed file cap f e = by-shape (shape file)
+  where
+    by-shape : Shape file → Failed file cap f
+    by-shape (refused g a) =
+        let q = e ∙ sym (at-once file g cap a) in
+        let same : f ≡ g = cc in
+        rw same (early a)
+    by-shape (read w) =
+        bind-error-by (startsFrom (w .region) cap (between 0 [])) _ (e ∙ checkIn-whole file w cap) (walking w) (λ done walked q.
+        let (is, none) = entered-told (length (w .region)) (w .delta) done (error f) q in
+        last w done walked is none)

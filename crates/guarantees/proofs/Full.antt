@@ -26,8 +26,8 @@ use Rattle.values.proofs.Laws.{length-starts}
 use Rattle.checker.specs.Check.{Walk, between, next, turned, turn, startsFrom, checkIn, listed, checkOf}
 use Rattle.checker.proofs.Walks.{Going, walk-error, come}
 use Rattle.guarantees.specs.Accepts.{Overfull}
-use Rattle.guarantees.proofs.Files.{Whole, whole, length-whole, bytes-whole, checkIn-whole, Shape, refused, read, shape}
-use Rattle.guarantees.proofs.Files.{answer-error, found-ok, found-error}
+use Rattle.guarantees.proofs.Files.{Whole, whole, length-whole, bytes-whole, checkIn-whole, empty, long, at-once, Shape, refused, read, shape}
+use Rattle.guarantees.proofs.Files.{answer-error, found-ok, Failed, early, walking, last, failed}
 use Rattle.guarantees.proofs.Accepts.{walks-prefix}
 use Rattle.guarantees.proofs.Walked.{Walked, walked-between}
 use Rattle.guarantees.proofs.Ends.{Ends, walk-ends}
@@ -38,25 +38,32 @@ use Rattle.guarantees.proofs.Accepted.{walked-ends}
 full-by : {X : Type 0} (file : List ℕ) (cap p : ℕ) → checkOf file cap .answer ≡ error (fault FULL p)
     → ((w : Whole file) → error (fault FULL p) ≡ startsFrom (w .region) cap (between 0 []) → X) → X
 unfolding checkOf
-full-by file cap p e k = found-error file cap (fault FULL p) (answer-error cap (fault FULL p) (checkIn file cap) e) (omega arith) (omega arith) k
+full-by {X} file cap p e k = by-failed (failed file cap (fault FULL p) (answer-error cap (fault FULL p) (checkIn file cap) e))
+  where
+    by-failed : Failed file cap (fault FULL p) → X
+    by-failed (early (empty z q)) = absurd (omega (arith, ap (λ (x : Fault). x .number) q))
+    by-failed (early (long l q)) = absurd (omega (arith, ap (λ (x : Fault). x .number) q))
+    by-failed (walking w q) = k w q
+    by-failed (last w done walked q none) = absurd (omega (arith, ap (λ (x : Fault). x .number) q))
 
 overfull : (file : List ℕ) (cap p : ℕ) → Bytes file → (w : Whole file) → error (fault FULL p) ≡ startsFrom (w .region) cap (between 0 [])
     → Overfull file cap p
 overfull file cap p b w e =
     let s = w .region in
-    let r = subst (Ends s cap (Walked s)) (sym e) (walked-ends s cap (bytes-whole file w b)) refl in
-    let v = walked-between s (r .walk) (r .wordless .between) (r .holds) in
-    let place : length (region (v .values)) ≡ p = sym (v .at) ∙ r .wordless .place in
+    let r = subst (Ends s cap (Walked s)) (sym e) (walked-ends s cap (bytes-whole file w b)) in
+    let (between, none) = r .refused .full refl in
+    let v = walked-between s (r .walk) between (r .holds) in
+    let place : length (region (v .values)) ≡ p = sym (r .refused .place ∙ v .at) in
     let front : file ≡ region (v .values) ++ (v .rest ++ (w .delta ∷ [])) =
     w .same ∙ rw (← append-assoc) (ap (λ x. x ++ (w .delta ∷ [])) (v .same)) in
     record {
       short = w .short;
       values = v .values;
       formed = v .wellFormed;
-      count = omega (arith, ap length (v .done), length-starts 0 (v .values), r .going .count, r .wordless .none);
+      count = omega (arith, ap length (v .done), length-starts 0 (v .values), r .going .count, none);
       same = ap (take p) front ∙ take-at (region (v .values)) _ p place;
       place = place;
-      more = omega (arith, r .inside, length-whole file w);
+      more = omega (arith, r .inside between, r .refused .place, length-whole file w);
     }
 
 -- the walk passes the values, and has no word for the next
@@ -97,8 +104,9 @@ pub never-full : (file : List ℕ) (cap p : ℕ) → length file ≤ suc cap →
 never-full file cap p enough e =
     full-by file cap p e (λ w q.
     let s = w .region in
-    let r = subst (Ends s cap (λ v. Unit {0})) (sym q) (walk-ends s cap (λ v. Unit {0}) (λ v h t u. tt) tt) refl in
-    omega (arith, done-le s cap (r .walk) (r .going), r .wordless .none, r .wordless .place, r .inside, length-whole file w))
+    let r = subst (Ends s cap (λ v. Unit {0})) (sym q) (walk-ends s cap (λ v. Unit {0}) (λ v h t u. tt) tt) in
+    let (between, none) = r .refused .full refl in
+    omega (arith, done-le s cap (r .walk) (r .going), none, r .inside between, length-whole file w))
 
 -- ---- fewer words
 
@@ -157,7 +165,7 @@ unfolding bind
 checkIn-fewer file cap more le = by-shape (shape file)
   where
     by-shape : Shape file → ((p : ℕ) × (checkIn file cap ≡ error (fault FULL p))) ⊎ (checkIn file cap ≡ checkIn file more)
-    by-shape (refused e low r) = inr (sym (r cap) ∙ r more)
+    by-shape (refused f a) = inr (sym (at-once file f cap a) ∙ at-once file f more a)
     by-shape (read w) =
         elim (starts-fewer (w .region) cap more le) [
           | inl (p, e) ↦ inl (p, rw (checkIn-whole file w cap, e))

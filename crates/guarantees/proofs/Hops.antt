@@ -1,8 +1,9 @@
 -- Of a well-formed file, following comes to a value that is no pointer, by at most j hops from value number j (document 01, "Questions at an
 -- offset").
 --
--- In order: a token that is no pointer is where following stops (`hops-none`); a pointer's target is a value before the one that it is or is
--- in, so following from it comes to one (`hops-pointer`), and so does following from a value (`hops`).
+-- In order: a token that is no pointer is where following stops (`hops-none`), and a pointer leads where its target leads, by one hop more
+-- (`follows-pointer`); a pointer's target is a value before the one that it is or is in, so following from it comes to one (`hops-pointer`), and
+-- so does following from a value (`hops`).
 use mathlib.Core.Path.{_≡_, refl, sym, ap, _∙_, subst}
 use mathlib.Core.List.{List, _∷_, _++_}
 use Prim.Native.Nat.{ℕ, zero, suc, _+_, _-_, _<_}
@@ -36,6 +37,12 @@ module _ (file : List ℕ) (vs : List Value) (entry : ℕ) (w : WellFormed file 
     hops-none k = follows ∙ sym (bind-ok _ (trail-end (region vs) q 0 (headAt q t) (looked file vs entry w j q t st) k) refl)
 
     module _ (k : t .kind ≡ 15) where
+      pub follows-pointer : followOf file q ≡ further (followOf file (q - t .n - 1))
+      follows-pointer =
+          let p = q - t .n - 1 in
+          let there = inside-region file vs entry w (λ s. followIn s p) p (omega (arith, within file vs entry w j q t st)) in
+          follows ∙ follow-pointer (region vs) q (headAt q t) (looked file vs entry w j q t st) k ∙ ap further (sym there)
+
       -- the number of the target
       target : (i : ℕ) × (i < j) × (getD (starts 0 vs) i 0 ≡ q - t .n - 1)
       target =
@@ -45,22 +52,18 @@ module _ (file : List ℕ) (vs : List Value) (entry : ℕ) (w : WellFormed file 
       -- one hop more
       hop : (i : ℕ) → i < j → getD (starts 0 vs) i 0 ≡ q - t .n - 1 → Comes file vs i (getD (starts 0 vs) i 0)
           → Comes file vs j q
-      hop i less e c =
-          let p = q - t .n - 1 in
-          let there = inside-region file vs entry w (λ s. followIn s p) p (omega (arith, within file vs entry w j q t st)) in
-          let pointer = follow-pointer (region vs) q (headAt q t) (looked file vs entry w j q t st) k in
-          record {
-            before = c .before;
-            value = c .value;
-            after = c .after;
-            values = c .values;
-            number = c .number;
-            numbered = c .numbered;
-            other = c .other;
-            hops = c .hops + 1;
-            follows = follows ∙ pointer ∙ ap further (sym there ∙ rw e at (c .follows));
-            falls = omega (arith, c .falls);
-          }
+      hop i less e c = record {
+        before = c .before;
+        value = c .value;
+        after = c .after;
+        values = c .values;
+        number = c .number;
+        numbered = c .numbered;
+        other = c .other;
+        hops = c .hops + 1;
+        follows = follows-pointer ∙ ap further (rw e at (c .follows));
+        falls = omega (arith, c .falls);
+      }
 
       through : ((i : ℕ) → i < j → Comes file vs i (getD (starts 0 vs) i 0)) → Comes file vs j q
       through more = let (i, less, e) = target in hop i less e (more i less)

@@ -4,7 +4,7 @@ pub mod Files
 pub mod Taken
 -- what the walk of check has passed
 pub mod Walked
--- what scan refuses is not FULL
+-- the number and the place of what scan refuses
 pub mod Faults
 -- where the walk of check ends
 pub mod Ends
@@ -14,6 +14,8 @@ pub mod Accepts
 pub mod Accepted
 -- FULL, and the table that check leaves
 pub mod Full
+-- what a refusal of check says
+pub mod Refused
 -- a token in a region
 pub mod Tokens
 -- a pointer leads where its target leads

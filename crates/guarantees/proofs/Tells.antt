@@ -3,7 +3,8 @@
 -- In order: where the tokens of a value stand (`head-stands`, `item-stands`); queries are answered in the region; each value is formed, and its
 -- tokens fit and have their targets before it. Of a token: it is read as what the pages say (`tells-token`), and its body is told (`tells-body`,
 -- `tells-body-of-pointer`, `tells-no-body`). Of a value: it is read (`tells-value`) and ends where its bytes do (`tells-end`); its items stand one
--- after the other (`tells-item`), with none after the last (`tells-none`), and none of a value that is an immediate (`tells-leaf`).
+-- after the other (`tells-item`), with none after the last (`tells-none`), and none of a value that is an immediate (`tells-leaf`). An item ends
+-- where its own bytes do (`tells-item-end`), and has no items (`tells-item-leaf`).
 use mathlib.Core.Path.{_≡_, refl, sym, ap, _∙_, subst}
 use mathlib.Core.Bool.{true, false, _||_}
 use mathlib.Core.Logic.{_⊎_, inl, inr}
@@ -142,6 +143,10 @@ module _ (file : List ℕ) (vs : List Value) (entry : ℕ) (w : WellFormed file 
     shows : shown (region vs) q (headAt q t) ≡ tellOf q t
     shows = rw (same, place) (shown-tells front t rest (may .allowed))
 
+    -- a query is answered by the token's head
+    asked : {A : Type 0} (k : List ℕ → Head → Answer Fault A) → inside file q (λ s. bind (peek false s q) (k s)) ≡ k (region vs) (headAt q t)
+    asked k = inside-region (λ s. bind (peek false s q) (k s)) q within ∙ sym (bind-ok _ looked refl)
+
     pub tells-token : readOf file q ≡ ok (tellOf q t)
     unfolding readIn
     tells-token = inside-region (λ s. readIn s q) q within ∙ sym (bind-ok _ looked (ap ok (sym shows)))
@@ -187,13 +192,9 @@ module _ (file : List ℕ) (vs : List Value) (entry : ℕ) (w : WellFormed file 
     pub tells-value : readOf file at ≡ ok (tellOf at (v .head))
     tells-value = tells-token (length a) at (v .head) (head-stands vs a v b e)
 
-    heads : ok (headAt at (v .head)) ≡ peek false (region vs) at
-    heads = looked (length a) at (v .head) (head-stands vs a v b e)
-
-    -- a query is answered by the value's head
-    asked : {A : Type 0} (k : List ℕ → Head → Answer Fault A) → inside file at (λ s. bind (peek false s at) (k s)) ≡ k (region vs) (headAt at (v .head))
-    asked k =
-        inside-region (λ s. bind (peek false s at) (k s)) at (within (length a) at (v .head) (head-stands vs a v b e)) ∙ sym (bind-ok _ heads refl)
+    head-asked : {A : Type 0} (k : List ℕ → Head → Answer Fault A)
+        → inside file at (λ s. bind (peek false s at) (k s)) ≡ k (region vs) (headAt at (v .head))
+    head-asked k = asked (length a) at (v .head) (head-stands vs a v b e) k
 
     -- a value with items is of a kind that has them
     holds : 0 < length (v .items) → immediate (rule (v .head .kind)) ≡ false
@@ -218,14 +219,14 @@ module _ (file : List ℕ) (vs : List Value) (entry : ℕ) (w : WellFormed file 
     tells-end =
         let all = length-append (emit (v .head)) (bytes (v .items)) in
         let sum : at + length (bytes (tokens v)) ≡ behind at (v .head) + length (bytes (v .items)) = omega arith in
-        asked (λ s h. walk s (h .items) (h .end)) ∙ rw (sum, ← formed a v b e .count) (walks (v .items) [] (sym (append-nil (v .items))))
+        head-asked (λ s h. walk s (h .items) (h .end)) ∙ rw (sum, ← formed a v b e .count) (walks (v .items) [] (sym (append-nil (v .items))))
 
     item-at : (is : List Token) (t : Token) (js : List Token) (q : ℕ) → v .items ≡ is ++ (t ∷ js) → q ≡ behind at (v .head) + length (bytes is)
         → q < length (region vs) → itemOf file at (length is) ≡ ok q
     unfolding itemIn itemOn startsIn bind
     item-at is t js q i p here =
         let less : length is < length (v .items) = omega (arith, ap length i, length-append is (t ∷ js)) in
-        asked (λ s. itemOn s at (length is))
+        head-asked (λ s. itemOn s at (length is))
         ∙ rw (holds (omega arith), ← formed a v b e .count, lt-leb _ _ less, walks is (t ∷ js) i, ← p, lt-ltb _ _ here)
 
     pub tells-item : (is : List Token) (t : Token) (js : List Token) (q : ℕ) → v .items ≡ is ++ (t ∷ js) → q ≡ behind at (v .head) + length (bytes is)
@@ -236,8 +237,26 @@ module _ (file : List ℕ) (vs : List Value) (entry : ℕ) (w : WellFormed file 
 
     pub tells-none : (i : ℕ) → length (v .items) ≤ i → immediate (rule (v .head .kind)) ≡ false → itemOf file at i ≡ error (fault NO_ITEM at)
     unfolding itemIn itemOn
-    tells-none i past k = asked (λ s. itemOn s at i) ∙ rw (k, ← formed a v b e .count, le-leb _ _ past)
+    tells-none i past k = head-asked (λ s. itemOn s at i) ∙ rw (k, ← formed a v b e .count, le-leb _ _ past)
 
     pub tells-leaf : (i : ℕ) → immediate (rule (v .head .kind)) ≡ true → itemOf file at i ≡ error (fault WRONG_KIND at)
     unfolding itemIn itemOn
-    tells-leaf i k = asked (λ s. itemOn s at i) ∙ rw k
+    tells-leaf i k = head-asked (λ s. itemOn s at i) ∙ rw k
+
+    -- ---- an item
+
+    module _ (is : List Token) (t : Token) (js : List Token) (q : ℕ) (i : v .items ≡ is ++ (t ∷ js))
+        (p : q ≡ behind at (v .head) + length (bytes is)) where
+      item-own : Item t
+      item-own = each-append Item is (t ∷ js) .0 (subst (Each Item) i (formed a v b e .items)) .1 .0
+
+      item-asked : {A : Type 0} (k : List ℕ → Head → Answer Fault A) → inside file q (λ s. bind (peek false s q) (k s)) ≡ k (region vs) (headAt q t)
+      item-asked k = asked (length a) q t (rw (← p) at (item-stands vs a v b e is t js i)) k
+
+      pub tells-item-end : skipOf file q ≡ ok (behind q t)
+      unfolding skipIn walk
+      tells-item-end = item-asked (λ s h. walk s (h .items) (h .end)) ∙ rw (immediate-counts t item-own .1)
+
+      pub tells-item-leaf : (k : ℕ) → itemOf file q k ≡ error (fault WRONG_KIND q)
+      unfolding itemIn itemOn
+      tells-item-leaf k = item-asked (λ s. itemOn s q k) ∙ rw (item-own .immediate)

@@ -4,7 +4,7 @@
 -- (`Walked`), with a value finished where none of its items is pending; a token that the walk takes keeps it (`passed-walked`); between two values
 -- the walk has passed values alone (`walked-between`).
 use mathlib.Core.Path.{_≡_, refl, sym, ap, _∙_}
-use Prim.Native.Nat.{ℕ, zero, suc, _+_, _<_}
+use Prim.Native.Nat.{ℕ, zero, suc, _+_, _≤_, _<_}
 use mathlib.Core.Bool.{true, not, _&&_}
 use mathlib.Core.List.{List, [], _∷_, _++_, append-assoc, append-nil}
 use native.Mathlib.Nat.{add-zero, zero-add, suc-ne-zero}
@@ -12,7 +12,7 @@ use native.Mathlib.Omega.{arith}
 use borrow.Author.Tests.{lt-ltb, not-true, not-false}
 use lib.ListN.{length, drop, length-append}
 use lib.Seq.{drop-append-seam}
-use Rattle.kind.specs.Kind.{rule, pending, immediate}
+use Rattle.kind.specs.Kind.{rule, counted, pending, immediate}
 use Rattle.token.specs.Token.{Token, emit}
 use Rattle.scan.specs.declared.Head.{Head}
 use Rattle.scan.proofs.Places.{headAt}
@@ -44,6 +44,8 @@ pub record Partly (s : List ℕ) (vs : List Value) (t : Token) (is : List Token)
   pub values : Values vs
   pub same : s ≡ region vs ++ (bytes (t ∷ is) ++ rest)
   pub head : Sound t
+  -- the items that the head counts have a byte each behind it
+  pub room : length (region vs) + length (emit t) + counted (rule (t .kind)) (t .n) (t .args) ≤ length s
   pub items : Each Item is
   pub count : length is + k ≡ pending (rule (t .kind)) (t .n) (t .args)
   pub aimed : Aimed (starts 0 vs) (length (region vs)) (t ∷ is)
@@ -63,14 +65,17 @@ module _ (s : List ℕ) (cap : ℕ) (w : Walk) (u : Token) (rest : List ℕ) (st
 
   partly-head : (vs : List Value) (q : List ℕ) → Values vs → s ≡ region vs ++ q → w .at ≡ length (region vs) → w .done ≡ starts 0 vs
       → Partly s vs u [] rest (pending (rule (u .kind)) (u .n) (u .args))
-  partly-head vs q v same here done = record {
-    values = v;
-    same = rw (bytes-one u) (same-behind s (region vs) q _ same (rw here at (st .same)));
-    head = sound;
-    items = tt;
-    count = zero-add _;
-    aimed = (rw (here, done) at (st .reaches), tt);
-  }
+  partly-head vs q v same here done =
+      let all : s ≡ region vs ++ (emit u ++ rest) = same-behind s (region vs) q _ same (rw here at (st .same)) in
+      record {
+        values = v;
+        same = rw (bytes-one u) all;
+        head = sound;
+        room = omega (arith, st .fits .room, ap length all, length-append (region vs) (emit u ++ rest), length-append (emit u) rest);
+        items = tt;
+        count = zero-add _;
+        aimed = (rw (here, done) at (st .reaches), tt);
+      }
 
   partly-item : (vs : List Value) (t : Token) (is : List Token) (q : List ℕ) (k : ℕ) → Partly s vs t is q (suc k) → 0 < w .pending
       → w .at ≡ length (region vs) + length (bytes (t ∷ is)) → w .done ≡ starts 0 vs → Partly s vs t (is ++ (u ∷ [])) rest k
@@ -82,6 +87,7 @@ module _ (s : List ℕ) (cap : ℕ) (w : Walk) (u : Token) (rest : List ℕ) (st
         values = p .values;
         same = rw (bytes-snoc (t ∷ is) u) (behind ∙ simp append-assoc);
         head = p .head;
+        room = p .room;
         items = each-append Item is (u ∷ []) .1 (p .items, (item more, tt));
         count = omega (arith, p .count, length-append is (u ∷ []));
         aimed = aimed-snoc (starts 0 vs) (length (region vs)) (t ∷ is) u (p .aimed) (rw (here, done) at (st .reaches));

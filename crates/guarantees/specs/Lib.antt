@@ -1,5 +1,7 @@
 -- what check accepts, and when its table is too short
 pub mod Accepts
+-- what its refusals mean
+pub mod Refused
 -- what the pages say of a token
 pub mod Tells
 -- the tokens of a file's values by their place, and where following comes to

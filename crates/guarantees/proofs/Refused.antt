@@ -1,0 +1,230 @@
+-- What a refusal of check says, for each error.
+--
+-- In order: a file that is refused at once (`empty-exactly`, `too-long-exactly`); one whose entry is no value's start (`bad-entry-exactly`); every
+-- other refusal: all before its place is well formed, and the token that is wanted there is refused (`first-fault`); such a fault is told
+-- (`fault-first`), at its place and with a number from TRUNC to FULL (`fault-told`); so both ways (`fault-exactly`).
+use mathlib.Core.Path.{_≡_, refl, sym, ap, _∙_, subst}
+use mathlib.Core.Logic.{_↔_}
+use Prim.Native.Nat.{ℕ, zero, suc, _+_, _-_, _≤_, _<_}
+use mathlib.Core.Bool.{false}
+use mathlib.Core.List.{List, [], _∷_, _++_, append-assoc, append-nil}
+use native.Mathlib.Nat.{add-zero, zero-add, suc-ne-zero}
+use native.Mathlib.Omega.{arith}
+use borrow.Author.Tests.{lt-leb, ne-eqb}
+use lib.ListN.{length, take, drop, length-append, take-append-drop}
+use lib.Seq.{take-at, take-append-le, drop-append-seam}
+use Rattle.prelude.specs.Answer.{error}
+use Rattle.prelude.specs.Bytes.{Bytes}
+use Rattle.prelude.proofs.Readers.{bind-ok, bind-error}
+use Rattle.error.specs.Error.{Fault, fault, LIMIT, EMPTY, TOO_LONG, TRUNC, FULL, BAD_ENTRY}
+use Rattle.token.specs.Token.{Token, emit, Fits}
+use Rattle.values.specs.Values.{Value, bytes, region, starts, Values}
+use Rattle.values.proofs.Laws.{length-starts}
+use Rattle.checker.specs.Check.{Walk, between, next, startsFrom, checkIn, checkOf}
+use Rattle.checker.proofs.Walks.{Going, walk-error}
+use Rattle.guarantees.specs.Refused.{Unnamed, Begun, Open, Faulty}
+use Rattle.guarantees.proofs.Files.{Whole, whole, length-whole, region-whole, bytes-whole, checkIn-whole, entered, entered-none}
+use Rattle.guarantees.proofs.Files.{empty, long, at-once, answer-error, Failed, early, walking, last, failed}
+use Rattle.guarantees.proofs.Taken.{settled}
+use Rattle.guarantees.proofs.Walked.{Walked, idle, busy}
+use Rattle.guarantees.proofs.Ends.{Ends, next-refused, walk-ends}
+use Rattle.guarantees.proofs.Accepts.{walks-open, walks-prefix, walks-all}
+use Rattle.guarantees.proofs.Accepted.{walked-ends, walked-region}
+
+-- ---- where a file failed
+
+numbers : {f g : Fault} → f ≡ g → f .number ≡ g .number
+numbers e = ap (λ (x : Fault). x .number) e
+
+places : {f g : Fault} → f ≡ g → f .place ≡ g .place
+places e = ap (λ (x : Fault). x .place) e
+
+walk-number : (s : List ℕ) (cap : ℕ) (f : Fault) → error f ≡ startsFrom s cap (between 0 []) → (TRUNC ≤ f .number) × (f .number ≤ FULL)
+walk-number s cap f e =
+    let r = subst (Ends s cap (λ v. Unit {0})) (sym e) (walk-ends s cap (λ v. Unit {0}) (λ v h t u. tt) tt) in
+    r .refused .number
+
+module _ (file : List ℕ) (cap : ℕ) where
+  fails : (f : Fault) → checkOf file cap .answer ≡ error f → Failed file cap f
+  unfolding checkOf
+  fails f e = failed file cap f (answer-error cap f (checkIn file cap) e)
+
+  answers : (f : Fault) → error f ≡ checkIn file cap → checkOf file cap .answer ≡ error f
+  unfolding checkOf
+  answers f e = rw (← e)
+
+  -- ---- at once
+
+  pub empty-exactly : (p : ℕ) → (checkOf file cap .answer ≡ error (fault EMPTY p)) ↔ ((length file ≡ 0) × (p ≡ 0))
+  empty-exactly p = (
+    λ e. by-failed (fails (fault EMPTY p) e),
+    λ h. answers (fault EMPTY p) (at-once file (fault EMPTY p) cap (empty (h .0) (ap (fault EMPTY) (h .1)))),
+  )
+    where
+      by-failed : Failed file cap (fault EMPTY p) → (length file ≡ 0) × (p ≡ 0)
+      by-failed (early (empty z q)) = (z, places q)
+      by-failed (early (long l q)) = absurd (omega (arith, numbers q))
+      by-failed (walking w q) = absurd (omega (arith, walk-number (w .region) cap (fault EMPTY p) q))
+      by-failed (last w done walked q none) = absurd (omega (arith, numbers q))
+
+  pub too-long-exactly : (p : ℕ) → (checkOf file cap .answer ≡ error (fault TOO_LONG p)) ↔ ((LIMIT < length file) × (p ≡ 0))
+  too-long-exactly p = (
+    λ e. by-failed (fails (fault TOO_LONG p) e),
+    λ h. answers (fault TOO_LONG p) (at-once file (fault TOO_LONG p) cap (long (h .0) (ap (fault TOO_LONG) (h .1)))),
+  )
+    where
+      by-failed : Failed file cap (fault TOO_LONG p) → (LIMIT < length file) × (p ≡ 0)
+      by-failed (early (empty z q)) = absurd (omega (arith, numbers q))
+      by-failed (early (long l q)) = (l, places q)
+      by-failed (walking w q) = absurd (omega (arith, walk-number (w .region) cap (fault TOO_LONG p) q))
+      by-failed (last w done walked q none) = absurd (omega (arith, numbers q))
+
+  -- ---- the entry
+
+  unnamed-fails : (p : ℕ) → Unnamed file cap p → error (fault BAD_ENTRY p) ≡ checkIn file cap
+  unnamed-fails p u =
+      let s = region (u .values) in
+      let w : Whole file = record { region = s; delta = u .delta; short = u .short; same = u .same } in
+      rw (u .place) (bind-ok (entered (length s) (u .delta)) (walks-all (u .values) cap (u .formed) (u .room))
+      (entered-none (length s) (u .delta) (starts 0 (u .values)) (u .unnamed))
+      ∙ sym (checkIn-whole file w cap))
+
+  pub bad-entry-exactly : (p : ℕ) → Bytes file → (checkOf file cap .answer ≡ error (fault BAD_ENTRY p)) ↔ Unnamed file cap p
+  bad-entry-exactly p b = (λ e. by-failed (fails (fault BAD_ENTRY p) e), λ u. answers (fault BAD_ENTRY p) (unnamed-fails p u))
+    where
+      by-failed : Failed file cap (fault BAD_ENTRY p) → Unnamed file cap p
+      by-failed (early (empty z q)) = absurd (omega (arith, numbers q))
+      by-failed (early (long l q)) = absurd (omega (arith, numbers q))
+      by-failed (walking w q) = absurd (omega (arith, walk-number (w .region) cap (fault BAD_ENTRY p) q))
+      by-failed (last w done walked q none) =
+          let l = walked-region (w .region) cap (bytes-whole file w b) done walked in
+          record {
+            short = w .short;
+            values = l .values;
+            formed = l .wellFormed;
+            room = l .room;
+            delta = w .delta;
+            same = w .same ∙ ap (λ s. s ++ (w .delta ∷ [])) (l .same);
+            place = places q ∙ ap length (l .same);
+            unnamed = λ e named. rw (l .starts) at (none e (rw (l .same) named));
+          }
+
+-- ---- the first fault of the walk
+
+module _ (file : List ℕ) (cap : ℕ) (f : Fault) (w : Whole file) where
+  abbrev s : List ℕ
+  s = w .region
+
+  -- at the end of some bytes of the region: values, and tokens of an open value
+  faulty-at : (vs : List Value) (ts : List Token) (k : ℕ) (rest front : List ℕ) → front ≡ region vs ++ bytes ts → s ≡ front ++ rest → Values vs
+      → length vs ≤ cap → Open cap (length s) vs ts k → (k ≡ 0 → length front < length s)
+      → error f ≡ next s cap (starts 0 vs) k (length front) → Faulty file cap (length front) f
+  faulty-at vs ts k rest front is same formed room begun more told =
+      let len : length file - 1 ≡ length s = omega (arith, length-whole file w) in
+      let all : file ≡ front ++ (rest ++ (w .delta ∷ [])) = w .same ∙ rw (← append-assoc) (ap (λ x. x ++ (w .delta ∷ [])) same) in
+      record {
+        some = omega (arith, length-whole file w);
+        short = w .short;
+        values = vs;
+        formed = formed;
+        room = room;
+        tokens = ts;
+        missing = k;
+        begun = rw len begun;
+        same = ap (take (length front)) all ∙ take-at front _ (length front) refl ∙ is;
+        place = ap length (sym is);
+        inside = omega (arith, len, ap length same, length-append front rest);
+        more = rw len more;
+        refused = rw (region-whole file w) told;
+      }
+
+  faulty-walk : (v : Walk) → Walked s v → Going s cap v → (v .pending ≡ 0 → v .at < length s)
+      → error f ≡ next s cap (v .done) (v .pending) (v .at) → Faulty file cap (v .at) f
+  unfolding bytes
+  faulty-walk v (idle {vs} rest values same) g more told =
+      faulty-at vs [] 0 rest (region vs) (sym (append-nil (region vs))) same values (omega (arith, g .count, length-starts 0 vs)) refl more told
+  faulty-walk v (busy {vs} {t} {is} {rest} {k} p) g more told =
+      let front = region vs ++ bytes (t ∷ is) in
+      let word : length vs < cap = omega (arith, g .room (omega arith), length-starts 0 vs) in
+      let long : length front ≡ length (region vs) + length (bytes (t ∷ is)) = length-append (region vs) (bytes (t ∷ is)) in
+      let begun : Begun cap (length s) vs t is (suc k) = record {
+        word = word;
+        head = p .head;
+        room = p .room;
+        items = p .items;
+        count = p .count;
+        aimed = p .aimed;
+      } in
+      rw (← long) (faulty-at vs (t ∷ is) (suc k) rest front refl (p .same ∙ sym (append-assoc (region vs) (bytes (t ∷ is)) rest)) (p .values)
+      (omega arith) (omega arith, begun) (rw long more) (rw long told))
+
+  faulty : Bytes file → error f ≡ startsFrom s cap (between 0 []) → Faulty file cap (f .place) f
+  faulty b e =
+      let r = subst (Ends s cap (Walked s)) (sym e) (walked-ends s cap (bytes-whole file w b)) in
+      subst (λ p. Faulty file cap p f) (sym (r .refused .place)) (faulty-walk (r .walk) (r .holds) (r .going) (r .inside) (r .told))
+
+pub first-fault : (file : List ℕ) (cap : ℕ) (f : Fault) → Bytes file → checkOf file cap .answer ≡ error f
+    → (f .number ≡ EMPTY → ⊥) → (f .number ≡ TOO_LONG → ⊥) → (f .number ≡ BAD_ENTRY → ⊥) → Faulty file cap (f .place) f
+first-fault file cap f b e none much entry = by-failed (fails file cap f e)
+  where
+    by-failed : Failed file cap f → Faulty file cap (f .place) f
+    by-failed (early (empty z q)) = absurd (none (numbers q))
+    by-failed (early (long l q)) = absurd (much (numbers q))
+    by-failed (walking w q) = faulty file cap f w b q
+    by-failed (last w done walked q unnamed) = absurd (entry (numbers q))
+
+-- ---- and a fault that stands there is told
+
+module _ (s : List ℕ) (cap : ℕ) (f : Fault) (vs : List Value) (rest : List ℕ) where
+  abbrev at : ℕ
+  at = length (region vs)
+
+  -- the walk behind the values comes to the fault
+  open-fails : (ts : List Token) (k : ℕ) → Open cap (length s) vs ts k → s ≡ region vs ++ (bytes ts ++ rest)
+      → (k ≡ 0 → at + length (bytes ts) < length s) → error f ≡ next s cap (starts 0 vs) k (at + length (bytes ts))
+      → error f ≡ startsFrom s cap (between at (starts 0 vs))
+  unfolding bytes
+  open-fails [] k z same more told =
+      let here : error f ≡ next s cap (starts 0 vs) 0 at = rw (z, add-zero) at told in
+      walk-error s cap (between at (starts 0 vs)) (lt-leb (length s) at (omega (arith, more z))) f here
+  open-fails (t ∷ is) zero (pos, b) same more told = absurd (omega arith)
+  open-fails (t ∷ is) (suc k) (pos, b) same more told =
+      let behind : drop at s ≡ bytes (t ∷ is) ++ rest = rw same (drop-append-seam (region vs) (bytes (t ∷ is) ++ rest)) in
+      let long : length s ≡ at + length (emit t) + length (bytes is ++ rest) = ap length same ∙ simp length-append (omega arith) in
+      let fits : Fits false t (bytes is ++ rest) = record { allowed = b .head .allowed; flat = refl; room = omega (arith, b .room) } in
+      let word : length (starts 0 vs) < cap = omega (arith, b .word, length-starts 0 vs) in
+      walk-error s cap (settled at (starts 0 vs) (at + length (bytes (t ∷ is))) (suc k)) (rw (ne-eqb (suc k) 0 (suc-ne-zero k))) f told
+      ∙ sym (walks-open s cap (starts 0 vs) at (suc k) t is rest behind fits (b .head .text) (b .items) (b .count) (b .aimed) word)
+
+faulty-fails : (file : List ℕ) (cap p : ℕ) (f : Fault) → Faulty file cap p f → (w : Whole file) → error f ≡ startsFrom (w .region) cap (between 0 [])
+faulty-fails file cap p f x w =
+    let s = w .region in
+    let vs = x .values in
+    let ts = x .tokens in
+    let len : length file - 1 ≡ length s = omega (arith, length-whole file w) in
+    let front : take p s ≡ region vs ++ bytes ts =
+    sym (take-append-le p s (w .delta ∷ []) (omega (arith, x .inside))) ∙ ap (take p) (sym (w .same)) ∙ x .same in
+    let same : s ≡ region vs ++ (bytes ts ++ drop p s) =
+    sym (take-append-drop p s) ∙ ap (λ y. y ++ drop p s) front ∙ append-assoc (region vs) (bytes ts) (drop p s) in
+    let at : p ≡ length (region vs) + length (bytes ts) = sym (x .place) ∙ length-append (region vs) (bytes ts) in
+    let walked = walks-prefix s cap [] 0 vs (bytes ts ++ drop p s) same (x .formed .formed) (x .formed .aimed) (omega (arith, x .room)) in
+    let told : error f ≡ next s cap (starts 0 vs) (x .missing) p = rw (region-whole file w) at (x .refused) in
+    open-fails s cap f vs (drop p s) ts (x .missing) (rw len at (x .begun)) same (rw (len, at) at (x .more)) (rw at at told)
+    ∙ ap (λ q. startsFrom s cap (between q (starts 0 vs))) (sym (zero-add (length (region vs)))) ∙ sym walked
+
+pub fault-first : (file : List ℕ) (cap p : ℕ) (f : Fault) → Faulty file cap p f → checkOf file cap .answer ≡ error f
+fault-first file cap p f x =
+    let w = whole file (x .some) (x .short) in
+    answers file cap f (bind-error _ (faulty-fails file cap p f x w) ∙ sym (checkIn-whole file w cap))
+
+pub fault-told : (file : List ℕ) (cap p : ℕ) (f : Fault) → Faulty file cap p f → (f .place ≡ p) × (TRUNC ≤ f .number) × (f .number ≤ FULL)
+fault-told file cap p f x =
+    let r = next-refused _ cap (record { at = p; start = p; pending = x .missing; done = starts 0 (x .values) }) f (x .refused) in
+    (r .place, r .number .0, r .number .1)
+
+pub fault-exactly : (file : List ℕ) (cap : ℕ) (f : Fault) → Bytes file → TRUNC ≤ f .number → f .number ≤ FULL
+    → (checkOf file cap .answer ≡ error f) ↔ Faulty file cap (f .place) f
+fault-exactly file cap f b low high = (
+  λ e. first-fault file cap f b e (λ q. omega arith) (λ q. omega arith) (λ q. omega arith),
+  λ x. fault-first file cap (f .place) f x,
+)
