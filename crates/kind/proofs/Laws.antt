@@ -1,12 +1,12 @@
 -- Laws of the kind table, each one computed test over all rows.
-use mathlib.Core.Path.{_≡_, refl}
-use mathlib.Core.Bool.{Bool, true, false, not, _&&_}
+use mathlib.Core.Path.{_≡_, refl, sym, _∙_}
+use mathlib.Core.Bool.{Bool, true, false, not, _&&_, _||_, false≢true}
 use Prim.Native.Nat.{ℕ, _+_, _-_, _*_, _^_, _≤_, _<_, min}
 use native.Mathlib.Omega.{arith}
 use lib.Dec.{leb, ltb, eqb}
 use lib.ListN.{length, getD, List·getD-eq-default}
 use borrow.Author.Tests.{leb-true, ltb-true, eqb-true, not-true}
-use Rattle.prelude.proofs.Tests.{and-l, and-r}
+use Rattle.prelude.proofs.Tests.{and-l, and-r, or-true}
 use Rattle.prelude.proofs.Tables.{every-getD}
 use Rattle.kind.specs.Kind.{rule, table, reserved, immediate}
 use Rattle.kind.specs.declared.Rule.{Rule}
@@ -24,6 +24,10 @@ pub record Row (r : Rule) : Type 0 where
   pub single : r .single ≤ 1
   pub unit : r .scale + r .each ≤ 4
   pub need : r .fixed + (r .scale + r .each) * min (r .most) (2 ^ 63 - 1) < 2 ^ 64
+  -- a body has bytes for each n, or none
+  pub fixed : r .fixed ≤ 4 * r .scale
+  -- where a second number counts the items, there is nothing else
+  pub many : r .args ≡ true → r .scale + r .single + r .each ≡ 0
 
 pub rule-row : (k : ℕ) → Row (rule k)
 unfolding rule
@@ -31,6 +35,10 @@ rule-row k = record {
   single = leb-true _ _ (every-getD (λ r. leb (r .single) 1) table k reserved refl refl);
   unit = leb-true _ _ (every-getD (λ r. leb (r .scale + r .each) 4) table k reserved refl refl);
   need = ltb-true _ _ (every-getD (λ r. ltb (r .fixed + (r .scale + r .each) * min (r .most) (2 ^ 63 - 1)) (2 ^ 64)) table k reserved refl refl);
+  fixed = leb-true _ _ (every-getD (λ r. leb (r .fixed) (4 * r .scale)) table k reserved refl refl);
+  many = λ e. or-true _ _ (every-getD (λ r. not (r .args) || eqb (r .scale + r .single + r .each) 0) table k reserved refl refl)
+      (λ no. absurd (false≢true (sym (not-true _ no) ∙ e)))
+      (λ none. eqb-true _ _ none);
 }
 
 -- an immediate has no items

@@ -1,7 +1,7 @@
 -- What this crate's private functions make. No public contract cites this file.
 --
 --   last, tenth       what a last byte makes, with `left` bytes after it; and what a last allowed one makes
---   raised d a        the answer a with the seven bits d below its number
+--   raised d u a      the answer a with its number u times, and d more
 --   valueOf r         the number of an answer, or 0
 --   leftOf r          the bytes left of an answer, or 0
 use Prim.Native.Nat.{ℕ, _+_, _*_}
@@ -12,15 +12,15 @@ use Rattle.error.specs.Error.{OVERLONG, RANGE}
 use Rattle.leb128.specs.declared.GetResult.{GetResult}
 use Rattle.leb128.specs.declared.GetResult.the-variants.{Ok, Err}
 
-abbrev pub last : ℕ → ℕ → ℕ → Answer ℕ (ℕ × ℕ)
+unfoldable pub last : ℕ → ℕ → ℕ → Answer ℕ (ℕ × ℕ)
 last least b left = pick (leb least b) (ok (b, left)) (error OVERLONG)
 
 abbrev pub tenth : ℕ → ℕ → ℕ → Answer ℕ (ℕ × ℕ)
 tenth least b left = pick (ltb b 2) (last least b left) (error RANGE)
 
-abbrev pub raised : ℕ → Answer ℕ (ℕ × ℕ) → Answer ℕ (ℕ × ℕ)
-raised d (ok a) = ok (d + 128 * a .0, a .1)
-raised d (error e) = error e
+abbrev pub raised : ℕ → ℕ → Answer ℕ (ℕ × ℕ) → Answer ℕ (ℕ × ℕ)
+raised d u (ok a) = ok (d + u * a .0, a .1)
+raised d u (error e) = error e
 
 abbrev pub valueOf : GetResult → ℕ
 valueOf (Ok n left) = n

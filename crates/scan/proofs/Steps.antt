@@ -1,21 +1,23 @@
 -- How `scanAt` goes, as the code takes it: by offsets, with the bytes left counted.
 --
--- In order: the bytes left behind a number; `seen` under a guard, behind a number, of a body; the whole.
+-- In order: the bytes left behind a number; `seen` under a guard, behind a number, of a body; what was read so far; the whole; behind
+-- the first number.
 use mathlib.Core.Path.{_≡_, refl, sym, ap, _∙_}
-use Prim.Native.Nat.{ℕ, suc, _+_, _-_, _/_, _%_, _≤_, _<_}
+use Prim.Native.Nat.{ℕ, suc, _+_, _-_, _*_, _/_, _%_, _^_, _≤_, _<_}
 use mathlib.Core.Bool.{Bool, true, false, not, _&&_}
 use mathlib.Core.List.{List, [], _∷_}
+use native.Mathlib.Nat.{zero-add, add-zero, zero-mul}
 use native.Mathlib.Numerals.{add-one}
 use native.Mathlib.Omega.{arith}
-use lib.Dec.{ltb, leb}
-use borrow.Author.Tests.{lt-ltb, le-ltb}
+use lib.Dec.{ltb, leb, eqb}
+use borrow.Author.Tests.{lt-ltb, le-ltb, le-leb, eqb-true, not-true, not-false}
 use lib.ListN.{length, take, drop, getD, length-drop, drop-of-length-le}
 use lib.Seq.{drop-cons, length-take-le}
 use Rattle.prelude.specs.Pick.{pick}
 use Rattle.prelude.specs.Answer.{Answer, ok, error, Res, got, bad, guard, then, orError, measured, need, _>>_, _>>=_}
-use Rattle.prelude.proofs.Tests.{pick-cong, facts}
+use Rattle.prelude.proofs.Tests.{pick-cong, facts, le-of-flag, and-l, and-r}
 use Rattle.prelude.proofs.Readers.{measured-ok}
-use Rattle.error.specs.Error.{Fault, fault, TRUNC, RESERVED, RANGE, NESTED}
+use Rattle.error.specs.Error.{Fault, fault, numberOf, TRUNC, RESERVED, RANGE, NESTED}
 use Rattle.leb128.specs.Leb.{get}
 use Rattle.leb128.specs.Told as numbers
 use Rattle.leb128.specs.Stages.{leftOf}
@@ -23,6 +25,7 @@ use Rattle.leb128.specs.declared.GetResult.{GetResult}
 use Rattle.leb128.specs.declared.GetResult.the-variants.{Ok, Err}
 use Rattle.kind.specs.Kind.{rule, size, counted, pending, immediate}
 use Rattle.kind.specs.declared.Rule.{Rule}
+use Rattle.kind.proofs.Laws.{Row, rule-row, most-fits}
 use Rattle.token.specs.Token.{Token}
 use Rattle.token.specs.Scan.{getIf, number, body, scanKind, scan}
 use Rattle.scan.specs.Told.{seen, scanAt}
@@ -76,6 +79,31 @@ module _ (s : List ℕ) (at : ℕ) where
       ∙ seen-number (rule k .args) (length s - length m) _ _ (omega arith) (λ a rest e′. seen-body k (low + v) a rest (e′ .short)))
       (λ t. refl))
 
+-- ---- what was read so far
+
+abbrev head : ℕ → ℕ → ℕ → ℕ → ℕ → Head
+head k n items first end = record { kind = k; n = n; items = items; first = first; end = end }
+
+-- behind the first number v of a token with the header at `at`: what remains makes the whole
+pub record Number (inner : Bool) (s : List ℕ) (at k : ℕ) (r : Rule) (low v left : ℕ) : Type 0 where
+  pub row : Row r
+  pub most : r .most < 2 ^ 64
+  pub short : left ≤ length s
+  pub whole : ranged s at k r low v left ≡ scanAt inner s at
+
+abbrev pub Behind : Bool → List ℕ → ℕ → Rule → GetResult → Type 0
+Behind inner s at r (Ok v left) = Number inner s at (getD s at 0 / 16) r (getD s at 0 % 16) v left
+Behind inner s at r (Err e) = error (fault (numberOf e) at) ≡ scanAt inner s at
+
+-- behind the second number a
+pub record Second (inner : Bool) (s : List ℕ) (at k n a left : ℕ) : Type 0 where
+  pub short : left ≤ length s
+  pub whole : pick (leb a left) (ok (head k n a (length s - left) (length s - left))) (error (fault TRUNC at)) ≡ scanAt inner s at
+
+abbrev pub Counted : Bool → List ℕ → ℕ → ℕ → ℕ → GetResult → Type 0
+Counted inner s at k n (Ok a left) = Second inner s at k n a left
+Counted inner s at k n (Err e) = error (fault (numberOf e) at) ≡ scanAt inner s at
+
 -- ---- the whole
 
 pub scan-past : (inner : Bool) (s : List ℕ) (at : ℕ) → length s ≤ at → error (fault TRUNC at) ≡ scanAt inner s at
@@ -113,6 +141,73 @@ module _ (inner : Bool) (s : List ℕ) (at : ℕ) (there : at < length s) where
       pub scan-nested : inner && not i ≡ true → error (fault NESTED at) ≡ scanAt inner s at
       scan-nested h = rw (scan-head, ← ruled, lt-ltb _ _ used, ← flat, h)
 
-      pub scan-numbered : inner && not i ≡ false
+      scan-numbered : inner && not i ≡ false
           → andThen at (ranged s at kind r low) (measured (getIf (leb 15 low) (drop (at + 1) s))) ≡ scanAt inner s at
       scan-numbered h = rw (scan-head, ← ruled, lt-ltb _ _ used, ← flat, h)
+
+      behind : inner && not i ≡ false → (g : GetResult) → numbers.told g ≡ measured (getIf (leb 15 low) (drop (at + 1) s)) → Behind inner s at r g
+      behind h (Ok v left) e = record {
+        row = rw ruled (rule-row kind);
+        most = rw ruled (most-fits kind);
+        short = left-le (leb 15 low) (drop (at + 1) s) (length s) (Ok v left) e (rw length-drop (omega arith));
+        whole = rw (← scan-numbered h, ← e);
+      }
+      behind h (Err f) e = rw (← scan-numbered h, ← e)
+
+      pub scan-number : inner && not i ≡ false → (g x : GetResult) → numbers.told g ≡ measured (getIf (leb 15 low) (drop (at + 1) s)) → g ≡ x → Behind inner s at r x
+      scan-number h g x e is = behind h x (rw is at e)
+
+-- ---- behind the first number
+
+module _ {inner : Bool} {s : List ℕ} {at k : ℕ} {r : Rule} {low v left : ℕ} (b : Number inner s at k r low v left) {f : Bool} (told : f ≡ leb (low + v) (r .most)) where
+  abbrev n : ℕ
+  n = low + v
+
+  pub scan-over : not f ≡ true → error (fault RANGE at) ≡ scanAt inner s at
+  scan-over h = rw (← b .whole, ← told, not-true f h)
+
+  module _ (h : not f ≡ false) where
+    pub n-most : n ≤ r .most
+    n-most = le-of-flag n (r .most) told (not-false f h)
+
+    -- items that a second number counts
+    pub scan-second : r .args ≡ true → (g x : GetResult) → numbers.told g ≡ measured (get 9 0 (drop (length s - left) s)) → g ≡ x → Counted inner s at k n x
+    unfolding getIf
+    scan-second e g x q is = go x (rw is at q)
+      where
+        whole : andThen at (fitted (length s) at k r n) (measured (get 9 0 (drop (length s - left) s))) ≡ scanAt inner s at
+        whole = rw (← b .whole, ← told, not-false f h, e)
+
+        go : (g : GetResult) → numbers.told g ≡ measured (get 9 0 (drop (length s - left) s)) → Counted inner s at k n g
+        go (Ok a l) q =
+            let none = b .row .many e in
+            let scale : r .scale ≡ 0 = omega arith in
+            let fixed : r .fixed ≡ 0 = omega (arith, b .row .fixed) in
+            let each : r .each ≡ 0 = omega arith in
+            let single : r .single ≡ 0 = omega arith in
+            record {
+              short = left-le true (drop (length s - left) s) (length s) (Ok a l) q (rw length-drop (omega arith));
+              whole = rw (← whole, ← q) (rw (fixed, scale, each, single) (simp (zero-mul, zero-add, add-zero)));
+            }
+        go (Err x) q = rw (← whole, ← q)
+
+    -- none
+    module _ (e : r .args ≡ false) where
+      scan-fitted : fitted (length s) at k r n 0 left ≡ scanAt inner s at
+      unfolding getIf measured
+      scan-fitted = let all : length (drop (length s - left) s) ≡ left = rw length-drop (omega (arith, b .short)) in rw (← b .whole, ← told, not-false f h, e, all)
+
+      pub scan-bare : eqb (r .scale) 0 && eqb (r .each) 0 ≡ true → ok (head k n (r .single) (length s - left) (length s - left)) ≡ scanAt inner s at
+      scan-bare z =
+          let scale : r .scale ≡ 0 = eqb-true _ _ (and-l _ _ z) in
+          let each : r .each ≡ 0 = eqb-true _ _ (and-r (eqb (r .scale) 0) _ z) in
+          let fixed : r .fixed ≡ 0 = omega (arith, b .row .fixed) in
+          rw (← scan-fitted) (rw (fixed, scale, each) (simp (zero-mul, add-zero, le-leb 0 left (omega arith))))
+
+      module _ {g : Bool} (room : g ≡ leb (size r n + r .each * n) left) where
+        pub scan-full : not g ≡ true → error (fault TRUNC at) ≡ scanAt inner s at
+        scan-full z = rw (← scan-fitted, add-zero, ← room, not-true g z)
+
+        pub scan-sized : not g ≡ false
+            → ok (head k n (r .single + r .each * n) (length s - left) (length s - left + (r .fixed + r .scale * n))) ≡ scanAt inner s at
+        scan-sized z = rw (← scan-fitted, add-zero, ← room, not-false g z)

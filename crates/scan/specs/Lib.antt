@@ -1,4 +1,4 @@
 -- what the answer of `scan` means: `scanAt`
 pub mod Told
--- what the private functions make
+-- what remains to be made of a token
 pub mod Stages

@@ -1,4 +1,4 @@
--- What this crate's private functions make. No public contract cites this file.
+-- What remains to be made of a token, stage by stage. No public contract cites this file.
 --
 --   fitted .. left       behind its numbers, with `left` bytes left: the head, or TRUNC
 --   ranged .. v left     behind the first number v, with `left` bytes left: RANGE of n, the second number, and so on

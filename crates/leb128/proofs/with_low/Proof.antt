@@ -9,9 +9,8 @@ with-low-spec =
     tie.close
     (tie.spec
     (λ c. search needs)
-    (λ c κs. search needs)
-    (λ c. omega (arith, rw (c .before .before .high .given .1) at (c .before .before .before .before .pre)))
-    (λ c. omega (arith, rw (c .before .before .high .given .1) at (c .before .before .before .before .pre)))
+    (λ c. omega (arith, rw (c .before .high .given .1) at (c .before .before .before .pre)))
+    (λ c. omega (arith, rw (c .before .high .given .1) at (c .before .before .before .pre)))
     (λ c. search needs)
-    (λ c. rw (c .before .before .high .given .1, c .wide .ensures))
+    (λ c. rw (c .before .high .given .1))
     (λ c. rw (c .before .high2 .given .1)))

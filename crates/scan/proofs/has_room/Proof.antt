@@ -7,14 +7,14 @@ use native.Mathlib.Omega.{arith}
 use lib.Dec.{leb, ltb}
 use borrow.Author.Needs.{needs}
 use borrow.Author.Tests.{lt-leb, ltb-true}
-use Rattle.prelude.proofs.Tests.{leb-cong, facts, and-l, and-r, and-false}
-use Rattle.kind.specs.Kind.{size, counted}
+use Rattle.prelude.proofs.Tests.{facts, and-l, and-r, and-false}
+use Rattle.kind.specs.Kind.{size}
 use Rattle.kind.specs.declared.Rule.{Rule}
 use Rattle.kind.proofs.Laws.{Row}
 use Rattle.scan.proofs.has_room.Statement.{statement}
 use Rattle.scan.proofs.has_room.Tie as tie
 
-module _ (r : Rule) (n a left : ℕ) where
+module _ (r : Rule) (n left : ℕ) where
   abbrev unit : ℕ
   unit = r .scale + r .each
 
@@ -22,21 +22,18 @@ module _ (r : Rule) (n a left : ℕ) where
   need = r .fixed + unit * n
 
   -- body and counted items in one sum
-  need-is : size r n + counted r n a ≡ need + a
+  need-is : size r n + r .each * n ≡ need
   need-is = rw add-mul (omega arith)
 
   -- n bytes, items or pairs are more than the bytes left
-  room-count : ltb 0 unit && ltb left n ≡ true → false ≡ leb (size r n + counted r n a) left
+  room-count : ltb 0 unit && ltb left n ≡ true → false ≡ leb (size r n + r .each * n) left
   room-count e =
       let u : 0 < unit = ltb-true 0 unit (and-l _ _ e) in
-      let over : left < need + a = omega (arith, ltb-true left n (and-r (ltb 0 unit) _ e), mul-le-mul-right n u) in
-      rw (need-is, lt-leb (need + a) left over)
+      let over : left < need = omega (arith, ltb-true left n (and-r (ltb 0 unit) _ e), mul-le-mul-right n u) in
+      rw (need-is, lt-leb need left over)
 
-  room-need : left < need → false ≡ leb (size r n + counted r n a) left
-  room-need h = rw (need-is, lt-leb (need + a) left (omega arith))
-
-  room-args : need ≤ left → leb a (left - need) ≡ leb (size r n + counted r n a) left
-  room-args h = rw need-is (leb-cong a (left - need) (need + a) left (λ l. omega arith) (λ l. omega arith))
+  room-need : leb need left ≡ leb (size r n + r .each * n) left
+  room-need = rw need-is
 
   -- where n counts anything, it is at most left
   need-lt : Row r → n ≤ r .most → left < 2 ^ 63 → ltb 0 unit && ltb left n ≡ false → r .fixed + unit * n < 2 ^ 64
@@ -50,8 +47,7 @@ has-room-spec =
     tie.close
     (tie.spec
     (λ c. search needs)
-    (λ c. room-count (c .before .before .args .rule) _ _ _ (c .if1 .taken))
-    (λ c. let a = c .before .before in omega (arith, need-lt (a .args .rule) _ 0 _ (a .pre .0) (a .pre .1) (a .pre .2) (c .if1 .left)))
-    (λ c. let a = c .before .before .before in omega (arith, need-lt (a .args .rule) _ 0 _ (a .pre .0) (a .pre .1) (a .pre .2) (c .before .if1 .left)))
-    (λ c. room-need (c .before .before .before .before .args .rule) _ _ _ (c .if2 .taken))
-    (λ c. room-args (c .before .before .before .before .args .rule) _ _ _ (c .if2 .left)))
+    (λ c. room-count (c .before .before .args .rule) _ _ (c .if1 .taken))
+    (λ c. let a = c .before .before in omega (arith, need-lt (a .args .rule) _ _ (a .pre .0) (a .pre .1) (a .pre .2) (c .if1 .left)))
+    (λ c. let a = c .before .before .before in omega (arith, need-lt (a .args .rule) _ _ (a .pre .0) (a .pre .1) (a .pre .2) (c .before .if1 .left)))
+    (λ c. room-need (c .before .before .before .args .rule) _ _))
