@@ -10,12 +10,31 @@
 //   check WORDS FILE      `ok`, the count of values and the entry, or the error; then what a table of WORDS words has: the starts
 //   depths WORDS WORDS FILE
 //                         the same, then what a second table has: the depths
+//   write ROOM WORDS CALL CALL ..
+//                         the answers of a new writer's calls, given ROOM bytes and WORDS words: `ok` or the error; then what it has
+//                         written and the starts listed, `!` where the calls changed any other byte or word, and what `check` with
+//                         32 words says of a closed file
+//
+// A CALL is a letter and its arguments:
+//
+//   f t n                 false, true, null
+//   iZ sBITS dBITS        an integer, the bits of a float32 and of a float64
+//   "HEX #HEX zN          a text, bytes, N zero bytes
+//   vINDEX rAT pAT        a variant with no argument, a reference, a pointer
+//   aN mN gTAG oINDEX xINDEX,N
+//                         open an array of N items, a map of N pairs, a tag, a variant of one argument and of N
+//   cAT                   close
+//
+// Its numbers are decimal; one too large for its argument counts as the largest, a Z too small as the least. With @ROOM,WORDS behind it a
+// CALL gets no more than those bytes and words.
 //
 // FILE, KEY and the bytes of a body are in hex, FILE and KEY `-` for no bytes; AT and INDEX are decimal, a larger one counts as 2^64-1.
-// WORDS are decimal, a larger one counts as 32.
-// An error is its name and its place. Another query is answered by ?. A line that begins with # is printed as it is.
+// WORDS are decimal, a larger one counts as 32; ROOM and the N of z count as 1024 at most.
+// An error is its name and its place, of a CALL its name. Another query or CALL is answered by ?. A line that begins with # is printed
+// as it is.
 use checker::CheckResult;
 use error::Error;
+use error::ErrorKind;
 use libc::STDIN_FILENO;
 use libc::STDOUT_FILENO;
 use reader::BodyResult;
@@ -25,12 +44,19 @@ use reader::ReadResult;
 use reader::Value;
 use scan::Head;
 use scan::ScanResult;
+use writer::Scalar;
+use writer::WriteAnswer;
+use writer::WriteResult;
+use writer::Writer;
 ghost use Prim.Native.Nat.{_≤_, _<_, _^_};
 ghost use lib.ListN.{length};
 ghost use Rattle.io.specs.Counts.{Counts};
 
 // What each word of a table is before the query.
 const JUNK: u32 = 0xaaaaaaaa;
+
+// What each byte of an output is before the calls.
+const FILL: u8 = 0xaa;
 
 // What a line asks.
 enum Query {
@@ -43,6 +69,7 @@ enum Query {
     Body,
     Check,
     Depths,
+    Write,
     Unknown,
 }
 
@@ -55,13 +82,17 @@ fn decimal(n: u64) {
     io::print_decimal(STDOUT_FILENO, n);
 }
 
-fn refusal(e: Error) {
-    let kind = e.kind;
+fn name(kind: ErrorKind) {
     let name = error::name(kind);
     let text = name.text;
     let len = name.len;
     write(b" ");
     write(&text[..len]);
+}
+
+fn refusal(e: Error) {
+    let kind = e.kind;
+    name(kind);
     decimal(e.place as u64);
 }
 
@@ -267,6 +298,14 @@ fn front(t: &mut [u32], n: usize) -> &mut [u32] {
     t
 }
 
+// The first n bytes of a part; all of them where it has fewer.
+fn front_bytes(part: &mut [u8], n: usize) -> &mut [u8] {
+    if n < part.len() {
+        return &mut part[0..n];
+    }
+    part
+}
+
 // With a table of n words.
 fn check_in(file: &[u8], n: usize) {
     let mut starts = [JUNK; 32];
@@ -329,20 +368,30 @@ fn find(s: &[u8], at: usize, b: u8) -> usize
     i
 }
 
-// The first word of s.
-fn word(s: &[u8]) -> &[u8] {
-    let end = find(s, 0, b' ');
+// What stands before the first b of s; all of s where it has none.
+fn until(s: &[u8], b: u8) -> &[u8] {
+    let end = find(s, 0, b);
     &s[0..end]
 }
 
-// What stands behind the first word of s.
-fn behind(s: &[u8]) -> &[u8] {
-    let end = find(s, 0, b' ');
+// What stands behind the first b of s; nothing where it has none.
+fn past(s: &[u8], b: u8) -> &[u8] {
+    let end = find(s, 0, b);
     if end < s.len() {
         let start = end + 1;
         return &s[start..];
     }
     &s[end..]
+}
+
+// The first word of s.
+fn word(s: &[u8]) -> &[u8] {
+    until(s, b' ')
+}
+
+// What stands behind the first word of s.
+fn behind(s: &[u8]) -> &[u8] {
+    past(s, b' ')
 }
 
 // The offset of the last word of s.
@@ -394,6 +443,210 @@ fn same(a: &[u8], b: &[u8]) -> bool {
     true
 }
 
+// ---- the calls of a writer
+
+// n, or `bound` where n is more.
+fn most(n: usize, bound: usize) -> usize
+    ensures { λ r. ⌜ r ≤ bound ⌝ }
+{
+    if n < bound {
+        return n;
+    }
+    bound
+}
+
+// The number of s, at most 2^32-1.
+fn number32(s: &[u8]) -> u32 {
+    most(number(s), 4294967295) as u32
+}
+
+// -n-1
+fn negative(n: usize) -> i64
+    requires { ⌜ n < 2 ^ 63 ⌝ }
+{
+    -1 - n as i64
+}
+
+// The number of s, at most 2^63-1; -n of a minus sign and a number n, at least -2^63.
+fn signed(s: &[u8]) -> i64 {
+    let n = number(past(s, b'-'));
+    if n == 0 {
+        return most(number(s), 9223372036854775807) as i64;
+    }
+    negative(most(n - 1, 9223372036854775807))
+}
+
+// Prints an answer; the state that came with it.
+fn next(r: WriteResult) -> Writer {
+    let answer = r.answer;
+    match answer {
+        WriteAnswer::Ok => write(b" ok"),
+        WriteAnswer::Err(e) => name(e),
+    }
+    r.writer
+}
+
+// A text of the bytes that s has in hex.
+fn text(w: Writer, s: &[u8], out: &mut [u8], starts: &mut [u32]) -> WriteResult {
+    let mut space = [0u8; 1024];
+    let n = unhex(s, &mut space);
+    w.text(&space[..n], out, starts)
+}
+
+// The bytes that s has in hex.
+fn byte_string(w: Writer, s: &[u8], out: &mut [u8], starts: &mut [u32]) -> WriteResult {
+    let mut space = [0u8; 1024];
+    let n = unhex(s, &mut space);
+    w.bytes(&space[..n], out, starts)
+}
+
+// n zero bytes.
+fn zeros(w: Writer, n: usize, out: &mut [u8], starts: &mut [u32]) -> WriteResult {
+    let space = [0u8; 1024];
+    w.bytes(first_bytes(&space, n), out, starts)
+}
+
+// One call of the arguments s; the next state.
+fn call(w: Writer, letter: u8, s: &[u8], out: &mut [u8], starts: &mut [u32]) -> Writer {
+    match letter {
+        b'f' => next(w.scalar(Scalar::False, out, starts)),
+        b't' => next(w.scalar(Scalar::True, out, starts)),
+        b'n' => next(w.scalar(Scalar::Null, out, starts)),
+        b'i' => next(w.integer(signed(s), out, starts)),
+        b's' => next(w.float32(number32(s), out, starts)),
+        b'd' => next(w.float64(number(s) as u64, out, starts)),
+        b'"' => next(text(w, s, out, starts)),
+        b'#' => next(byte_string(w, s, out, starts)),
+        b'z' => next(zeros(w, number(s), out, starts)),
+        b'v' => next(w.variant(number32(s), out, starts)),
+        b'r' => next(w.reference(number(s), out, starts)),
+        b'p' => next(w.pointer(number(s), out, starts)),
+        b'a' => next(w.open_array(number(s) as u64, out, starts)),
+        b'm' => next(w.open_map(number(s) as u64, out, starts)),
+        b'g' => next(w.open_tag(number(s) as u64, out, starts)),
+        b'o' => next(w.open_variant1(number32(s), out, starts)),
+        b'x' => next(w.open_variant_n(
+            number32(until(s, b',')),
+            number(past(s, b',')) as u64,
+            out,
+            starts,
+        )),
+        b'c' => next(w.close(number(s), out, starts)),
+        _ => {
+            write(b" ?");
+            w
+        }
+    }
+}
+
+// The call that a word is; the next state.
+fn call_of(w: Writer, s: &[u8], out: &mut [u8], starts: &mut [u32]) -> Writer {
+    if s.len() == 0 {
+        return w;
+    }
+    call(w, s[0], &s[1..], out, starts)
+}
+
+// The same, with no more of the output and the table than a word that has an @ says.
+fn call_in(w: Writer, s: &[u8], out: &mut [u8], starts: &mut [u32]) -> Writer {
+    let lent = past(s, b'@');
+    if lent.len() == 0 {
+        return call_of(w, s, out, starts);
+    }
+    let room = number(until(lent, b','));
+    let words = number(past(lent, b','));
+    call_of(
+        w,
+        until(s, b'@'),
+        front_bytes(out, room),
+        front(starts, words),
+    )
+}
+
+// The calls that the words of s are; the last state.
+fn calls(s: &[u8], out: &mut [u8], starts: &mut [u32]) -> Writer {
+    let mut w = Writer::new();
+    let mut at: usize = 0;
+    while at < s.len() {
+        let end = find(s, at, b' ');
+        w = call_in(w, &s[at..end], out, starts);
+        at = end + 1;
+    }
+    w
+}
+
+// Whether no byte from at on has changed.
+fn is_filled(part: &[u8], at: usize) -> bool {
+    let mut i = at;
+    while i < part.len() {
+        if part[i] != FILL {
+            return false;
+        }
+        i += 1;
+    }
+    true
+}
+
+// Whether no word from at on has changed.
+fn is_junk(part: &[u32], at: usize) -> bool {
+    let mut i = at;
+    while i < part.len() {
+        if part[i] != JUNK {
+            return false;
+        }
+        i += 1;
+    }
+    true
+}
+
+fn check_closed(file: &[u8]) {
+    let mut starts = [JUNK; 32];
+    checked(checker::check(file, &mut starts));
+}
+
+// The first n bytes of a part, and the first n words of a table; all of them where it has fewer.
+fn first_bytes(part: &[u8], n: usize) -> &[u8] {
+    if n < part.len() {
+        return &part[0..n];
+    }
+    part
+}
+
+fn first_words(t: &[u32], n: usize) -> &[u32] {
+    if n < t.len() {
+        return &t[0..n];
+    }
+    t
+}
+
+// What the calls left.
+fn left(w: Writer, out: &[u8], starts: &[u32]) {
+    write(b" =");
+    bytes(first_bytes(out, w.written));
+    write(b" /");
+    table_words(first_words(starts, w.count));
+    let kept = is_filled(out, w.written) & is_junk(starts, w.count);
+    if !kept {
+        write(b" !");
+    }
+    if w.closed {
+        write(b" /");
+        check_closed(first_bytes(out, w.written));
+    }
+}
+
+fn write_calls(s: &[u8], out: &mut [u8], starts: &mut [u32]) {
+    let w = calls(s, out, starts);
+    left(w, out, starts);
+}
+
+// With an output of `room` bytes and a table of n words.
+fn write_in(room: usize, n: usize, s: &[u8]) {
+    let mut out = [FILL; 1024];
+    let mut starts = [JUNK; 32];
+    write_calls(s, front_bytes(&mut out, room), front(&mut starts, n));
+}
+
 // ---- the lines
 
 // The query of a name.
@@ -425,6 +678,9 @@ fn named(s: &[u8]) -> Query {
     if same(s, b"depths") {
         return Query::Depths;
     }
+    if same(s, b"write") {
+        return Query::Write;
+    }
     Query::Unknown
 }
 
@@ -447,6 +703,7 @@ fn ask(q: Query, args: &[u8], file: &[u8]) {
         Query::Body => body(file, number(args)),
         Query::Check => check_in(file, number(args)),
         Query::Depths => depths_in(file, number(args), number(behind(args))),
+        Query::Write => write_in(number(args), number(behind(args)), behind(behind(args))),
         Query::Unknown => write(b" ?"),
     }
 }

@@ -1,13 +1,13 @@
--- `samples::refusal` is safe: a name has its place in its ten bytes.
+-- `samples::name` is safe: a name has its place in its ten bytes.
 use mathlib.Core.Path.{sym}
 use borrow.Author.Needs.{needs}
 use lib.Seq.{length-take-le}
 use Rattle.error.proofs.Laws.{name-within}
-use Rattle.samples.proofs.refusal.Statement.{statement}
-use Rattle.samples.proofs.refusal.Tie as tie
+use Rattle.samples.proofs.name.Statement.{statement}
+use Rattle.samples.proofs.name.Tie as tie
 
-pub refusal-spec : {M : Type 1} → statement M
-refusal-spec =
+pub name-spec : {M : Type 1} → statement M
+name-spec =
     tie.close
     (tie.spec
     (λ c κs. search needs)
@@ -15,6 +15,5 @@ refusal-spec =
     (λ c κs. search needs)
     (λ c. name-within _ (c .before .before .before .name .ensures))
     (λ c. sym (length-take-le _ _ (name-within _ (c .before .before .before .before .name .ensures))))
-    (λ c κs. search needs)
     (λ c κs. search needs)
     (λ c. search needs))
