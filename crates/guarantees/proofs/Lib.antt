@@ -28,3 +28,7 @@ pub mod Hops
 pub mod Depths
 -- document 01's samples, proved of the definitions
 pub mod Samples
+-- the laws of the reference model's values
+pub mod Models
+-- the writer does what the reference model says
+pub mod History

@@ -8,3 +8,11 @@ pub mod Tells
 pub mod Places
 -- document 01's samples
 pub mod Samples
+-- the reference model of the writer
+pub mod Model
+-- lists of calls, of the writer and of the model
+pub mod History
+-- what the reader gives back of the model's values
+pub mod ReadsBack
+-- the calls that write values again
+pub mod Rewrites

@@ -192,7 +192,7 @@ pub record Open (k : ℕ) (s : Writer) (out table : List ℕ) : Type 0 where
   pub items : s .pending ≡ k
   pub room : k ≤ room s (length out)
 
-write-sound : (alone : Bool) (t : Token) (target : ℕ) (s : Writer) (out table : List ℕ) → Accepted alone t target s out table
+pub write-sound : (alone : Bool) (t : Token) (target : ℕ) (s : Writer) (out table : List ℕ) → Accepted alone t target s out table
     → let r = write t s out table in Sound (r .writer) (length (r .out)) (length (r .table))
 unfolding write
 write-sound alone t target s out table a =

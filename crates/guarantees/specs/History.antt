@@ -1,0 +1,57 @@
+-- Lists of the writer's calls, and what the reference model says of them.
+--
+--   Ran, runs cs ..    the answers of the calls cs one after the other, each given the state, output and table that the one before left; and
+--                      what the last left
+--   Noted, notes cs .. the answers of the reference model, with an output of n bytes and a table of m words, and the model behind the last
+--   Agree ..           the bytes written and the starts listed are the model's, with the items pending and the close
+use Prim.Native.Nat.{ℕ}
+use mathlib.Core.Path.{_≡_}
+use mathlib.Core.List.{List, [], _∷_}
+use lib.ListN.{length, take}
+use Rattle.prelude.specs.Answer.{Answer, ok, error}
+use Rattle.writer.specs.Step.{Call, Verdict, step}
+use Rattle.writer.specs.declared.Writer.{Writer}
+use Rattle.guarantees.specs.Model.{Model, Line, lineOf, judgeOf, takenOf, bytesOf, startsOf, owed, isClosed}
+
+pub record Ran : Type 0 where
+  pub answers : List Verdict
+  pub writer : Writer
+  pub out : List ℕ
+  pub table : List ℕ
+
+abbrev pub ran : List Verdict → Writer → List ℕ → List ℕ → Ran
+ran vs s out table = record { answers = vs; writer = s; out = out; table = table }
+
+unfoldable pub runs : List Call → Writer → List ℕ → List ℕ → Ran
+runs [] s out table = ran [] s out table
+runs (c ∷ cs) s out table =
+    let r = step c s out table in
+    let more = runs cs (r .writer) (r .out) (r .table) in
+    ran (r .answer ∷ more .answers) (more .writer) (more .out) (more .table)
+
+pub record Noted : Type 0 where
+  pub answers : List Verdict
+  pub model : Model
+
+abbrev pub noted : List Verdict → Model → Noted
+noted vs b = record { answers = vs; model = b }
+
+-- a refused call changes nothing
+abbrev pub kept : Verdict → Model → Model → Model
+kept (ok u) b next = next
+kept (error f) b next = b
+
+unfoldable pub notes : List Call → Model → ℕ → ℕ → Noted
+notes [] b n m = noted [] b
+notes (c ∷ cs) b n m =
+    let v = judgeOf (lineOf c) b n m in
+    let more = notes cs (kept v b (takenOf (lineOf c) b)) n m in
+    noted (v ∷ more .answers) (more .model)
+
+pub record Agree (s : Writer) (out table : List ℕ) (b : Model) : Type 0 where
+  pub bytes : take (s .written) out ≡ bytesOf b
+  pub written : s .written ≡ length (bytesOf b)
+  pub starts : take (s .count) table ≡ startsOf b
+  pub count : s .count ≡ length (startsOf b)
+  pub pending : s .pending ≡ owed (b .stage)
+  pub closed : s .closed ≡ isClosed (b .stage)

@@ -1,0 +1,57 @@
+-- What the reader gives back of a file that the writer closed, in terms of the reference model's values.
+--
+--   Holds vs j q p     p is a part of value number j of the values vs, its head or an item, and its header is at q
+--   toldOf q p         what reading must tell of p at q: of a reference or pointer the offset that was handed in
+--   GivesBack file vs entry
+--                      check, with enough words, accepts the file, with the starts of vs and this entry; reading, items and bodies tell
+--                      the values vs
+use Prim.Native.Nat.{ℕ, _+_, _≤_}
+use mathlib.Core.Path.{_≡_}
+use mathlib.Core.Bool.{false}
+use mathlib.Core.Logic.{_⊎_}
+use mathlib.Core.List.{List, _∷_, _++_}
+use lib.Dec.{eqb, leb}
+use lib.ListN.{length}
+use Rattle.prelude.specs.Pick.{pick}
+use Rattle.prelude.specs.Answer.{ok, error}
+use Rattle.error.specs.Error.{fault, NO_ITEM}
+use Rattle.kind.specs.Kind.{rule, immediate}
+use Rattle.values.specs.Values.{tokens, bytes, region, starts}
+use Rattle.reader.specs.Read.{readOf}
+use Rattle.reader.specs.Query.{skipOf, itemOf, bodyBytes}
+use Rattle.reader.specs.declared.Value.{Value}
+use Rattle.reader.specs.declared.Value.the-variants.{Reference, Pointer}
+use Rattle.checker.specs.Check.{checked, filled, checkOf}
+use Rattle.guarantees.specs.Tells.{tellOf}
+use Rattle.guarantees.specs.Model.{Part, Plain, formOf, formsOf, valueAt, valuesAt}
+
+-- where the value behind the values vs starts
+abbrev pub endOf : List Plain → ℕ
+endOf vs = length (region (valuesAt 0 vs))
+
+pub record Holds (vs : List Plain) (j q : ℕ) (p : Part) : Type 0 where
+  pub before : List Plain
+  pub value : Plain
+  pub after : List Plain
+  pub values : vs ≡ before ++ (value ∷ after)
+  pub numbered : length before ≡ j
+  pub front : List Part
+  pub back : List Part
+  pub parts : value .head ∷ value .items ≡ front ++ (p ∷ back)
+  pub place : q ≡ endOf before + length (bytes (formsOf (endOf before) front))
+
+unfoldable pub toldOf : ℕ → Part → Value
+toldOf q p = pick (leb 14 (p .kind)) (pick (eqb (p .kind) 14) (Reference (p .number)) (Pointer (p .number))) (tellOf q (formOf q p))
+
+pub record GivesBack (file : List ℕ) (vs : List Plain) (entry : ℕ) : Type 0 where
+  -- count, entry and starts
+  pub accepted : (cap : ℕ) → length vs ≤ cap → checkOf file cap ≡ checked (ok (length vs, entry)) (filled cap (starts 0 (valuesAt 0 vs)))
+  -- kinds, numbers and targets, of values and items
+  pub read : (j q : ℕ) (p : Part) → Holds vs j q p → readOf file q ≡ ok (toldOf q p)
+  pub body : (j q : ℕ) (p : Part) → Holds vs j q p → (p .kind ≡ 4) ⊎ (p .kind ≡ 5) → bodyBytes file q ≡ p .body
+  -- where a value ends, where its items start, and that there are no more
+  pub ends : (a : List Plain) (v : Plain) (b : List Plain) → vs ≡ a ++ (v ∷ b) → skipOf file (endOf a) ≡ ok (endOf a + length (bytes (tokens (valueAt (endOf a) v))))
+  pub item : (a : List Plain) (v : Plain) (b : List Plain) → vs ≡ a ++ (v ∷ b) → (is : List Part) (p : Part) (js : List Part) → v .items ≡ is ++ (p ∷ js)
+      → itemOf file (endOf a) (length is) ≡ ok (endOf a + length (bytes (formsOf (endOf a) (v .head ∷ is))))
+  pub none : (a : List Plain) (v : Plain) (b : List Plain) → vs ≡ a ++ (v ∷ b) → immediate (rule (v .head .kind)) ≡ false
+      → (i : ℕ) → length (v .items) ≤ i → itemOf file (endOf a) i ≡ error (fault NO_ITEM (endOf a))
