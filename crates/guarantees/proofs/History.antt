@@ -29,7 +29,9 @@ use Rattle.writer.specs.declared.Writer.{Writer}
 use Rattle.writer.specs.declared.Scalar.the-variants.{False, True, Null}
 use Rattle.writer.proofs.Judged.{Sound, sound, good, Accepted, judge-inv, free-word, behind, none-pending}
 use Rattle.writer.proofs.Closes.{Near, delta-inv}
-use Rattle.writer.proofs.Theorems.{refused-same, accepted-only, write-sound}
+use Rattle.guarantees.proofs.Calls.{refused-same, accepted-only}
+use Rattle.guarantees.proofs.Results.{write-open}
+use Rattle.guarantees.proofs.Errors.{fresh-good}
 use Rattle.guarantees.specs.Model.{Part, part, Line, adds, ends, lineOf, formOf, formsOf, Plain, plain, valueAt, valuesAt, Stage, between, within, closed, Model, model, blank, bytesOf, startsOf, isClosed, owes, owed, grown, settle, judgeOf, takenOf, backTo}
 use Rattle.guarantees.specs.History.{runs, notes, kept, Agree}
 use Rattle.guarantees.specs.ReadsBack.{endOf}
@@ -255,7 +257,7 @@ module _ (s : Writer) (out table : List ℕ) (vs : List Plain) (g : Stage) (f : 
   write-follows : let r = write (formOf (s .written) p) s out table in Follows (r .writer) (r .out) (r .table) (settle vs (grown g p))
   write-follows = record {
     agree = write-agree;
-    good = good _ _ _ (write-sound alone (formOf (s .written) p) target s out table a);
+    good = write-open alone (formOf (s .written) p) target s out table a .good;
     begun = write-begun;
   }
 
@@ -397,7 +399,7 @@ fresh-follows : (out table : List ℕ) → Follows fresh out table blank
 unfolding bytesOf startsOf valuesAt region starts
 fresh-follows out table = record {
   agree = record { bytes = refl; written = refl; starts = refl; count = refl; pending = refl; closed = refl };
-  good = rw (le-ltb (length out) 0 (omega arith), le-ltb (length table) 0 (omega arith));
+  good = fresh-good (length out) (length table);
   begun = tt;
 }
 

@@ -28,7 +28,19 @@ pub mod Hops
 pub mod Depths
 -- document 01's samples, proved of the definitions
 pub mod Samples
+-- the writer's calls: what a refused one and an accepted one change
+pub mod Calls
+-- what an accepted call leaves
+pub mod Results
+-- an open value can always be finished
+pub mod Finish
+-- the errors of the writer's calls
+pub mod Errors
 -- the laws of the reference model's values
 pub mod Models
 -- the writer does what the reference model says
 pub mod History
+-- lists of calls joined, and what comes after a close
+pub mod Lists
+-- over every list of calls the rest of output and table is as it was
+pub mod Rest

@@ -65,6 +65,10 @@ pub record Early (alone : Bool) (s : Writer) (n m : ℕ) : Type 0 where
 pub none-pending : (s : Writer) (n m : ℕ) → Early true s n m → s .pending ≡ 0
 none-pending s n m p = omega (arith, ltb-false 0 (s .pending) (p .alike))
 
+-- the next token begins a value
+pub new-start : (s : Writer) (n m : ℕ) → Early true s n m → startOf s ≡ s .written
+new-start s n m p = rw (none-pending s n m p)
+
 -- past a refusal: its test failed
 pub past : {X : Type 0} {u : Unit {0}} (b : Bool) (f : ℕ) (v : Verdict) → pick b (error f) v ≡ ok u → (b ≡ false → v ≡ ok u → X) → X
 past true f v e k = let z : _≡_ {A = ℕ} 0 1 = cc in absurd (omega arith)

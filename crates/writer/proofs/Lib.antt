@@ -6,5 +6,3 @@ pub mod Judged
 pub mod Writes
 -- the two closes
 pub mod Closes
--- theorems of `step`
-pub mod Theorems

@@ -1,18 +1,17 @@
--- Arguments of the stated widths (document 01, "Writer"): integers are signed 64-bit, tags and counts unsigned 64-bit, variant indexes
--- unsigned 32-bit; texts and byte strings are bytes. Every call that a program can make has such arguments: the types of the calls say so.
+-- The arguments that calls are given (document 01, "Writer": "integers are signed 64-bit, tags and counts unsigned 64-bit, variant indexes
+-- unsigned 32-bit"). Float bits have their own width, a text or byte string is bytes and counted in 64 bits, and an offset may be any.
 --
---   Given c     the arguments of the call c are of their widths; offsets are any
-use Prim.Native.Nat.{ℕ, _<_, _^_}
-use mathlib.Core.List.{List}
-use lib.IntN.{ℤ, pos, negsuc}
+--   Given c    the arguments of the call c have these widths
+use Prim.Native.Nat.{_<_, _^_}
 use lib.ListN.{length}
+use lib.Signed.{mag}
 use Rattle.prelude.specs.Bytes.{Bytes}
 use Rattle.writer.specs.Step.{Call, scalar, integer, float32, float64, text, bytes, variant, reference, pointer, openArray, openMap, openTag, openVariant1, openVariantN, close}
 
 abbrev pub Given : Call → Type 0
 Given (scalar s) = Unit {0}
-Given (integer (pos n)) = n < 2 ^ 63
-Given (integer (negsuc n)) = n < 2 ^ 63
+-- from -2^63 to 2^63 - 1: `mag z` is z, and -z - 1 of a negative z
+Given (integer z) = mag z < 2 ^ 63
 Given (float32 b) = b < 2 ^ 32
 Given (float64 b) = b < 2 ^ 64
 Given (text s) = Bytes s × (length s < 2 ^ 64)

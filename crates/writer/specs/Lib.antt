@@ -1,6 +1,6 @@
 -- the writer's calls: `step`
 pub mod Step
--- arguments of the stated widths
+-- the widths of their arguments
 pub mod Given
 -- what the code's answers mean
 pub mod Told

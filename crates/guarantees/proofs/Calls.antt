@@ -1,0 +1,186 @@
+-- Theorems of `step`, for any state, output and table.
+--
+-- In order: what a call comes to (`settled-by`), and an accepted one (`put-by`, `close-by`, `accepted-by`); a refused call changes nothing (`refused-same`); what an
+-- accepted call may change (`accepted-only`).
+use mathlib.Core.Path.{_≡_, refl, sym, ap, _∙_}
+use mathlib.Core.Bool.{Bool, true}
+use mathlib.Core.List.{List, [], _∷_, _++_, append-assoc}
+use Prim.Native.Nat.{ℕ, _+_, _-_, _≤_, _<_}
+use native.Mathlib.Omega.{arith}
+use lib.Dec.{eqb, leb}
+use lib.ListN.{length, take, drop, set, getD, length-set, length-append}
+use lib.Seq.{sets, sets-eq, length-sets, take-at, drop-at, take-take, drop-drop, length-take-le, getD-set-other}
+use borrow.Author.Tests.{leb-true, leb-false}
+use Rattle.prelude.specs.Pick.{pick}
+use Rattle.prelude.specs.Answer.{ok, error}
+use Rattle.prelude.proofs.Tests.{pick-elim}
+use Rattle.token.specs.Token.{Token, token, emit}
+use Rattle.writer.specs.Step.{Call, Move, puts, closes, moveOf, opens, limit, pendingOf, due, Verdict, judge, judgeDelta, Result, result, startOf, write, shut, writeShut, settled, put, closeAt, move, step}
+use Rattle.writer.specs.declared.Writer.{Writer}
+use Rattle.writer.proofs.Judged.{Accepted, judge-inv, behind, emit-pos}
+use Rattle.writer.proofs.Closes.{Near, delta-inv}
+
+-- ---- what a call comes to
+
+-- a pointer to x behind the bytes written
+abbrev pub pointerTo : ℕ → Writer → Token
+pointerTo x s = token 15 (s .written - x - 1) 0 []
+
+module _ (s : Writer) (out table : List ℕ) (P : Result → Type 0) where
+  -- any call: it is judged, and then settled
+  module _
+      (judged : (alone : Bool) (t : Token) (target : ℕ) (r : Result) → r .answer ≡ ok tt → P (settled (judge alone t target s out table) s out table r))
+      (delta : (x : ℕ) (r : Result) → r .answer ≡ ok tt → P (settled (judgeDelta x s out table) s out table r)) where
+    pub settled-by : (m : Move) → P (move m s out table)
+    unfolding put closeAt write shut writeShut
+    settled-by (puts t target) = judged (opens t) t target (write t s out table) refl
+    settled-by (closes x) =
+        pick-elim P (leb (s .written - x - 1) 255) (λ _. delta x (shut (s .written - x - 1) s out table) refl)
+        (λ _. judged true (pointerTo x s) x (writeShut (pointerTo x s) s out table) refl)
+
+  settled-ok : (v : Verdict) (r : Result) → settled v s out table r .answer ≡ ok tt → (v ≡ ok tt → P r) → P (settled v s out table r)
+  settled-ok (ok tt) r e k = k refl
+  settled-ok (error f) r e k = let z : _≡_ {A = ℕ} 0 1 = cc in absurd (omega arith)
+
+  -- an accepted token
+  pub put-by : (t : Token) (target : ℕ) → (Accepted (opens t) t target s out table → P (write t s out table))
+      → put t target s out table .answer ≡ ok tt → P (put t target s out table)
+  unfolding put
+  put-by t target f e = settled-ok (judge (opens t) t target s out table) (write t s out table) e (λ j. f (judge-inv _ _ _ _ _ _ j))
+
+  -- an accepted close, by the delta byte or by a pointer
+  pub close-by : (x : ℕ) → (s .written - x - 1 ≤ 255 → Near x s out table → P (shut (s .written - x - 1) s out table))
+      → (255 < s .written - x - 1 → Accepted true (pointerTo x s) x s out table → P (writeShut (pointerTo x s) s out table))
+      → closeAt x s out table .answer ≡ ok tt → P (closeAt x s out table)
+  unfolding closeAt
+  close-by x near far =
+      pick-elim (λ r. r .answer ≡ ok tt → P r) (leb (s .written - x - 1) 255)
+      (λ b e. settled-ok (judgeDelta x s out table) (shut (s .written - x - 1) s out table) e (λ j. near (leb-true _ _ b) (delta-inv x s out table j)))
+      (λ b e. settled-ok (judge true (pointerTo x s) x s out table) (writeShut (pointerTo x s) s out table) e (λ j.
+      far (leb-false _ _ b) (judge-inv _ _ _ _ _ _ j)))
+
+  -- an accepted call
+  module _ (token-put : (t : Token) (target : ℕ) → Accepted (opens t) t target s out table → P (write t s out table))
+      (near : (x : ℕ) → Near x s out table → P (shut (s .written - x - 1) s out table))
+      (far : (x : ℕ) → Accepted true (pointerTo x s) x s out table → P (writeShut (pointerTo x s) s out table)) where
+    by-move : (m : Move) → move m s out table .answer ≡ ok tt → P (move m s out table)
+    by-move (puts t target) = put-by t target (token-put t target)
+    by-move (closes x) = close-by x (λ _. near x) (λ _. far x)
+
+    pub accepted-by : (c : Call) → step c s out table .answer ≡ ok tt → P (step c s out table)
+    accepted-by c = by-move (moveOf c (s .written))
+
+-- ---- a refused call
+
+module _ (s : Writer) (out table : List ℕ) (f : ℕ) where
+  abbrev Same : Result → Type 0
+  Same r = r .answer ≡ error f → r ≡ result (error f) s out table
+
+  settled-same : (v : Verdict) (r : Result) → r .answer ≡ ok tt → Same (settled v s out table r)
+  settled-same (ok u) r a e = let z : _≡_ {A = ℕ} 0 1 = cc in absurd (omega arith)
+  settled-same (error g) r a e = ap (λ v. result v s out table) e
+
+-- a refused call changes nothing
+pub refused-same : (c : Call) (s : Writer) (out table : List ℕ) (f : ℕ) → step c s out table .answer ≡ error f
+    → step c s out table ≡ result (error f) s out table
+refused-same c s out table f =
+    settled-by s out table (Same s out table f)
+    (λ alone t target. settled-same s out table f (judge alone t target s out table))
+    (λ x. settled-same s out table f (judgeDelta x s out table))
+    (moveOf c (s .written))
+
+-- ---- what an accepted call may change
+
+-- a call that leaves r: more bytes are written, within the output and LIMIT; lengths stay, of the output only the bytes from the old to the
+-- new `written` change, of the table only the word at the old count
+pub record Only (s : Writer) (out table : List ℕ) (r : Result) : Type 0 where
+  pub grows : s .written < r .writer .written
+  pub within : r .writer .written ≤ limit (length out)
+  pub bytes : length (r .out) ≡ length out
+  pub words : length (r .table) ≡ length table
+  pub before : take (s .written) (r .out) ≡ take (s .written) out
+  pub after : drop (r .writer .written) (r .out) ≡ drop (r .writer .written) out
+  pub others : (i : ℕ) → (i ≡ s .count → ⊥) → getD (r .table) i 0 ≡ getD table i 0
+
+module _ (d p : List ℕ) (w : ℕ) (h : w + length p ≤ length d) where
+  sets-before : take w (sets d w p) ≡ take w d
+  sets-before = rw (sets-eq p d w h, append-assoc) (take-at (take w d) _ w (length-take-le w d (omega arith)))
+
+  sets-after : drop (w + length p) (sets d w p) ≡ drop (w + length p) d
+  sets-after =
+      rw (sets-eq p d w h)
+      (drop-at (take w d ++ p) _ (w + length p) (omega (arith, length-append (take w d) p, length-take-le w d (omega arith))))
+
+module _ (b : Bool) (t : List ℕ) (i x : ℕ) where
+  pub length-pick-set : length (pick b (set t i x) t) ≡ length t
+  length-pick-set = pick-elim (λ l. length l ≡ length t) b (λ _. length-set t i x) (λ _. refl)
+
+  pick-set-other : (k : ℕ) → (k ≡ i → ⊥) → getD (pick b (set t i x) t) k 0 ≡ getD t k 0
+  pick-set-other k h = pick-elim (λ l. getD l k 0 ≡ getD t k 0) b (λ _. getD-set-other t i k x 0 h) (λ _. refl)
+
+module _ (s : Writer) (out table : List ℕ) where
+  write-only : (t : Token) → s .written + length (emit t) ≤ limit (length out) → Only s out table (write t s out table)
+  unfolding write
+  write-only t h = record {
+    grows = omega (arith, emit-pos t);
+    within = h;
+    bytes = length-sets out (s .written) (emit t);
+    words = length-pick-set (eqb (due (s .pending) (pendingOf t)) 0) table (s .count) (startOf s);
+    before = sets-before out (emit t) (s .written) (omega arith);
+    after = sets-after out (emit t) (s .written) (omega arith);
+    others = pick-set-other (eqb (due (s .pending) (pendingOf t)) 0) table (s .count) (startOf s);
+  }
+
+  shut-only : (d : ℕ) → s .written < limit (length out) → Only s out table (shut d s out table)
+  unfolding shut
+  shut-only d h = record {
+    grows = omega arith;
+    within = omega arith;
+    bytes = length-sets out (s .written) (d ∷ []);
+    words = refl;
+    before = sets-before out (d ∷ []) (s .written) (omega arith);
+    after = sets-after out (d ∷ []) (s .written) (omega arith);
+    others = λ i _. refl;
+  }
+
+take-earlier : (m n : ℕ) (l k : List ℕ) → m ≤ n → take n l ≡ take n k → take m l ≡ take m k
+take-earlier m n l k h e = sym (take-take m n l h) ∙ ap (take m) e ∙ take-take m n k h
+
+pub drop-later : (m n : ℕ) (l k : List ℕ) → n ≤ m → drop n l ≡ drop n k → drop m l ≡ drop m k
+drop-later m n l k h e =
+    let q : m ≡ n + (m - n) = omega arith in
+    ap (λ j. drop j l) q ∙ sym (drop-drop (m - n) n l) ∙ ap (drop (m - n)) e ∙ drop-drop (m - n) n k ∙ ap (λ j. drop j k) (sym q)
+
+-- one call and then another, which leaves the table
+then-only : (s : Writer) (out table : List ℕ) (r q : Result) → Only s out table r → Only (r .writer) (r .out) (r .table) q → q .table ≡ r .table
+    → Only s out table q
+then-only s out table r q one two same =
+    let w = s .written in
+    let v = r .writer .written in
+    record {
+      grows = omega (arith, one .grows, two .grows);
+      within = omega (arith, two .within, one .bytes);
+      bytes = two .bytes ∙ one .bytes;
+      words = two .words ∙ one .words;
+      before = take-earlier w v (q .out) (r .out) (omega (arith, one .grows)) (two .before) ∙ one .before;
+      after = two .after ∙ drop-later (q .writer .written) v (r .out) out (omega (arith, two .grows)) (one .after);
+      others = λ i h. ap (λ l. getD l i 0) same ∙ one .others i h;
+    }
+
+-- a pointer, and the delta byte behind it
+writeShut-only : (s : Writer) (out table : List ℕ) (t : Token) → s .written + length (emit t) < limit (length out)
+    → Only s out table (writeShut t s out table)
+unfolding writeShut write shut
+writeShut-only s out table t h =
+    let r = write t s out table in
+    let one = write-only s out table t (omega arith) in
+    then-only s out table r _ one (shut-only (r .writer) (r .out) (r .table) (length (emit t) - 1) (omega (arith, one .bytes))) refl
+
+-- an accepted call changes only the bytes from the old to the new `written`, and the one word
+pub accepted-only : (c : Call) (s : Writer) (out table : List ℕ) → step c s out table .answer ≡ ok tt → Only s out table (step c s out table)
+accepted-only c s out table =
+    accepted-by s out table (Only s out table)
+    (λ t x a. write-only s out table t (omega (arith, behind _ t x s out table a)))
+    (λ e n. shut-only s out table _ (n .byte))
+    (λ e a. writeShut-only s out table (pointerTo e s) (behind _ (pointerTo e s) e s out table a))
+    c

@@ -1,0 +1,200 @@
+-- An open value can always be finished.
+--
+-- In order: the open value takes an immediate that has room (`item-taken`); calls one after the other; immediates of one byte, which finish
+-- a value from any point on (`finishable`), and from its opening on (`opening-finishable`).
+use mathlib.Core.Path.{_≡_, refl, sym, _∙_, subst}
+use mathlib.Core.Bool.{Bool, true, false, not, _&&_}
+use mathlib.Core.List.{List, [], _∷_}
+use Prim.Native.Nat.{ℕ, suc, _+_, _≤_, _<_}
+use native.Mathlib.Omega.{arith}
+use lib.Dec.{eqb}
+use lib.ListN.{length}
+use borrow.Author.Tests.{eqb-true, leb-true, ne-eqb}
+use Rattle.prelude.specs.Answer.{ok}
+use Rattle.kind.specs.Kind.{rule}
+use Rattle.utf8.specs.Text.{isText}
+use Rattle.token.specs.Token.{Token, token, putIf, emit}
+use Rattle.writer.specs.Step.{Call, scalar, scalarOf, puts, moveOf, opens, isListed, room, pendingOf, due, Result, startOf, write, put, step}
+use Rattle.writer.specs.declared.Writer.{Writer}
+use Rattle.writer.specs.declared.Scalar.{Scalar}
+use Rattle.writer.specs.declared.Scalar.the-variants.{False, True, Null}
+use Rattle.writer.proofs.Judged.{new-start, Accepted, judge-ok}
+use Rattle.guarantees.proofs.Calls.{put-by}
+use Rattle.guarantees.proofs.Results.{FinishesNone, Finishes, write-more, write-last, Open, write-open}
+
+-- ---- one item
+
+-- t may be the next item, with k more to come: an immediate, whose text is text, whose target is listed, and which has room with a byte for
+-- each of the k
+pub record Item (k : ℕ) (t : Token) (target : ℕ) (s : Writer) (out table : List ℕ) : Type 0 where
+  pub immediate : opens t ≡ false
+  pub text : t .kind ≡ 4 → isText (t .body) ≡ true
+  pub aim : 14 ≤ t .kind → isListed s table target ≡ true
+  pub fits : length (emit t) + k ≤ room s (length out)
+
+-- an item of n bytes was taken, and k are left: the value stays open, with its start, or is finished, and its start is listed
+pub record Took (k n : ℕ) (s : Writer) (table : List ℕ) (r : Result) : Type 0 where
+  pub answer : r .answer ≡ ok tt
+  pub written : r .writer .written ≡ s .written + n
+  pub start : r .writer .start ≡ s .start
+  pub after : Open k (r .writer) (r .out) (r .table)
+  pub more : 0 < k → FinishesNone s table r
+  pub last : k ≡ 0 → Finishes (s .start) s table r
+
+and-not : (a b : Bool) → (a ≡ true → b ≡ true) → a && not b ≡ false
+and-not true b f = rw (f refl)
+and-not false b f = refl
+
+module _ (k : ℕ) (s : Writer) (out table : List ℕ) (o : Open (suc k) s out table) where
+  some : eqb (s .pending) 0 ≡ false
+  some = ne-eqb (s .pending) 0 (λ e. omega (arith, o .items))
+
+  due-is : (own : ℕ) → due (s .pending) own ≡ k
+  due-is own = rw some (omega (arith, o .items))
+
+  start-is : startOf s ≡ s .start
+  start-is = rw some
+
+  item-accepted : (t : Token) (target : ℕ) → Item k t target s out table → Accepted (opens t) t target s out table
+  item-accepted t target i = record {
+    passed = record { good = o .good; unclosed = o .unclosed; alike = rw (i .immediate) };
+    text = and-not _ _ (λ e. i .text (eqb-true _ _ e));
+    aim = and-not _ _ (λ e. i .aim (leb-true _ _ e));
+    word = rw some;
+    fits = rw (due-is (pendingOf t)) (i .fits);
+  }
+
+-- an open value takes any immediate that has room
+pub item-taken : (k : ℕ) (c : Call) (t : Token) (target : ℕ) (s : Writer) (out table : List ℕ) → Open (suc k) s out table
+    → moveOf c (s .written) ≡ puts t target → Item k t target s out table → Took k (length (emit t)) s table (step c s out table)
+unfolding put write
+item-taken k c t target s out table o e i =
+    let r = write t s out table in
+    let a = item-accepted k s out table o t target i in
+    let left = due-is k s out table o (pendingOf t) in
+    let start = start-is k s out table o in
+    rw (e, judge-ok (opens t) t target s out table a) (record {
+      answer = refl;
+      written = refl;
+      start = start;
+      after = subst (λ n. Open n (r .writer) (r .out) (r .table)) left (write-open _ t target s out table a);
+      more = λ h. write-more _ t target s out table a (rw left h);
+      last = λ z. subst (λ x. Finishes x s table r) start (write-last _ t target s out table a (left ∙ z));
+    })
+
+-- ---- calls one after the other
+
+abbrev pub next : Call → Result → Result
+next c r = step c (r .writer) (r .out) (r .table)
+
+-- what calls leave, each given what the one before left, and the first what r has
+abbrev pub run : List Call → Result → Result
+run [] r = r
+run (c ∷ cs) r = run cs (next c r)
+
+abbrev pub AllAccepted : List Call → Result → Type 0
+AllAccepted [] r = Unit {0}
+AllAccepted (c ∷ cs) r = (next c r .answer ≡ ok tt) × AllAccepted cs (next c r)
+
+-- ---- items of one byte
+
+-- wherever it is written, the call puts an immediate of one byte, which names no target and is no bad text
+pub record OneByte (c : Call) : Type 0 where
+  pub item : Token
+  pub always : (w : ℕ) → moveOf c w ≡ puts item 0
+  pub immediate : opens item ≡ false
+  pub text : item .kind ≡ 4 → isText (item .body) ≡ true
+  pub aim : item .kind < 14
+  pub byte : length (emit item) ≡ 1
+
+abbrev pub OneBytes : List Call → Type 0
+OneBytes [] = Unit {0}
+OneBytes (c ∷ cs) = OneByte c × OneBytes cs
+
+pub scalar-one : (x : Scalar) → OneByte (scalar x)
+unfolding emit putIf rule
+scalar-one x = record {
+  item = token 0 (scalarOf x) 0 [];
+  always = λ w. refl;
+  immediate = refl;
+  text = λ e. absurd (omega arith);
+  aim = omega arith;
+  byte = one x;
+}
+  where
+    one : (x : Scalar) → length (emit (token 0 (scalarOf x) 0 [])) ≡ 1
+    one False = refl
+    one True = refl
+    one Null = refl
+
+one-taken : (k : ℕ) (c : Call) (s : Writer) (out table : List ℕ) → Open (suc k) s out table → OneByte c → Took k 1 s table (step c s out table)
+one-taken k c s out table o b =
+    subst (λ n. Took k n s table (step c s out table)) (b .byte)
+    (item-taken k c (b .item) 0 s out table o (b .always (s .written)) (record {
+      immediate = b .immediate;
+      text = b .text;
+      aim = λ h. absurd (omega (arith, b .aim));
+      fits = omega (arith, b .byte, o .room);
+    }))
+
+-- an open value that stays open is finished later
+finishes-then : (x : ℕ) (s : Writer) (table : List ℕ) (r q : Result) → FinishesNone s table r → r .writer .start ≡ x
+    → Finishes (r .writer .start) (r .writer) (r .table) q → Finishes x s table q
+finishes-then x s table r q n e f = record {
+  none = f .none;
+  count = rw (n .count) at (f .count);
+  words = rw (n .count, n .words, e) at (f .words);
+  listed = rw (n .count, e) at (f .listed);
+}
+
+-- the calls cs behind r are all accepted; the value that starts at x is then finished, with w bytes written
+pub record FinishedBy (cs : List Call) (x w : ℕ) (s : Writer) (table : List ℕ) (r : Result) : Type 0 where
+  pub accepted : AllAccepted cs r
+  pub finishes : Finishes x s table (run cs r)
+  pub written : run cs r .writer .written ≡ w
+
+-- an open value is finished by calls of one byte, as many as it has items pending
+pub finishable : (cs : List Call) (r : Result) → 0 < length cs → Open (length cs) (r .writer) (r .out) (r .table) → OneBytes cs
+    → FinishedBy cs (r .writer .start) (r .writer .written + length cs) (r .writer) (r .table) r
+finishable [] r h o b = absurd (omega arith)
+finishable (c ∷ []) r h o b =
+    let t = one-taken 0 c (r .writer) (r .out) (r .table) o (b .0) in
+    record { accepted = (t .answer, tt); finishes = t .last refl; written = t .written }
+finishable (c ∷ d ∷ cs) r h o b =
+    let t = one-taken (suc (length cs)) c (r .writer) (r .out) (r .table) o (b .0) in
+    let f = finishable (d ∷ cs) (next c r) (omega arith) (t .after) (b .1) in
+    record {
+      accepted = (t .answer, f .accepted);
+      finishes = finishes-then _ _ _ _ _ (t .more (omega arith)) (t .start) (f .finishes);
+      written = omega (arith, f .written, t .written);
+    }
+
+opened : (t : Token) (target : ℕ) (s : Writer) (out table : List ℕ) → Accepted true t target s out table
+    → (cs : List Call) → length cs ≡ write t s out table .writer .pending → OneBytes cs
+    → FinishedBy cs (s .written) (s .written + length (emit t) + length cs) s table (write t s out table)
+unfolding write
+opened t target s out table a [] l b = record {
+  accepted = tt;
+  finishes = subst (λ x. Finishes x s table (write t s out table)) (new-start s _ _ (a .passed)) (write-last true t target s out table a (sym l));
+  written = omega arith;
+}
+opened t target s out table a (c ∷ cs) l b =
+    let r = write t s out table in
+    let o = subst (λ n. Open n (r .writer) (r .out) (r .table)) (sym l) (write-open true t target s out table a) in
+    let f = finishable (c ∷ cs) r (omega arith) o b in
+    record {
+      accepted = f .accepted;
+      finishes = finishes-then _ _ _ _ _ (write-more true t target s out table a (omega arith)) (new-start s _ _ (a .passed)) (f .finishes);
+      written = f .written;
+    }
+
+-- so is a value from its opening t on: where the opening was written, its start is listed
+pub opening-finishable : (c : Call) (t : Token) (target : ℕ) (s : Writer) (out table : List ℕ) → moveOf c (s .written) ≡ puts t target
+    → opens t ≡ true → step c s out table .answer ≡ ok tt
+    → (cs : List Call) → length cs ≡ step c s out table .writer .pending → OneBytes cs
+    → FinishedBy cs (s .written) (s .written + length (emit t) + length cs) s table (step c s out table)
+opening-finishable c t target s out table e z =
+    rw e (put-by s out table
+    (λ r. (cs : List Call) → length cs ≡ r .writer .pending → OneBytes cs
+    → FinishedBy cs (s .written) (s .written + length (emit t) + length cs) s table r)
+    t target (λ a. opened t target s out table (subst (λ b. Accepted b t target s out table) z a)))

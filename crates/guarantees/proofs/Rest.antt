@@ -1,0 +1,71 @@
+-- Over every list of calls the output behind the bytes written, and the table behind the starts listed, are as they were at first.
+use mathlib.Core.Path.{_≡_, refl, ap, _∙_}
+use mathlib.Core.Bool.{Bool, true, false}
+use mathlib.Core.Logic.{_⊎_, inl, inr}
+use mathlib.Core.List.{List, [], _∷_}
+use Prim.Native.Nat.{ℕ, _+_, _≤_, _<_}
+use native.Mathlib.Omega.{arith}
+use lib.ListN.{drop, set}
+use lib.Seq.{drop-set-lt}
+use Rattle.prelude.specs.Answer.{ok, error}
+use Rattle.prelude.proofs.Tests.{split}
+use Rattle.writer.specs.Step.{Call, Verdict, Result, startOf, step}
+use Rattle.writer.specs.declared.Writer.{Writer}
+use Rattle.guarantees.specs.History.{runs}
+use Rattle.guarantees.proofs.Calls.{refused-same, accepted-only, drop-later}
+use Rattle.guarantees.proofs.Results.{FinishesNone, Finishes, Finishing, accepted-finishes}
+
+-- from a state s on, calls that leave these count only upwards, and leave the rest as it was
+pub record Rest (s : Writer) (out table : List ℕ) (next : Writer) (out′ table′ : List ℕ) : Type 0 where
+  pub written : s .written ≤ next .written
+  pub count : s .count ≤ next .count
+  pub bytes : drop (next .written) out′ ≡ drop (next .written) out
+  pub words : drop (next .count) table′ ≡ drop (next .count) table
+
+-- ---- one call
+
+module _ (s : Writer) (table : List ℕ) (r : Result) where
+  abbrev Words : Type 0
+  Words = (s .count ≤ r .writer .count) × (drop (r .writer .count) (r .table) ≡ drop (r .writer .count) table)
+
+  none-words : FinishesNone s table r → Words
+  none-words f = (omega (arith, f .count), ap (drop (r .writer .count)) (f .words))
+
+  one-words : (x : ℕ) → Finishes x s table r → Words
+  one-words x f =
+      (omega (arith, f .count), ap (drop (r .writer .count)) (f .words) ∙ drop-set-lt (r .writer .count) table (s .count) x (omega (arith, f .count)))
+
+  finishing-words : Finishing s table r → Words
+  finishing-words f = split 0 (r .writer .pending) (λ h. none-words (f .more h)) (λ h. by-closed (r .writer .closed) refl (omega arith))
+    where
+      by-closed : (c : Bool) → r .writer .closed ≡ c → r .writer .pending ≡ 0 → Words
+      by-closed false e z = one-words (startOf s) (f .last z e)
+      by-closed true e z = elim (f .closed e) [ inl n ↦ none-words n | inr o ↦ one-words (s .written) o ]
+
+step-rest : (c : Call) (s : Writer) (out table : List ℕ) → let r = step c s out table in Rest s out table (r .writer) (r .out) (r .table)
+step-rest c s out table = by-answer (step c s out table .answer) refl
+  where
+    by-answer : (v : Verdict) → step c s out table .answer ≡ v → let r = step c s out table in Rest s out table (r .writer) (r .out) (r .table)
+    by-answer (ok tt) e =
+        let o = accepted-only c s out table e in
+        let w = finishing-words s table (step c s out table) (accepted-finishes c s out table e) in
+        record { written = omega (arith, o .grows); count = w .0; bytes = o .after; words = w .1 }
+    by-answer (error f) e =
+        rw (refused-same c s out table f e) (record { written = omega arith; count = omega arith; bytes = refl; words = refl })
+
+-- ---- a list of calls
+
+pub rest-kept : (cs : List Call) (s : Writer) (out table : List ℕ) → let r = runs cs s out table in Rest s out table (r .writer) (r .out) (r .table)
+unfolding runs
+rest-kept [] s out table = record { written = omega arith; count = omega arith; bytes = refl; words = refl }
+rest-kept (c ∷ cs) s out table =
+    let r = step c s out table in
+    let q = runs cs (r .writer) (r .out) (r .table) in
+    let one = step-rest c s out table in
+    let more = rest-kept cs (r .writer) (r .out) (r .table) in
+    record {
+      written = omega (arith, one .written, more .written);
+      count = omega (arith, one .count, more .count);
+      bytes = more .bytes ∙ drop-later (q .writer .written) (r .writer .written) (r .out) out (more .written) (one .bytes);
+      words = more .words ∙ drop-later (q .writer .count) (r .writer .count) (r .table) table (more .count) (one .words);
+    }

@@ -1,0 +1,223 @@
+-- What an accepted call leaves, for any state, output and table.
+--
+-- In order: the value that it finishes (`accepted-finishes`); a state that is not bad (`accepted-good`), with room for the items pending and
+-- the delta (`accepted-open`, `accepted-room`); what a close leaves (`accepted-close`).
+use mathlib.Core.Path.{_≡_, refl, sym, ap, _∙_}
+use mathlib.Core.Bool.{Bool, true, false, true≢false}
+use mathlib.Core.List.{List, [], _∷_}
+use mathlib.Core.Logic.{_⊎_, inl, inr}
+use Prim.Native.Nat.{ℕ, _+_, _-_, _≤_, _<_}
+use native.Mathlib.Omega.{arith}
+use lib.Dec.{eqb}
+use lib.ListN.{length, set, getD}
+use lib.Seq.{length-sets, getD-set-same}
+use borrow.Author.Tests.{eq-eqb, ne-eqb}
+use Rattle.prelude.specs.Answer.{ok, error}
+use Rattle.prelude.proofs.Tests.{pick-elim}
+use Rattle.error.specs.Error.{CLOSED}
+use Rattle.kind.specs.Kind.{rule}
+use Rattle.token.specs.Token.{Token, emit}
+use Rattle.writer.specs.Step.{Call, close, moveOf, bad, limit, pendingOf, due, early, judge, judgeDelta, Result, result, startOf, write, shut, writeShut, step}
+use Rattle.writer.specs.declared.Writer.{Writer}
+use Rattle.writer.proofs.Judged.{Sound, sound, good, none-pending, new-start, Accepted, free-word, behind, start-lt, emit-pos}
+use Rattle.writer.proofs.Closes.{Near}
+use Rattle.guarantees.proofs.Calls.{pointerTo, settled-by, close-by, accepted-by, length-pick-set, accepted-only}
+
+-- ---- the value that it finishes
+
+-- none: count and table are as before
+pub record FinishesNone (s : Writer) (table : List ℕ) (r : Result) : Type 0 where
+  pub count : r .writer .count ≡ s .count
+  pub words : r .table ≡ table
+
+-- the value that starts at x: no items are pending, and x is listed, in the word at the old count
+pub record Finishes (x : ℕ) (s : Writer) (table : List ℕ) (r : Result) : Type 0 where
+  pub none : r .writer .pending ≡ 0
+  pub count : r .writer .count ≡ s .count + 1
+  pub words : r .table ≡ set table (s .count) x
+  pub listed : getD (r .table) (s .count) 0 ≡ x
+
+-- what a call that leaves r finishes: a token with items pending behind it, none; the last token of a value, that value; a close, none or the
+-- pointer that it adds
+pub record Finishing (s : Writer) (table : List ℕ) (r : Result) : Type 0 where
+  pub more : 0 < r .writer .pending → FinishesNone s table r
+  pub last : r .writer .pending ≡ 0 → r .writer .closed ≡ false → Finishes (startOf s) s table r
+  pub closed : r .writer .closed ≡ true → FinishesNone s table r ⊎ Finishes (s .written) s table r
+
+module _ (alone : Bool) (t : Token) (target : ℕ) (s : Writer) (out table : List ℕ) (a : Accepted alone t target s out table) where
+  pub write-more : 0 < due (s .pending) (pendingOf t) → FinishesNone s table (write t s out table)
+  unfolding write
+  write-more h = let z = ne-eqb (due (s .pending) (pendingOf t)) 0 (λ e. omega arith) in record { count = rw z; words = rw z }
+
+  pub write-last : due (s .pending) (pendingOf t) ≡ 0 → Finishes (startOf s) s table (write t s out table)
+  unfolding write
+  write-last e =
+      let z = eq-eqb (due (s .pending) (pendingOf t)) 0 e in
+      record {
+        none = e;
+        count = rw z;
+        words = rw z;
+        listed = rw z (getD-set-same table (s .count) (startOf s) 0 (free-word alone t target s out table a));
+      }
+
+module _ (x : ℕ) (s : Writer) (out table : List ℕ) (a : Accepted true (pointerTo x s) x s out table) where
+  pointer-last : due (s .pending) (pendingOf (pointerTo x s)) ≡ 0
+  unfolding rule
+  pointer-last = rw (none-pending s _ _ (a .passed)) (omega arith)
+
+  far-last : Finishes (s .written) s table (writeShut (pointerTo x s) s out table)
+  unfolding write shut writeShut
+  far-last =
+      let f = write-last true (pointerTo x s) x s out table a pointer-last in
+      let start = new-start s _ _ (a .passed) in
+      record { none = f .none; count = f .count; words = f .words ∙ ap (set table (s .count)) start; listed = f .listed ∙ start }
+
+near-none : (x : ℕ) (s : Writer) (out table : List ℕ) → FinishesNone s table (shut x s out table)
+unfolding shut
+near-none x s out table = record { count = refl; words = refl }
+
+-- an accepted call lists the start of the value that it finishes, if any, and nothing else
+pub accepted-finishes : (c : Call) (s : Writer) (out table : List ℕ) → step c s out table .answer ≡ ok tt → Finishing s table (step c s out table)
+unfolding write shut writeShut
+accepted-finishes c s out table =
+    accepted-by s out table (Finishing s table)
+    (λ t x a. record {
+      more = write-more _ t x s out table a;
+      last = λ e _. write-last _ t x s out table a e;
+      closed = λ z. absurd (true≢false (sym z));
+    })
+    (λ x n. record {
+      more = λ h. absurd (omega (arith, none-pending s _ _ (n .passed)));
+      last = λ _ z. absurd (true≢false z);
+      closed = λ _. inl (near-none _ s out table);
+    })
+    (λ x a. let f = far-last x s out table a in record {
+      more = λ h. absurd (omega (arith, f .none));
+      last = λ _ z. absurd (true≢false z);
+      closed = λ _. inr f;
+    })
+    c
+
+-- ---- the state
+
+-- an open value, or none where k is 0: k items are pending, and have room, and the delta behind them
+pub record Open (k : ℕ) (s : Writer) (out table : List ℕ) : Type 0 where
+  pub good : bad s (length out) (length table) ≡ false
+  pub unclosed : s .closed ≡ false
+  pub items : s .pending ≡ k
+  pub room : s .written + k + 1 ≤ limit (length out)
+
+write-sound : (alone : Bool) (t : Token) (target : ℕ) (s : Writer) (out table : List ℕ) → Accepted alone t target s out table
+    → let r = write t s out table in Sound (r .writer) (length (r .out)) (length (r .table))
+unfolding write
+write-sound alone t target s out table a =
+    let left = due (s .pending) (pendingOf t) in
+    let end = behind alone t target s out table a in
+    let word = free-word alone t target s out table a in
+    rw (length-sets out (s .written) (emit t), length-pick-set (eqb left 0) table (s .count) (startOf s)) (record {
+      inside = omega arith;
+      short = omega arith;
+      listed = pick-elim (λ n. n ≤ length table) (eqb left 0) (λ _. omega arith) (λ _. omega arith);
+      free = λ h. rw (ne-eqb left 0 (λ e. omega arith)) word;
+      begun = λ _. start-lt alone t target s out table a;
+    })
+
+shut-sound : (d : ℕ) (s : Writer) (out table : List ℕ) → Sound s (length out) (length table) → s .pending ≡ 0 → s .written < limit (length out)
+    → let r = shut d s out table in Sound (r .writer) (length (r .out)) (length (r .table))
+unfolding shut
+shut-sound d s out table h none byte =
+    rw (length-sets out (s .written) (d ∷ [])) (record {
+      inside = omega arith;
+      short = omega arith;
+      listed = h .listed;
+      free = λ p. absurd (omega arith);
+      begun = λ p. absurd (omega arith);
+    })
+
+near-sound : (x d : ℕ) (s : Writer) (out table : List ℕ) → Near x s out table
+    → let r = shut d s out table in Sound (r .writer) (length (r .out)) (length (r .table))
+near-sound x d s out table n = shut-sound d s out table (sound s _ _ (n .passed .good)) (none-pending s _ _ (n .passed)) (n .byte)
+
+far-sound : (x : ℕ) (s : Writer) (out table : List ℕ) → Accepted true (pointerTo x s) x s out table
+    → let r = writeShut (pointerTo x s) s out table in Sound (r .writer) (length (r .out)) (length (r .table))
+unfolding write writeShut
+far-sound x s out table a =
+    shut-sound _ _ _ _ (write-sound true (pointerTo x s) x s out table a) (pointer-last x s out table a)
+    (rw (length-sets out (s .written) (emit (pointerTo x s))) (behind true (pointerTo x s) x s out table a))
+
+-- a state that is not bad, with the output and table that it leaves
+pub accepted-good : (c : Call) (s : Writer) (out table : List ℕ) → step c s out table .answer ≡ ok tt
+    → let r = step c s out table in bad (r .writer) (length (r .out)) (length (r .table)) ≡ false
+accepted-good c s out table =
+    accepted-by s out table (λ r. bad (r .writer) (length (r .out)) (length (r .table)) ≡ false)
+    (λ t x a. good _ _ _ (write-sound _ t x s out table a))
+    (λ x n. good _ _ _ (near-sound x _ s out table n))
+    (λ x a. good _ _ _ (far-sound x s out table a))
+    c
+
+pub write-open : (alone : Bool) (t : Token) (target : ℕ) (s : Writer) (out table : List ℕ) → Accepted alone t target s out table
+    → let r = write t s out table in Open (due (s .pending) (pendingOf t)) (r .writer) (r .out) (r .table)
+unfolding write
+write-open alone t target s out table a = record {
+  good = good _ _ _ (write-sound alone t target s out table a);
+  unclosed = refl;
+  items = refl;
+  room = rw (length-sets out (s .written) (emit t)) (omega (arith, a .fits, emit-pos t));
+}
+
+-- a token leaves a state from which the open value, if any, can be finished
+pub accepted-open : (c : Call) (s : Writer) (out table : List ℕ) → step c s out table .answer ≡ ok tt
+    → let r = step c s out table in r .writer .closed ≡ false → Open (r .writer .pending) (r .writer) (r .out) (r .table)
+unfolding write shut writeShut
+accepted-open c s out table =
+    accepted-by s out table (λ r. r .writer .closed ≡ false → Open (r .writer .pending) (r .writer) (r .out) (r .table))
+    (λ t x a _. write-open _ t x s out table a)
+    (λ x n z. absurd (true≢false z))
+    (λ x a z. absurd (true≢false z))
+    c
+
+-- it leaves a byte for each item pending, and one for the delta
+pub accepted-room : (c : Call) (s : Writer) (out table : List ℕ) → step c s out table .answer ≡ ok tt
+    → let r = step c s out table in r .writer .closed ≡ false → r .writer .written + r .writer .pending + 1 ≤ limit (length out)
+accepted-room c s out table e z = omega (arith, accepted-open c s out table e z .room, accepted-only c s out table e .bytes)
+
+-- ---- a close
+
+-- in a closed state that is not bad each call is refused with CLOSED
+closed-step : (c : Call) (s : Writer) (out table : List ℕ) → bad s (length out) (length table) ≡ false → s .closed ≡ true
+    → step c s out table ≡ result (error CLOSED) s out table
+unfolding early judge judgeDelta
+closed-step c s out table g z =
+    settled-by s out table (λ r. r ≡ result (error CLOSED) s out table) (λ _ _ _ _ _. rw (g, z)) (λ _ _ _. rw (g, z)) (moveOf c (s .written))
+
+-- a close at x that leaves r: by the delta byte where that reaches x, and else by a pointer, which is one more value; each later call is
+-- refused with CLOSED, and changes nothing
+pub record Closed (x : ℕ) (s : Writer) (table : List ℕ) (r : Result) : Type 0 where
+  pub closed : r .writer .closed ≡ true
+  pub none : r .writer .pending ≡ 0
+  pub near : s .written - x - 1 ≤ 255 → FinishesNone s table r
+  pub far : 255 < s .written - x - 1 → Finishes (s .written) s table r
+  pub good : bad (r .writer) (length (r .out)) (length (r .table)) ≡ false
+  pub later : (c : Call) → step c (r .writer) (r .out) (r .table) ≡ result (error CLOSED) (r .writer) (r .out) (r .table)
+
+pub accepted-close : (x : ℕ) (s : Writer) (out table : List ℕ) → step (close x) s out table .answer ≡ ok tt
+    → Closed x s table (step (close x) s out table)
+unfolding shut writeShut
+accepted-close x s out table =
+    close-by s out table (Closed x s table) x
+    (λ b n. let g = good _ _ _ (near-sound x _ s out table n) in record {
+      closed = refl;
+      none = none-pending s _ _ (n .passed);
+      near = λ _. near-none _ s out table;
+      far = λ h. absurd (omega arith);
+      good = g;
+      later = λ c. closed-step c _ _ _ g refl;
+    })
+    (λ b a. let g = good _ _ _ (far-sound x s out table a) in let f = far-last x s out table a in record {
+      closed = refl;
+      none = f .none;
+      near = λ h. absurd (omega arith);
+      far = λ _. f;
+      good = g;
+      later = λ c. closed-step c _ _ _ g refl;
+    })
