@@ -70,7 +70,7 @@ checkIn-region s d cap short =
     let p : length s + 1 - 1 ≡ length s = omega arith in
     rw (n, ne-eqb (length s + 1) 0 (λ z. omega arith), le-ltb LIMIT (length s + 1) (omega arith), p, take-append-seam, getD-append-seam)
 
-bytes-front : (p s : List ℕ) → Bytes (p ++ s) → Bytes p
+pub bytes-front : (p s : List ℕ) → Bytes (p ++ s) → Bytes p
 bytes-front [] s b = tt
 bytes-front (x ∷ p) s b = (b .0, bytes-front p s (b .1))
 

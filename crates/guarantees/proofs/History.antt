@@ -20,7 +20,6 @@ use Rattle.prelude.specs.Search.{among}
 use Rattle.prelude.proofs.Tests.{pick-elim, pick-cong, split}
 use Rattle.prelude.proofs.Searches.{among-by}
 use Rattle.kind.specs.Kind.{rule, pending}
-use Rattle.kind.proofs.Laws.{rule-past}
 use Rattle.token.specs.Token.{Token, token, emit}
 use Rattle.values.specs.Values.{tokens, bytes, region, starts}
 use Rattle.values.proofs.Laws.{bytes-append, starts-append, starts-lt, length-starts}
@@ -35,7 +34,7 @@ use Rattle.guarantees.proofs.Errors.{fresh-good}
 use Rattle.guarantees.specs.Model.{Part, part, Line, adds, ends, lineOf, formOf, formsOf, Plain, plain, valueAt, valuesAt, Stage, between, within, closed, Model, model, blank, bytesOf, startsOf, isClosed, owes, owed, grown, settle, judgeOf, takenOf, backTo}
 use Rattle.guarantees.specs.History.{runs, notes, kept, Agree}
 use Rattle.guarantees.specs.ReadsBack.{endOf}
-use Rattle.guarantees.proofs.Models.{forms-append, values-snoc, region-snoc, length-startsOf, bytes-between, bytes-within, bytes-closed}
+use Rattle.guarantees.proofs.Models.{target-each, forms-append, values-snoc, region-snoc, length-startsOf, bytes-between, bytes-within, bytes-closed}
 
 -- ---- a call of the writer is a line of the model
 
@@ -64,20 +63,12 @@ move-line (reference x) w = refl
 move-line (pointer x) w = refl
 move-line (close e) w = refl
 
--- a reference or pointer has no items, whatever its number
-none-each : (k : ℕ) → 14 ≤ k → rule k .each ≡ 0
-unfolding rule
-none-each k h =
-    split 15 k (λ past. rw (rule-past k past)) (λ le.
-    split 14 k
-    (λ l. let e : k ≡ 15 = omega arith in rw e)
-    (λ l. let e : k ≡ 14 = omega arith in rw e))
-
+-- the items of a part are those of its token
 pending-form : (q : ℕ) (p : Part) → pendingOf (formOf q p) ≡ pending (rule (p .kind)) (p .number) (p .args)
 unfolding formOf
 pending-form q p =
     pick-elim (λ n. pending (rule (p .kind)) n (p .args) ≡ pending (rule (p .kind)) (p .number) (p .args)) (leb 14 (p .kind))
-    (λ e. rw (none-each (p .kind) (leb-true 14 (p .kind) e)) (omega arith))
+    (λ e. rw (target-each (p .kind) (leb-true 14 (p .kind) e)) (omega arith))
     (λ _. refl)
 
 -- ---- the model's next part

@@ -44,3 +44,7 @@ pub mod History
 pub mod Lists
 -- over every list of calls the rest of output and table is as it was
 pub mod Rest
+-- a token written again by its call
+pub mod Again
+-- the model takes a well-formed file's values again
+pub mod Rewrites

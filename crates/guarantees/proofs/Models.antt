@@ -1,17 +1,32 @@
 -- The laws of the reference model's values: in the form of a file, joined, and counted.
 --
--- In order: parts joined (`forms-append`); values joined (`values-append`, `values-snoc`), as many as there were; the bytes of a model at each stage.
+-- In order: references and pointers have no items (`target-each`); parts joined (`forms-append`); values joined (`values-append`, `values-snoc`), as many as there were; the bytes of a model at each stage.
 use mathlib.Core.Path.{_≡_, refl, ap, _∙_}
 use mathlib.Core.List.{List, [], _∷_, _++_, append-assoc, append-nil}
-use Prim.Native.Nat.{ℕ, suc, _+_}
+use Prim.Native.Nat.{ℕ, suc, _+_, _-_, _≤_}
 use native.Mathlib.Nat.{zero-add, add-zero, add-assoc}
 use native.Mathlib.Omega.{arith}
-use lib.ListN.{length, length-append}
+use lib.Dec.{eqb}
+use lib.ListN.{length, getD, drop, length-append}
+use lib.Seq.{getD-drop}
+use borrow.Author.Tests.{eqb-true}
+use Rattle.prelude.proofs.Tables.{every-getD}
+use Rattle.kind.specs.Kind.{rule, table, reserved}
 use Rattle.token.specs.Token.{Token, emit}
 use Rattle.values.specs.Values.{Value, tokens, bytes, region, starts}
 use Rattle.values.proofs.Laws.{region-append, length-starts}
 use Rattle.guarantees.specs.Model.{Part, formOf, formsOf, Plain, valueAt, valuesAt, Stage, between, within, closed, Model, model, bytesOf, startsOf}
 use Rattle.guarantees.specs.ReadsBack.{endOf}
+
+-- ---- parts
+
+target-row : (j : ℕ) → rule (14 + j) .each ≡ 0
+unfolding rule
+target-row j = rw (← getD-drop 14 table j reserved) (eqb-true _ 0 (every-getD (λ r. eqb (r .each) 0) (drop 14 table) j reserved refl refl))
+
+-- references and pointers have no items
+pub target-each : (k : ℕ) → 14 ≤ k → rule k .each ≡ 0
+target-each k h = let past : k ≡ 14 + (k - 14) = omega arith in ap (λ j. rule j .each) past ∙ target-row (k - 14)
 
 pub forms-append : (q : ℕ) (a b : List Part) → formsOf q (a ++ b) ≡ formsOf q a ++ formsOf (q + length (bytes (formsOf q a))) b
 unfolding formsOf bytes
@@ -26,6 +41,8 @@ pub length-forms : (q : ℕ) (ps : List Part) → length (formsOf q ps) ≡ leng
 unfolding formsOf
 length-forms q [] = refl
 length-forms q (p ∷ ps) = ap suc (length-forms (q + length (emit (formOf q p))) ps)
+
+-- ---- values
 
 pub values-append : (q : ℕ) (a b : List Plain) → valuesAt q (a ++ b) ≡ valuesAt q a ++ valuesAt (q + length (region (valuesAt q a))) b
 unfolding valuesAt region

@@ -51,16 +51,16 @@ bits-front k b s e = let there : k ≤ length (b ++ s) = omega (arith, length-ap
 record Same (k : ℕ) (xs ys : List Value) : Type 0 where
   row : getD xs k Null ≡ getD ys k Null
 
-set-row : (xs : List Value) (i k : ℕ) (y : Value) → (k ≡ i → getD xs i Null ≡ y) → getD xs k Null ≡ getD (set xs i y) k Null
-set-row [] i k y h = refl
-set-row (x ∷ xs) zero zero y h = h refl
-set-row (x ∷ xs) zero (suc k) y h = refl
-set-row (x ∷ xs) (suc i) zero y h = refl
-set-row (x ∷ xs) (suc i) (suc k) y h = set-row xs i k y (λ e. h (ap suc e))
+pub set-row : {A : Type 0} (xs : List A) (i k : ℕ) (y d : A) → (k ≡ i → getD xs i d ≡ y) → getD xs k d ≡ getD (set xs i y) k d
+set-row [] i k y d h = refl
+set-row (x ∷ xs) zero zero y d h = h refl
+set-row (x ∷ xs) zero (suc k) y d h = refl
+set-row (x ∷ xs) (suc i) zero y d h = refl
+set-row (x ∷ xs) (suc i) (suc k) y d h = set-row xs i k y d (λ e. h (ap suc e))
 
 -- row i, the same in both where it is the row asked for, is taken from the other table
 own : {k : ℕ} {xs ys : List Value} (i : ℕ) → (k ≡ i → getD xs i Null ≡ getD ys i Null) → Same k (set xs i (getD ys i Null)) ys → Same k xs ys
-own {k} {xs} {ys} i h more = record { row = set-row xs i k (getD ys i Null) h ∙ more .row }
+own {k} {xs} {ys} i h more = record { row = set-row xs i k (getD ys i Null) Null h ∙ more .row }
 
 module _ (p : List ℕ) (t : Token) (s : List ℕ) (f : Allowed t) where
   abbrev head : Head

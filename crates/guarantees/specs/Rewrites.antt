@@ -4,6 +4,10 @@
 --                    reserved. `-` stops at 0: a target q - n - 1 means something where n < q, which it is in a well-formed file
 --   callsAt q ts     the calls of tokens, the first at q
 --   callsOf q vs     the calls of values, the first at q: each value's head, then its items
+--   rewriting vs entry
+--                    the calls that write a file's values vs again, and close at its entry
+--   again v s        the call that writes a value again which the reader tells as v, with the body s where it is a text or byte string: what
+--                    is told is enough
 --   AllOk as         each of the answers is `ok`
 use Prim.Native.Nat.{ℕ, _+_, _-_}
 use mathlib.Core.Path.{_≡_}
@@ -16,8 +20,10 @@ use Rattle.prelude.specs.Answer.{ok}
 use Rattle.float.specs.Bits.{value}
 use Rattle.token.specs.Token.{Token, emit}
 use Rattle.values.specs.Values.{Value, tokens, bytes, Each}
-use Rattle.writer.specs.Step.{Call, scalar, integer, float32, float64, text, bytes as byteString, variant, reference, pointer, openArray, openMap, openTag, openVariant1, openVariantN, Verdict}
+use Rattle.writer.specs.Step.{Call, scalar, integer, float32, float64, text, bytes as byteString, variant, reference, pointer, openArray, openMap, openTag, openVariant1, openVariantN, close, Verdict}
 use Rattle.writer.specs.declared.Scalar.the-variants.{False, True, Null}
+use Rattle.reader.specs.declared.Value.{Value as Told}
+use Rattle.reader.specs.declared.Value.the-variants.{False as TellsFalse, True as TellsTrue, Null as TellsNull, Integer, Float32, Float64, Text, Bytes, Array, Map, Tag, Variant, Variant1, VariantN, Reference, Pointer}
 
 abbrev pub rows : ℕ → Token → List Call
 rows q t =
@@ -49,6 +55,27 @@ callsAt q (t ∷ ts) = callOf q t ∷ callsAt (q + length (emit t)) ts
 unfoldable pub callsOf : ℕ → List Value → List Call
 callsOf q [] = []
 callsOf q (v ∷ vs) = callsAt q (tokens v) ++ callsOf (q + length (bytes (tokens v))) vs
+
+abbrev pub rewriting : List Value → ℕ → List Call
+rewriting vs entry = callsOf 0 vs ++ (close entry ∷ [])
+
+abbrev pub again : Told → List ℕ → Call
+again TellsFalse s = scalar False
+again TellsTrue s = scalar True
+again TellsNull s = scalar Null
+again (Integer z) s = integer z
+again (Float32 b) s = float32 b
+again (Float64 b) s = float64 b
+again (Text first len) s = text s
+again (Bytes first len) s = byteString s
+again (Array n first) s = openArray n
+again (Map n items first) s = openMap n
+again (Tag n first) s = openTag n
+again (Variant i) s = variant i
+again (Variant1 i first) s = openVariant1 i
+again (VariantN i n first) s = openVariantN i n
+again (Reference x) s = reference x
+again (Pointer x) s = pointer x
 
 abbrev pub AllOk : List Verdict → Type 0
 AllOk vs = Each (λ v. v ≡ ok tt) vs

@@ -1,0 +1,249 @@
+-- A token written again by its call.
+--
+-- In order: the part of a token (`partOf`), and that its form is the token (`form-part`); the parts of tokens and of values, likewise
+-- (`forms-parts`, `values-plains`); of sixteen rows, the one of the token's kind (`row-of`): its call asks for its part (`line-call`), and is
+-- one that a program can make (`call-given`); what the reader tells of a token, and its body, say which call it is (`rewrites-told`,
+-- `rewrites-read`).
+use mathlib.Core.Path.{_≡_, refl, sym, ap, _∙_}
+use mathlib.Core.Bool.{Bool, true, false}
+use mathlib.Core.Logic.{_⊎_, inl, inr}
+use mathlib.Core.List.{List, [], _∷_, _++_, map}
+use Prim.Native.Nat.{ℕ, zero, suc, _+_, _-_, _^_, _≤_, _<_}
+use native.Mathlib.Nat.{zero-add, add-zero}
+use native.Mathlib.Omega.{arith}
+use lib.Dec.{eqb, ltb, leb}
+use lib.ListN.{length, getD, set, drop-of-length-le, List·getD-map}
+use borrow.Author.Tests.{le-leb, lt-leb, eqb-true, eqb-false}
+use Rattle.prelude.specs.Pick.{pick}
+use Rattle.prelude.specs.Answer.{ok, bind}
+use Rattle.prelude.specs.Bytes.{Bytes}
+use Rattle.prelude.proofs.Tests.{pick-elim, split, facts}
+use Rattle.float.specs.Bits.{little, value}
+use Rattle.float.proofs.Laws.{little-value, value-lt}
+use Rattle.kind.specs.Kind.{rule, size}
+use Rattle.kind.proofs.Laws.{rule-past, most-fits}
+use Rattle.token.specs.Token.{Token, emit, Allowed}
+use Rattle.values.specs.Values.{Value, tokens, bytes, Aimed, Back, WellFormed}
+use Rattle.writer.specs.Step.{Call, scalar, float32, float64, text, bytes as byteString}
+use Rattle.writer.specs.declared.Scalar.the-variants.{False, True, Null}
+use Rattle.writer.specs.Given.{Given}
+use Rattle.reader.specs.declared.Value.the-variants.{False as TellsFalse, True as TellsTrue, Null as TellsNull, Float32, Float64}
+use Rattle.reader.specs.Read.{readOf}
+use Rattle.reader.specs.Query.{bodyBytes}
+use Rattle.guarantees.specs.Tells.{tells, tellOf}
+use Rattle.guarantees.specs.Places.{Stands}
+use Rattle.guarantees.specs.Model.{Part, part, Plain, plain, formOf, formsOf, valueAt, valuesAt, adds, lineOf}
+use Rattle.guarantees.specs.Rewrites.{rows, callOf, again}
+use Rattle.guarantees.proofs.Tokens.{set-row}
+use Rattle.guarantees.proofs.Tells.{tells-token, tells-body}
+
+-- ---- the parts of tokens and of values
+
+-- what the call of t at q puts down
+unfoldable pub partOf : ℕ → Token → Part
+partOf q t = part (t .kind) (pick (leb 14 (t .kind)) (q - t .n - 1) (t .n)) (t .args) (t .body)
+
+unfoldable pub partsOf : ℕ → List Token → List Part
+partsOf q [] = []
+partsOf q (t ∷ ts) = partOf q t ∷ partsOf (q + length (emit t)) ts
+
+abbrev pub plainOf : ℕ → Value → Plain
+plainOf q v = plain (partOf q (v .head)) (partsOf (q + length (emit (v .head))) (v .items))
+
+unfoldable pub plainsOf : ℕ → List Value → List Plain
+plainsOf q [] = []
+plainsOf q (v ∷ vs) = plainOf q v ∷ plainsOf (q + length (bytes (tokens v))) vs
+
+pub form-part : (q : ℕ) (t : Token) → (14 ≤ t .kind → t .n < q) → formOf q (partOf q t) ≡ t
+unfolding formOf partOf
+form-part q t aimed =
+    split (t .kind) 14 (λ l. rw (lt-leb 14 (t .kind) l))
+    (λ l. let e : q - (q - t .n - 1) - 1 ≡ t .n = omega (arith, aimed l) in rw (le-leb 14 (t .kind) l, e))
+
+pub forms-parts : (done : List ℕ) (q : ℕ) (ts : List Token) → Aimed done q ts → formsOf q (partsOf q ts) ≡ ts
+unfolding formsOf partsOf
+forms-parts done q [] a = refl
+forms-parts done q (t ∷ ts) a = rw (form-part q t (λ k. a .0 k .0), forms-parts done (q + length (emit t)) ts (a .1))
+
+pub value-plain : (done : List ℕ) (q : ℕ) (v : Value) → Aimed done q (tokens v) → valueAt q (plainOf q v) ≡ v
+value-plain done q v a = rw (form-part q (v .head) (λ k. a .0 k .0), forms-parts done (q + length (emit (v .head))) (v .items) (a .1))
+
+pub values-plains : (done : List ℕ) (q : ℕ) (vs : List Value) → Back done q vs → valuesAt q (plainsOf q vs) ≡ vs
+unfolding valuesAt plainsOf
+values-plains done q [] b = refl
+values-plains done q (v ∷ vs) b =
+    let at = q + length (bytes (tokens v)) in
+    ap (λ w. w ∷ valuesAt (q + length (bytes (tokens w))) (plainsOf at vs)) (value-plain done q v (b .0))
+    ∙ ap (λ ws. v ∷ ws) (values-plains (done ++ (q ∷ [])) at vs (b .1))
+
+-- ---- the row of a kind
+
+infixr 5 _▸_
+-- P holds of each row with its number, the first being i
+data Rows {A : Type 0} (P : ℕ → A → Type 0) : ℕ → List A → Type 0 where
+  past : {i : ℕ} → Rows P i []
+  _▸_ : {i : ℕ} {x : A} {xs : List A} → P i x → Rows P (suc i) xs → Rows P i (x ∷ xs)
+
+rows-at : {A : Type 0} (P : ℕ → A → Type 0) (i k : ℕ) (xs : List A) (d : A) → Rows P i xs → k < length xs → P (i + k) (getD xs k d)
+rows-at P i k [] d past h = absurd (omega arith)
+rows-at P i zero (x ∷ xs) d (p ▸ r) h = rw add-zero p
+rows-at P i (suc k) (x ∷ xs) d (p ▸ r) h =
+    let sum : i + suc k ≡ suc i + k = omega arith in
+    rw sum (rows-at P (suc i) k xs d r (omega arith))
+
+scalar-line : (n : ℕ) → n ≤ 2 → lineOf (scalar (pick (eqb n 0) False (pick (eqb n 1) True Null))) ≡ adds (part 0 n 0 [])
+scalar-line zero h = refl
+scalar-line (suc zero) h = refl
+scalar-line (suc (suc zero)) h = refl
+scalar-line (suc (suc (suc n))) h = absurd (omega arith)
+
+module _ (q : ℕ) (t : Token) (f : Allowed t) where
+  kind-lt : t .kind < 16
+  kind-lt = split (t .kind) 16 (λ l. l) (λ l. absurd (omega (arith, f .low, ap (λ r. r .lows) (rule-past (t .kind) l))))
+
+  row-of : (P : Call → Type 0) → Rows (λ k c. t .kind ≡ k → P c) 0 (rows q t) → P (callOf q t)
+  unfolding callOf
+  row-of P r = rows-at (λ k c. t .kind ≡ k → P c) 0 (t .kind) (rows q t) _ r kind-lt (sym (zero-add (t .kind)))
+
+  sized : (k : ℕ) → t .kind ≡ k → length (t .body) ≡ size (rule k) (t .n)
+  sized k e = rw e at (f .sized)
+
+  most : (k : ℕ) → t .kind ≡ k → t .n ≤ rule k .most
+  most k e = rw e at (f .most)
+
+  reserved : {X : Type 0} (k : ℕ) → rule k .lows ≡ 0 → t .kind ≡ k → X
+  reserved k lows e = absurd (omega (arith, lows, f .low, ap (λ j. rule j .lows) e))
+
+  -- a float has four bytes or eight
+  float-by : (P : Call → Type 0) → (t .n ≡ 0 → length (t .body) ≡ 4 → P (float32 (value (t .body))))
+      → (t .n ≡ 1 → length (t .body) ≡ 8 → P (float64 (value (t .body)))) → t .kind ≡ 3
+      → P (pick (eqb (t .n) 0) (float32 (value (t .body))) (float64 (value (t .body))))
+  unfolding rule
+  float-by P four eight e =
+      let size = sized 3 e in
+      let top = most 3 e in
+      pick-elim P (eqb (t .n) 0) (λ z. four (eqb-true (t .n) 0 z) (omega facts))
+      (λ z. let more : t .n ≡ 0 → ⊥ = eqb-false (t .n) 0 z in eight (omega arith) (omega arith))
+
+  -- ---- what its call asks for
+
+  abbrev Asks : Call → Type 0
+  Asks c = lineOf c ≡ adds (partOf q t)
+
+  -- the part of t, field by field
+  own : {n a : ℕ} {s : List ℕ} (k : ℕ) → t .kind ≡ k → pick (leb 14 k) (q - t .n - 1) (t .n) ≡ n → t .args ≡ a → t .body ≡ s
+      → adds (part k n a s) ≡ adds (partOf q t)
+  unfolding partOf
+  own k e number args body = rw (e, number, args, body)
+
+  one : (k : ℕ) → rule k .args ≡ false → t .kind ≡ k → t .args ≡ 0
+  one k args e = f .alone (rw e args)
+
+  none : (k : ℕ) → rule k .fixed ≡ 0 → rule k .scale ≡ 0 → t .kind ≡ k → t .body ≡ []
+  none k fixed scale e = drop-of-length-le (t .body) {i = 0} (omega (arith, rw (fixed, scale) at (sized k e)))
+
+  -- of a kind with one number and no body
+  bare : (k : ℕ) → rule k .fixed ≡ 0 → rule k .scale ≡ 0 → rule k .args ≡ false → t .kind ≡ k
+      → adds (part k (pick (leb 14 k) (q - t .n - 1) (t .n)) 0 []) ≡ adds (partOf q t)
+  bare k fixed scale args e = own k e refl (one k args e) (none k fixed scale e)
+
+  -- n is the length of a text or byte string
+  long : (k : ℕ) → rule k .fixed ≡ 0 → rule k .scale ≡ 1 → t .kind ≡ k → t .n ≡ length (t .body)
+  long k fixed scale e = omega (arith, rw (fixed, scale) at (sized k e))
+
+  module _ (b : Bytes (t .body)) where
+    float : {n w : ℕ} → t .kind ≡ 3 → t .n ≡ n → length (t .body) ≡ w → adds (part 3 n 0 (little w (value (t .body)))) ≡ adds (partOf q t)
+    unfolding rule
+    float e number wide = own 3 e number (one 3 refl e) (sym (rw wide at (little-value (t .body) b)))
+
+    line-rows : Rows (λ k c. t .kind ≡ k → Asks c) 0 (rows q t)
+    unfolding rule
+    line-rows = (λ e. scalar-line (t .n) (most 0 e) ∙ bare 0 refl refl refl e)
+        ▸ bare 1 refl refl refl
+        ▸ bare 2 refl refl refl
+        ▸ (λ e. float-by Asks (float e) (float e) e)
+        ▸ (λ e. own 4 e (long 4 refl refl e) (one 4 refl e) refl)
+        ▸ (λ e. own 5 e (long 5 refl refl e) (one 5 refl e) refl)
+        ▸ bare 6 refl refl refl
+        ▸ bare 7 refl refl refl
+        ▸ bare 8 refl refl refl
+        ▸ reserved 9 refl
+        ▸ bare 10 refl refl refl
+        ▸ bare 11 refl refl refl
+        ▸ (λ e. own 12 e refl refl (none 12 refl refl e))
+        ▸ reserved 13 refl
+        ▸ bare 14 refl refl refl
+        ▸ bare 15 refl refl refl
+        ▸ past
+
+    pub line-call : lineOf (callOf q t) ≡ adds (partOf q t)
+    line-call = row-of Asks line-rows
+
+    -- ---- that a program can make it
+
+    below : (k m : ℕ) → ltb (rule k .most) m ≡ true → t .kind ≡ k → t .n < m
+    below k m less e = omega (facts, most k e)
+
+    given-string : (k : ℕ) → rule k .fixed ≡ 0 → rule k .scale ≡ 1 → t .kind ≡ k → Bytes (t .body) × (length (t .body) < 2 ^ 64)
+    given-string k fixed scale e = (b, omega (arith, long k fixed scale e, most k e, most-fits k))
+
+    given-many : t .kind ≡ 12 → (t .n < 2 ^ 32) × (t .args < 2 ^ 64)
+    unfolding rule
+    given-many e = (below 12 (2 ^ 32) refl e, f .count)
+
+    given-rows : Rows (λ k c. t .kind ≡ k → Given c) 0 (rows q t)
+    unfolding rule
+    given-rows = (λ e. tt)
+        ▸ below 1 (2 ^ 63) refl
+        ▸ below 2 (2 ^ 63) refl
+        ▸ float-by Given (λ no l. rw l at (value-lt (t .body) b)) (λ no l. rw l at (value-lt (t .body) b))
+        ▸ given-string 4 refl refl
+        ▸ given-string 5 refl refl
+        ▸ below 6 (2 ^ 64) refl
+        ▸ below 7 (2 ^ 64) refl
+        ▸ below 8 (2 ^ 64) refl
+        ▸ (λ e. tt)
+        ▸ below 10 (2 ^ 32) refl
+        ▸ below 11 (2 ^ 32) refl
+        ▸ given-many
+        ▸ (λ e. tt)
+        ▸ (λ e. tt)
+        ▸ (λ e. tt)
+        ▸ past
+
+    pub call-given : Given (callOf q t)
+    call-given = row-of Given given-rows
+
+-- ---- the call by what the reader tells
+
+again-scalar : (a b : Bool) (s : List ℕ)
+    → again (pick a TellsFalse (pick b TellsTrue TellsNull)) s ≡ scalar (pick a False (pick b True Null))
+again-scalar true b s = refl
+again-scalar false true s = refl
+again-scalar false false s = refl
+
+again-float : (a : Bool) (n : ℕ) (s : List ℕ) → again (pick a (Float32 n) (Float64 n)) s ≡ pick a (float32 n) (float64 n)
+again-float true n s = refl
+again-float false n s = refl
+
+-- s is the body of a text or byte string; of other kinds it does not matter
+again-told : (q : ℕ) (t : Token) (s : List ℕ) → ((t .kind ≡ 4) ⊎ (t .kind ≡ 5) → s ≡ t .body) → again (tellOf q t) s ≡ callOf q t
+unfolding tellOf callOf
+again-told q t s body =
+    let swapped = set (rows q t) 4 (text s) in
+    let told : map (λ v. again v s) (tells q t) ≡ set swapped 5 (byteString s) = rw (again-scalar, again-float) in
+    sym (List·getD-map (λ v. again v s) (tells q t) (t .kind) TellsNull)
+    ∙ ap (λ cs. getD cs (t .kind) (scalar Null)) told
+    ∙ sym (set-row (rows q t) 4 (t .kind) (text s) (scalar Null) (λ k. ap text (sym (body (inl k))))
+    ∙ set-row swapped 5 (t .kind) (byteString s) (scalar Null) (λ k. ap byteString (sym (body (inr k)))))
+
+pub rewrites-told : (q : ℕ) (t : Token) → again (tellOf q t) (t .body) ≡ callOf q t
+rewrites-told q t = again-told q t (t .body) (λ k. refl)
+
+-- of a token of a well-formed file
+pub rewrites-read : (file : List ℕ) (vs : List Value) (entry : ℕ) → WellFormed file vs entry → (j q : ℕ) (t : Token) → Stands vs j q t
+    → bind (readOf file q) (λ v. ok (again v (bodyBytes file q))) ≡ ok (callOf q t)
+unfolding bind
+rewrites-read file vs entry w j q t st =
+    rw (tells-token file vs entry w j q t st)
+    (ap ok (again-told q t (bodyBytes file q) (λ k. tells-body file vs entry w j q t st k .1)))
