@@ -48,3 +48,5 @@ pub mod Rest
 pub mod Again
 -- the model takes a well-formed file's values again
 pub mod Rewrites
+-- demands 2 and 3 of the writer
+pub mod Demands
