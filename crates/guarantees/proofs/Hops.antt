@@ -24,7 +24,7 @@ use Rattle.guarantees.specs.Places.{Stands, Comes}
 use Rattle.guarantees.proofs.Pointers.{further, follow-pointer}
 use Rattle.guarantees.proofs.Tells.{inside-region, within, looked, aims, head-stands}
 
-starts-before : (vs a b : List Value) (i : ℕ) → vs ≡ a ++ b → i < length (starts 0 a) → getD (starts 0 vs) i 0 ≡ getD (starts 0 a) i 0
+pub starts-before : (vs a b : List Value) (i : ℕ) → vs ≡ a ++ b → i < length (starts 0 a) → getD (starts 0 vs) i 0 ≡ getD (starts 0 a) i 0
 starts-before vs a b i e h = rw (e, starts-append 0 a b) (List·getD-append (starts 0 a) _ 0 i h)
 
 module _ (file : List ℕ) (vs : List Value) (entry : ℕ) (w : WellFormed file vs entry) where

@@ -48,5 +48,15 @@ pub mod Rest
 pub mod Again
 -- the model takes a well-formed file's values again
 pub mod Rewrites
+-- what the reference model keeps, call by call
+pub mod Kept
+-- its finished values may stand at the front of a file
+pub mod Fine
+-- each of its references and pointers names a value before
+pub mod Targets
+-- a file that it closed is read back
+pub mod ReadsBack
+-- what is told of its parts is what the calls said
+pub mod Said
 -- demands 2 and 3 of the writer
 pub mod Demands

@@ -16,3 +16,5 @@ pub mod History
 pub mod ReadsBack
 -- the calls that write values again
 pub mod Rewrites
+-- what reading must tell of what a call wrote
+pub mod Said

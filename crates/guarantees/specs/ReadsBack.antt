@@ -5,17 +5,19 @@
 --   GivesBack file vs entry
 --                      check, with enough words, accepts the file, with the starts of vs and this entry; reading, items and bodies tell
 --                      the values vs
-use Prim.Native.Nat.{ℕ, _+_, _≤_}
+--   ClosedAt b e c     c is the model b closed at e, and its bytes are read back
+use Prim.Native.Nat.{ℕ, _+_, _-_, _≤_, _<_}
 use mathlib.Core.Path.{_≡_}
 use mathlib.Core.Bool.{false}
 use mathlib.Core.Logic.{_⊎_}
-use mathlib.Core.List.{List, _∷_, _++_}
+use mathlib.Core.List.{List, [], _∷_, _++_}
 use lib.Dec.{eqb, leb}
 use lib.ListN.{length}
 use Rattle.prelude.specs.Pick.{pick}
 use Rattle.prelude.specs.Answer.{ok, error}
 use Rattle.error.specs.Error.{fault, NO_ITEM}
 use Rattle.kind.specs.Kind.{rule, immediate}
+use Rattle.token.specs.Token.{emit}
 use Rattle.values.specs.Values.{tokens, bytes, region, starts}
 use Rattle.reader.specs.Read.{readOf}
 use Rattle.reader.specs.Query.{skipOf, itemOf, bodyBytes}
@@ -23,7 +25,7 @@ use Rattle.reader.specs.declared.Value.{Value}
 use Rattle.reader.specs.declared.Value.the-variants.{Reference, Pointer}
 use Rattle.checker.specs.Check.{checked, filled, checkOf}
 use Rattle.guarantees.specs.Tells.{tellOf}
-use Rattle.guarantees.specs.Model.{Part, Plain, formOf, formsOf, valueAt, valuesAt}
+use Rattle.guarantees.specs.Model.{Part, part, Plain, plain, formOf, formsOf, valueAt, valuesAt, closed, Model, model, bytesOf, backTo}
 
 -- where the value behind the values vs starts
 abbrev pub endOf : List Plain → ℕ
@@ -50,8 +52,19 @@ pub record GivesBack (file : List ℕ) (vs : List Plain) (entry : ℕ) : Type 0 
   pub read : (j q : ℕ) (p : Part) → Holds vs j q p → readOf file q ≡ ok (toldOf q p)
   pub body : (j q : ℕ) (p : Part) → Holds vs j q p → (p .kind ≡ 4) ⊎ (p .kind ≡ 5) → bodyBytes file q ≡ p .body
   -- where a value ends, where its items start, and that there are no more
-  pub ends : (a : List Plain) (v : Plain) (b : List Plain) → vs ≡ a ++ (v ∷ b) → skipOf file (endOf a) ≡ ok (endOf a + length (bytes (tokens (valueAt (endOf a) v))))
+  pub ends : (a : List Plain) (v : Plain) (b : List Plain) → vs ≡ a ++ (v ∷ b)
+      → skipOf file (endOf a) ≡ ok (endOf a + length (bytes (tokens (valueAt (endOf a) v))))
   pub item : (a : List Plain) (v : Plain) (b : List Plain) → vs ≡ a ++ (v ∷ b) → (is : List Part) (p : Part) (js : List Part) → v .items ≡ is ++ (p ∷ js)
       → itemOf file (endOf a) (length is) ≡ ok (endOf a + length (bytes (formsOf (endOf a) (v .head ∷ is))))
   pub none : (a : List Plain) (v : Plain) (b : List Plain) → vs ≡ a ++ (v ∷ b) → immediate (rule (v .head .kind)) ≡ false
       → (i : ℕ) → length (v .items) ≤ i → itemOf file (endOf a) i ≡ error (fault NO_ITEM (endOf a))
+
+pub record ClosedAt (b : Model) (e : ℕ) (c : Model) : Type 0 where
+  -- the delta byte reaches back to e
+  pub near : backTo e b ≤ 255 → (c ≡ model (b .finished) (closed (backTo e b))) × GivesBack (bytesOf c) (b .finished) e
+  -- a pointer to e is the last value, and the entry
+  pub far : 255 < backTo e b
+      → let p = part 15 e 0 [] in
+      let vs = b .finished ++ (plain p [] ∷ []) in
+      let w = length (bytesOf b) in
+      (c ≡ model vs (closed (length (emit (formOf w p)) - 1))) × GivesBack (bytesOf c) vs w

@@ -1,0 +1,177 @@
+-- Of calls whose arguments are of their widths, the finished values of the reference model are values as they may stand at the front of a file.
+--
+--   Fine p    p's kind allows it wherever it stands: at 0, where the distance of a target is 0
+--
+-- In order: the part of such a call is fine (`fine-given`), so that the model keeps that (`kept-given`); a fine part is allowed at each place, has
+-- as many items there, and names the offset that was handed in; the items of a value, a value, and values (`kept-values`).
+use mathlib.Core.Path.{_≡_, ap, _∙_, subst}
+use mathlib.Core.Bool.{true, true≢false}
+use mathlib.Core.List.{List, [], _∷_, _++_}
+use Prim.Native.Nat.{ℕ, _+_, _-_, _≤_, _<_}
+use native.Mathlib.Nat.{zero-add}
+use native.Mathlib.Omega.{arith}
+use lib.IntN.{pos, negsuc}
+use lib.ListN.{length, length-append}
+use borrow.Author.Tests.{le-leb, lt-leb}
+use Rattle.prelude.proofs.Tests.{split}
+use Rattle.error.specs.Error.{LIMIT}
+use Rattle.utf8.proofs.Laws.{isText-text}
+use Rattle.float.proofs.Laws.{length-little}
+use Rattle.kind.specs.Kind.{rule, pending, immediate}
+use Rattle.kind.proofs.Laws.{rule-past}
+use Rattle.token.specs.Token.{emit, Allowed}
+use Rattle.values.specs.Values.{tokens, bytes, region, starts, Each, Sound, Item, Formed, Reaches, Aimed, Back, Values}
+use Rattle.values.proofs.Members.{each-imp}
+use Rattle.values.proofs.Laws.{starts-append}
+use Rattle.writer.specs.Step.{Call, scalar, integer, float32, float64, text, bytes as byteString, variant, reference, pointer, openArray, openMap, openTag, openVariant1, openVariantN, close}
+use Rattle.writer.specs.Given.{Given}
+use Rattle.writer.specs.declared.Scalar.the-variants.{False, True, Null}
+use Rattle.guarantees.specs.Model.{Part, lineOf, Plain, formOf, formsOf, valueAt, valuesAt, Stage, between, within, closed, Model, model, blank, bytesOf, owes}
+use Rattle.guarantees.specs.History.{notes}
+use Rattle.guarantees.specs.ReadsBack.{endOf}
+use Rattle.guarantees.proofs.Models.{length-forms, values-snoc, region-snoc, bytes-between, bytes-within, bytes-closed}
+use Rattle.guarantees.proofs.Kept.{Fit, Good, Finished, Kept, Clear, partOf, start-lt, kept-notes}
+
+abbrev pub Fine : Part → Type 0
+Fine p = Sound (formOf 0 p)
+
+-- ---- the parts of calls
+
+allowed-given : (c : Call) → Given c → Allowed (formOf 0 (partOf (lineOf c)))
+unfolding formOf rule
+allowed-given (scalar False) g = search arith
+allowed-given (scalar True) g = search arith
+allowed-given (scalar Null) g = search arith
+allowed-given (integer (pos n)) g = search arith
+allowed-given (integer (negsuc n)) g = search arith
+allowed-given (float32 b) g = search (arith, length-little)
+allowed-given (float64 b) g = search (arith, length-little)
+allowed-given (text s) g = search arith
+allowed-given (byteString s) g = search arith
+allowed-given (openArray n) g = search arith
+allowed-given (openMap n) g = search arith
+allowed-given (openTag n) g = search arith
+allowed-given (variant i) g = search arith
+allowed-given (openVariant1 i) g = search arith
+allowed-given (openVariantN i n) g =
+    record { low = omega arith; most = omega arith; alone = λ none. absurd (true≢false none); count = g .1; sized = omega arith }
+allowed-given (reference x) g = search arith
+allowed-given (pointer x) g = search arith
+allowed-given (close e) g = search arith
+
+pub fine-given : (c : Call) → Given c → Clear (partOf (lineOf c)) → Fine (partOf (lineOf c))
+unfolding formOf
+fine-given c g clear = record { allowed = allowed-given c g; text = λ four. isText-text _ (clear four) }
+
+pub kept-given : (cs : List Call) → Each Given cs → (n m : ℕ) → Kept Fine (notes cs blank n m .model)
+kept-given cs g n m = kept-notes Fine cs (each-imp Given _ fine-given cs g) n m
+
+-- ---- a part where it stands
+
+pub kind-le : (k : ℕ) → 0 < rule k .lows → k ≤ 15
+kind-le k used = split 15 k (λ past. absurd (omega (arith, ap (λ r. r .lows) (rule-past k past)))) (λ h. h)
+
+-- references and pointers have one rule
+rule-far : (k : ℕ) → 14 ≤ k → 0 < rule k .lows → rule k ≡ rule 15
+unfolding rule
+rule-far k far used =
+    let most = kind-le k used in
+    split k 15 (λ l. let e : k ≡ 14 = omega arith in rw e) (λ l. let e : k ≡ 15 = omega arith in rw e)
+
+module _ (q : ℕ) (p : Part) where
+  sound-form : q ≤ LIMIT → Fine p → Sound (formOf q p)
+  unfolding formOf rule
+  sound-form short f =
+      split (p .kind) 14
+      (λ near. let same : formOf 0 p ≡ formOf q p = rw (lt-leb 14 (p .kind) near) in subst Sound same f)
+      (λ far. let r = rule-far (p .kind) far (omega (arith, f .allowed .low)) in
+      record {
+        allowed = record {
+          low = rw r (omega arith);
+          most = rw (r, le-leb 14 (p .kind) far) (omega arith);
+          alone = f .allowed .alone;
+          count = f .allowed .count;
+          sized = let none = rw r at (f .allowed .sized) in rw r (omega arith);
+        };
+        text = f .text;
+      })
+
+  pending-form : Fine p → pending (rule (p .kind)) (formOf q p .n) (p .args) ≡ pending (rule (p .kind)) (p .number) (p .args)
+  unfolding formOf rule
+  pending-form f =
+      split (p .kind) 14 (λ near. rw (lt-leb 14 (p .kind) near))
+      (λ far. rw (rule-far (p .kind) far (omega (arith, f .allowed .low)), le-leb 14 (p .kind) far) (omega arith))
+
+  pub target-form : 14 ≤ p .kind → p .number < q → (formOf q p .n < q) × (q - formOf q p .n - 1 ≡ p .number)
+  unfolding formOf
+  target-form far less = rw (le-leb 14 (p .kind) far) (omega arith, omega arith)
+
+-- ---- a value behind others
+
+module _ (before : List Plain) where
+  abbrev done : List ℕ
+  done = starts 0 (valuesAt 0 before)
+
+  abbrev at : ℕ
+  at = endOf before
+
+  reaches-form : (q : ℕ) (p : Part) → Fit Fine before p → at ≤ q → Reaches done q (formOf q p)
+  unfolding formOf
+  reaches-form q p f h far =
+      let (less, target) = target-form q p far (omega (arith, start-lt before (p .number) (f .names far))) in
+      (less, rw target (f .names far))
+
+  items-fit : (q : ℕ) (ps : List Part) → Each (λ p. Fit Fine before p × (immediate (rule (p .kind)) ≡ true)) ps → at ≤ q
+      → q + length (bytes (formsOf q ps)) ≤ LIMIT → Each Item (formsOf q ps) × Aimed done q (formsOf q ps)
+  unfolding formsOf bytes formOf
+  items-fit q [] f h short = (tt, tt)
+  items-fit q (p ∷ ps) f h short =
+      let t = formOf q p in
+      let long = length-append (emit t) (bytes (formsOf (q + length (emit t)) ps)) in
+      let more = items-fit (q + length (emit t)) ps (f .1) (omega arith) (omega arith) in
+      ((record { sound = sound-form q p (omega arith) (f .0 .0 .own); immediate = f .0 .1 }, more .0), (reaches-form q p (f .0 .0) h, more .1))
+
+  value-fit : (v : Plain) → Good Fine before v → owes v ≡ 0 → at + length (bytes (tokens (valueAt at v))) ≤ LIMIT
+      → Formed (valueAt at v) × Aimed done at (tokens (valueAt at v))
+  unfolding bytes formOf
+  value-fit v g none short =
+      let q = at + length (emit (formOf at (v .head))) in
+      let long = length-append (emit (formOf at (v .head))) (bytes (formsOf q (v .items))) in
+      let items = items-fit q (v .items) (g .items) (omega arith) (omega arith) in (
+        record {
+          head = sound-form at (v .head) (omega arith) (g .head .own);
+          items = items .0;
+          count = omega (arith, g .taken, pending-form at (v .head) (g .head .own), length-forms q (v .items));
+        },
+        (reaches-form at (v .head) (g .head) (omega arith), items .1),
+      )
+
+-- ---- values
+
+starts-snoc : (vs : List Plain) (v : Plain) → starts 0 (valuesAt 0 (vs ++ (v ∷ []))) ≡ starts 0 (valuesAt 0 vs) ++ (endOf vs ∷ [])
+unfolding starts
+starts-snoc vs v = rw (values-snoc vs v, starts-append 0 (valuesAt 0 vs) (valueAt (endOf vs) v ∷ []), zero-add)
+
+finished-values : (before vs : List Plain) → Finished Fine before vs → endOf before + length (region (valuesAt (endOf before) vs)) ≤ LIMIT
+    → Each Formed (valuesAt (endOf before) vs) × Back (starts 0 (valuesAt 0 before)) (endOf before) (valuesAt (endOf before) vs)
+unfolding valuesAt region
+finished-values before [] f short = (tt, tt)
+finished-values before (v ∷ vs) f short =
+    let s = bytes (tokens (valueAt (endOf before) v)) in
+    let long = length-append s (region (valuesAt (endOf before + length s) vs)) in
+    let next = ap length (region-snoc before v) ∙ length-append (region (valuesAt 0 before)) s in
+    let here = value-fit before v (f .0 .0) (f .0 .1) (omega arith) in
+    let more = (rw (next, starts-snoc before v) at (finished-values (before ++ (v ∷ [])) vs (f .1))) (omega arith) in
+    ((here .0, more .0), (here .1, more .1))
+
+end-le : (vs : List Plain) (g : Stage) → endOf vs ≤ length (bytesOf (model vs g))
+end-le vs between = omega (arith, ap length (bytes-between vs))
+end-le vs (within v) =
+    omega (arith, ap length (bytes-within vs v), length-append (region (valuesAt 0 vs)) (bytes (tokens (valueAt (endOf vs) v))))
+end-le vs (closed d) = omega (arith, ap length (bytes-closed vs d), length-append (region (valuesAt 0 vs)) (d ∷ []))
+
+pub kept-values : (b : Model) → Kept Fine b → Values (valuesAt 0 (b .finished))
+unfolding valuesAt region starts
+kept-values b k =
+    let all = finished-values [] (b .finished) (k .finished) (omega (arith, end-le (b .finished) (b .stage), k .short)) in
+    record { formed = all .0; aimed = all .1 }

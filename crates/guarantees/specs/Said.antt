@@ -1,0 +1,35 @@
+-- What reading must tell of what a call wrote (document 01, "Row of a file").
+--
+--   first q k n a   the offset just behind the header at q and its numbers, of kind k with the number n and the argument count a: where a body, or
+--                   the items, start
+--   said q c        the value that reading tells of what the call c wrote at q: of a close, the pointer where it adds one
+use Prim.Native.Nat.{ℕ, _+_, _*_}
+use mathlib.Core.List.{[]}
+use lib.ListN.{length}
+use Rattle.token.specs.Token.{token, emit}
+use Rattle.writer.specs.Step.{Call, scalar, integer, float32, float64, text, bytes, variant, reference, pointer, openArray, openMap, openTag, openVariant1, openVariantN, close}
+use Rattle.writer.specs.declared.Scalar.the-variants.{False, True, Null}
+use Rattle.reader.specs.declared.Value.{Value}
+use Rattle.reader.specs.declared.Value.the-variants as Value
+
+abbrev pub first : ℕ → ℕ → ℕ → ℕ → ℕ
+first q k n a = q + length (emit (token k n a []))
+
+abbrev pub said : ℕ → Call → Value
+said q (scalar False) = Value.False
+said q (scalar True) = Value.True
+said q (scalar Null) = Value.Null
+said q (integer z) = Value.Integer z
+said q (float32 b) = Value.Float32 b
+said q (float64 b) = Value.Float64 b
+said q (text s) = Value.Text (first q 4 (length s) 0) (length s)
+said q (bytes s) = Value.Bytes (first q 5 (length s) 0) (length s)
+said q (openArray n) = Value.Array n (first q 6 n 0)
+said q (openMap n) = Value.Map n (2 * n) (first q 7 n 0)
+said q (openTag n) = Value.Tag n (first q 8 n 0)
+said q (variant i) = Value.Variant i
+said q (openVariant1 i) = Value.Variant1 i (first q 11 i 0)
+said q (openVariantN i n) = Value.VariantN i n (first q 12 i n)
+said q (reference x) = Value.Reference x
+said q (pointer x) = Value.Pointer x
+said q (close e) = Value.Pointer e
