@@ -1,22 +1,29 @@
 -- Demands 2 and 3 of the writer itself: what is proved of the reference model holds of it by `history`.
 --
--- In order: the values of an accepted file, written again, are the same bytes (`rewrites`).
-use mathlib.Core.Path.{_≡_, _∙_, subst, sym}
-use mathlib.Core.List.{List}
-use Prim.Native.Nat.{ℕ, _≤_}
+-- In order: the values of an accepted file, written again, are the same bytes (`rewrites`); a file that was closed is read back (`reads-back`), and each
+-- call after it is CLOSED (`closed-after`).
+use mathlib.Core.Path.{_≡_, sym, ap, _∙_, subst}
+use mathlib.Core.List.{List, [], _∷_, _++_}
+use Prim.Native.Nat.{ℕ, _+_, _≤_}
 use native.Mathlib.Omega.{arith}
-use lib.ListN.{length, take}
-use Rattle.prelude.specs.Answer.{ok}
+use lib.ListN.{length, take, drop, getD}
+use lib.Seq.{getD-at, drop-append-add}
+use Rattle.prelude.specs.Answer.{ok, error}
 use Rattle.prelude.specs.Bytes.{Bytes}
+use Rattle.error.specs.Error.{CLOSED}
 use Rattle.values.specs.Values.{Value, starts, Each, WellFormed}
 use Rattle.checker.specs.Check.{checkOf}
-use Rattle.writer.specs.Step.{fresh}
+use Rattle.writer.specs.Step.{Call, close, fresh}
 use Rattle.writer.specs.Given.{Given}
-use Rattle.guarantees.specs.History.{runs}
+use Rattle.guarantees.specs.Model.{ends, Model, blank, bytesOf, judgeOf, takenOf}
+use Rattle.guarantees.specs.History.{runs, Noted, notes}
+use Rattle.guarantees.specs.ReadsBack.{ReadsBack}
 use Rattle.guarantees.specs.Rewrites.{rewriting, AllOk}
 use Rattle.guarantees.proofs.Accepted.{accepted}
 use Rattle.guarantees.proofs.History.{history}
+use Rattle.guarantees.proofs.Lists.{notes-append, length-answers, ended-same, ended-answers}
 use Rattle.guarantees.proofs.Rewrites.{model-rewrites, calls-given}
+use Rattle.guarantees.proofs.ReadsBack.{model-reads-back}
 
 -- ---- written again
 
@@ -46,3 +53,47 @@ rewrites file cap count entry b e out table long words =
       same = h .1 .bytes ∙ m .1;
       listed = h .1 .starts ∙ m .2;
     }
+
+-- ---- read back
+
+module _ (cs more : List Call) (e : ℕ) (out table : List ℕ) where
+  abbrev n : ℕ
+  n = length out
+
+  abbrev m : ℕ
+  m = length table
+
+  -- the calls, with a close at e among them
+  abbrev all : List Call
+  all = cs ++ (close e ∷ more)
+
+  -- the model before the close
+  abbrev b : Model
+  b = notes cs blank n m .model
+
+  -- the close was accepted
+  module _ (accepted : getD (runs all fresh out table .answers) (length cs) (error 0) ≡ ok tt) where
+    judged : judgeOf (ends e) b n m ≡ ok tt
+    unfolding notes
+    judged =
+        let a = notes cs blank n m .answers in
+        sym (getD-at a (judgeOf (ends e) b n m) _ (error 0) (length cs) (length-answers cs blank n m))
+        ∙ ap (λ l. getD l (length cs) (error 0)) (sym (history all out table .0 ∙ ap (λ (k : Noted). k .answers) (notes-append cs (close e ∷ more) blank n m)))
+        ∙ accepted
+
+    ended : notes all blank n m .model ≡ takenOf (ends e) b
+    unfolding notes
+    ended = ap (λ (k : Noted). k .model) (notes-append cs (close e ∷ more) blank n m) ∙ rw judged (ended-same e b n m more)
+
+    -- of every list of calls with an accepted close among them, whatever came before it and after it: the output's first w bytes are a file that is
+    -- read back as the model's finished values
+    pub reads-back : Each Given cs → let r = runs all fresh out table in ReadsBack b e (take (r .writer .written) (r .out))
+    reads-back given =
+        subst (ReadsBack b e) (sym (history all out table .1 .bytes ∙ ap bytesOf ended)) (model-reads-back cs given n m e judged)
+
+    pub closed-after : Each (λ v. v ≡ error CLOSED) (drop (length cs + 1) (runs all fresh out table .answers))
+    unfolding notes
+    closed-after =
+        let a = notes cs blank n m .answers in
+        let same = history all out table .0 ∙ ap (λ (k : Noted). k .answers) (notes-append cs (close e ∷ more) blank n m) in
+        rw (same, judged, ← length-answers cs blank n m, drop-append-add a (ok tt ∷ notes more (takenOf (ends e) b) n m .answers) 1) (ended-answers e b n m more)

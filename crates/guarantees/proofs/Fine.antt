@@ -8,7 +8,6 @@ use mathlib.Core.Path.{_≡_, ap, _∙_, subst}
 use mathlib.Core.Bool.{true, true≢false}
 use mathlib.Core.List.{List, [], _∷_, _++_}
 use Prim.Native.Nat.{ℕ, _+_, _-_, _≤_, _<_}
-use native.Mathlib.Nat.{zero-add}
 use native.Mathlib.Omega.{arith}
 use lib.IntN.{pos, negsuc}
 use lib.ListN.{length, length-append}
@@ -17,20 +16,19 @@ use Rattle.prelude.proofs.Tests.{split}
 use Rattle.error.specs.Error.{LIMIT}
 use Rattle.utf8.proofs.Laws.{isText-text}
 use Rattle.float.proofs.Laws.{length-little}
-use Rattle.kind.specs.Kind.{rule, pending, immediate}
+use Rattle.kind.specs.Kind.{rule, immediate}
 use Rattle.kind.proofs.Laws.{rule-past}
 use Rattle.token.specs.Token.{emit, Allowed}
 use Rattle.values.specs.Values.{tokens, bytes, region, starts, Each, Sound, Item, Formed, Reaches, Aimed, Back, Values}
 use Rattle.values.proofs.Members.{each-imp}
-use Rattle.values.proofs.Laws.{starts-append}
 use Rattle.writer.specs.Step.{Call, scalar, integer, float32, float64, text, bytes as byteString, variant, reference, pointer, openArray, openMap, openTag, openVariant1, openVariantN, close}
 use Rattle.writer.specs.Given.{Given}
 use Rattle.writer.specs.declared.Scalar.the-variants.{False, True, Null}
-use Rattle.guarantees.specs.Model.{Part, lineOf, Plain, formOf, formsOf, valueAt, valuesAt, Stage, between, within, closed, Model, model, blank, bytesOf, owes}
+use Rattle.guarantees.specs.Model.{Part, lineOf, Plain, formOf, formsOf, valueAt, valuesAt, Model, model, blank, owes}
 use Rattle.guarantees.specs.History.{notes}
 use Rattle.guarantees.specs.ReadsBack.{endOf}
-use Rattle.guarantees.proofs.Models.{length-forms, values-snoc, region-snoc, bytes-between, bytes-within, bytes-closed}
-use Rattle.guarantees.proofs.Kept.{Fit, Good, Finished, Kept, Clear, partOf, start-lt, kept-notes}
+use Rattle.guarantees.proofs.Models.{pending-form, length-forms, region-snoc, starts-snoc, start-lt, end-le}
+use Rattle.guarantees.proofs.Kept.{Fit, Good, Finished, Kept, Clear, partOf, kept-notes}
 
 abbrev pub Fine : Part → Type 0
 Fine p = Sound (formOf 0 p)
@@ -96,12 +94,6 @@ module _ (q : ℕ) (p : Part) where
         text = f .text;
       })
 
-  pending-form : Fine p → pending (rule (p .kind)) (formOf q p .n) (p .args) ≡ pending (rule (p .kind)) (p .number) (p .args)
-  unfolding formOf rule
-  pending-form f =
-      split (p .kind) 14 (λ near. rw (lt-leb 14 (p .kind) near))
-      (λ far. rw (rule-far (p .kind) far (omega (arith, f .allowed .low)), le-leb 14 (p .kind) far) (omega arith))
-
   pub target-form : 14 ≤ p .kind → p .number < q → (formOf q p .n < q) × (q - formOf q p .n - 1 ≡ p .number)
   unfolding formOf
   target-form far less = rw (le-leb 14 (p .kind) far) (omega arith, omega arith)
@@ -141,16 +133,12 @@ module _ (before : List Plain) where
         record {
           head = sound-form at (v .head) (omega arith) (g .head .own);
           items = items .0;
-          count = omega (arith, g .taken, pending-form at (v .head) (g .head .own), length-forms q (v .items));
+          count = omega (arith, g .taken, pending-form at (v .head), length-forms q (v .items));
         },
         (reaches-form at (v .head) (g .head) (omega arith), items .1),
       )
 
 -- ---- values
-
-starts-snoc : (vs : List Plain) (v : Plain) → starts 0 (valuesAt 0 (vs ++ (v ∷ []))) ≡ starts 0 (valuesAt 0 vs) ++ (endOf vs ∷ [])
-unfolding starts
-starts-snoc vs v = rw (values-snoc vs v, starts-append 0 (valuesAt 0 vs) (valueAt (endOf vs) v ∷ []), zero-add)
 
 finished-values : (before vs : List Plain) → Finished Fine before vs → endOf before + length (region (valuesAt (endOf before) vs)) ≤ LIMIT
     → Each Formed (valuesAt (endOf before) vs) × Back (starts 0 (valuesAt 0 before)) (endOf before) (valuesAt (endOf before) vs)
@@ -163,12 +151,6 @@ finished-values before (v ∷ vs) f short =
     let here = value-fit before v (f .0 .0) (f .0 .1) (omega arith) in
     let more = (rw (next, starts-snoc before v) at (finished-values (before ++ (v ∷ [])) vs (f .1))) (omega arith) in
     ((here .0, more .0), (here .1, more .1))
-
-end-le : (vs : List Plain) (g : Stage) → endOf vs ≤ length (bytesOf (model vs g))
-end-le vs between = omega (arith, ap length (bytes-between vs))
-end-le vs (within v) =
-    omega (arith, ap length (bytes-within vs v), length-append (region (valuesAt 0 vs)) (bytes (tokens (valueAt (endOf vs) v))))
-end-le vs (closed d) = omega (arith, ap length (bytes-closed vs d), length-append (region (valuesAt 0 vs)) (d ∷ []))
 
 pub kept-values : (b : Model) → Kept Fine b → Values (valuesAt 0 (b .finished))
 unfolding valuesAt region starts

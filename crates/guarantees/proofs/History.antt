@@ -5,36 +5,33 @@
 -- of calls (`history`).
 use mathlib.Core.Path.{_≡_, refl, sym, ap, _∙_, subst}
 use mathlib.Core.Bool.{Bool, true, false, not, _&&_, true≢false}
-use mathlib.Core.List.{List, [], _∷_, _++_, append-assoc, append-nil}
+use mathlib.Core.List.{List, [], _∷_, _++_}
 use Prim.Native.Nat.{ℕ, suc, _+_, _-_, _≤_, _<_}
-use native.Mathlib.Nat.{zero-add}
 use native.Mathlib.Omega.{arith}
 use lib.Dec.{eqb, ltb, leb}
 use lib.IntN.{pos, negsuc}
-use lib.ListN.{length, take, drop, set, length-set, length-append}
+use lib.ListN.{length, take, set, length-append}
 use lib.Seq.{sets, sets-eq, length-sets, take-at, length-take-le, take-suc-set}
 use borrow.Author.Tests.{eqb-true, eqb-false, leb-true, leb-false, ltb-false, le-ltb, lt-ltb, le-leb, lt-leb, eq-eqb, ne-eqb}
 use Rattle.prelude.specs.Pick.{pick}
 use Rattle.prelude.specs.Answer.{ok, error}
 use Rattle.prelude.specs.Search.{among}
 use Rattle.prelude.proofs.Tests.{pick-elim, pick-cong, split}
-use Rattle.prelude.proofs.Searches.{among-by}
 use Rattle.kind.specs.Kind.{rule, pending}
-use Rattle.token.specs.Token.{Token, token, emit}
-use Rattle.values.specs.Values.{tokens, bytes, region, starts}
-use Rattle.values.proofs.Laws.{bytes-append, starts-append, starts-lt, length-starts}
-use Rattle.writer.specs.Step.{Call, scalar, integer, float32, float64, text, bytes as byteString, variant, reference, pointer, openArray, openMap, openTag, openVariant1, openVariantN, close, Move, puts, closes, moveOf, fresh, opens, bad, isListed, limit, room, pendingOf, due, early, judge, judgeDelta, Verdict, Result, result, startOf, write, shut, writeShut, settled, put, closeAt, move, step}
+use Rattle.token.specs.Token.{token, emit}
+use Rattle.values.specs.Values.{bytes, region, starts}
+use Rattle.writer.specs.Step.{Call, scalar, integer, float32, float64, text, bytes as byteString, variant, reference, pointer, openArray, openMap, openTag, openVariant1, openVariantN, close, Move, puts, closes, moveOf, fresh, opens, bad, isListed, limit, pendingOf, due, early, judge, judgeDelta, Verdict, Result, startOf, write, shut, writeShut, settled, put, closeAt, move, step}
 use Rattle.writer.specs.declared.Writer.{Writer}
 use Rattle.writer.specs.declared.Scalar.the-variants.{False, True, Null}
-use Rattle.writer.proofs.Judged.{Sound, sound, good, Accepted, judge-inv, free-word, behind, none-pending}
-use Rattle.writer.proofs.Closes.{Near, delta-inv}
+use Rattle.writer.proofs.Judged.{sound, good, Accepted, judge-inv, free-word, behind, none-pending}
+use Rattle.writer.proofs.Closes.{delta-inv}
 use Rattle.guarantees.proofs.Calls.{refused-same, accepted-only}
 use Rattle.guarantees.proofs.Results.{write-open}
 use Rattle.guarantees.proofs.Errors.{fresh-good}
-use Rattle.guarantees.specs.Model.{Part, part, Line, adds, ends, lineOf, formOf, formsOf, Plain, plain, valueAt, valuesAt, Stage, between, within, closed, Model, model, blank, bytesOf, startsOf, isClosed, owes, owed, grown, settle, judgeOf, takenOf, backTo}
+use Rattle.guarantees.specs.Model.{Part, part, Line, adds, ends, lineOf, formOf, Plain, plain, valuesAt, Stage, between, within, closed, Model, model, blank, bytesOf, startsOf, isClosed, owes, owed, grown, settle, judgeOf, takenOf, backTo}
 use Rattle.guarantees.specs.History.{runs, notes, kept, Agree}
 use Rattle.guarantees.specs.ReadsBack.{endOf}
-use Rattle.guarantees.proofs.Models.{target-each, forms-append, values-snoc, region-snoc, length-startsOf, bytes-between, bytes-within, bytes-closed}
+use Rattle.guarantees.proofs.Models.{pending-form, length-startsOf, starts-snoc, start-lt, bytes-between, bytes-closed, end-le, bytes-grown, bytes-settle}
 
 -- ---- a call of the writer is a line of the model
 
@@ -63,51 +60,6 @@ move-line (reference x) w = refl
 move-line (pointer x) w = refl
 move-line (close e) w = refl
 
--- the items of a part are those of its token
-pending-form : (q : ℕ) (p : Part) → pendingOf (formOf q p) ≡ pending (rule (p .kind)) (p .number) (p .args)
-unfolding formOf
-pending-form q p =
-    pick-elim (λ n. pending (rule (p .kind)) n (p .args) ≡ pending (rule (p .kind)) (p .number) (p .args)) (leb 14 (p .kind))
-    (λ e. rw (target-each (p .kind) (leb-true 14 (p .kind) e)) (omega arith))
-    (λ _. refl)
-
--- ---- the model's next part
-
-end-le : (b : Model) → endOf (b .finished) ≤ length (bytesOf b)
-unfolding bytesOf
-end-le b = by-stage (b .finished) (b .stage)
-  where
-    by-stage : (vs : List Plain) (g : Stage) → endOf vs ≤ length (bytesOf (model vs g))
-    by-stage vs between = omega (arith, ap length (bytes-between vs))
-    by-stage vs (within v) = omega (arith, ap length (bytes-within vs v), length-append (region (valuesAt 0 vs)) (bytes (tokens (valueAt (endOf vs) v))))
-    by-stage vs (closed d) = omega (arith, ap length (bytes-closed vs d), length-append (region (valuesAt 0 vs)) (d ∷ []))
-
-start-lt : (b : Model) (x : ℕ) → among x (startsOf b) ≡ true → x < length (bytesOf b)
-unfolding startsOf
-start-lt b x e =
-    let i = among-by x (startsOf b) e in
-    let vs = valuesAt 0 (b .finished) in
-    omega (arith, starts-lt 0 vs (i .0) (omega (arith, i .1, length-starts 0 vs)), i .2, end-le b)
-
-bytes-settle : (vs : List Plain) (v : Plain) → bytesOf (settle vs v) ≡ region (valuesAt 0 vs) ++ bytes (tokens (valueAt (endOf vs) v))
-bytes-settle vs v =
-    pick-elim (λ b. bytesOf b ≡ region (valuesAt 0 vs) ++ bytes (tokens (valueAt (endOf vs) v))) (eqb (owes v) 0)
-    (λ _. bytes-between (vs ++ (v ∷ [])) ∙ region-snoc vs v)
-    (λ _. bytes-within vs v)
-
--- the next part's bytes come behind those that are there
-bytes-grown : (vs : List Plain) (g : Stage) (p : Part) → isClosed g ≡ false
-    → bytesOf (settle vs (grown g p)) ≡ bytesOf (model vs g) ++ emit (formOf (length (bytesOf (model vs g))) p)
-unfolding formsOf bytes
-bytes-grown vs between p e = bytes-settle vs (plain p []) ∙ rw (bytes-between vs, append-nil (emit (formOf (endOf vs) p)))
-bytes-grown vs (within v) p e =
-    let s = region (valuesAt 0 vs) in
-    let ts = tokens (valueAt (endOf vs) v) in
-    let long = length-append s (bytes ts) in
-    let more = forms-append (endOf vs) (v .head ∷ v .items) (p ∷ []) in
-    bytes-settle vs (grown (within v) p) ∙ rw (bytes-within vs v, append-assoc s (bytes ts), long) (ap (λ l. s ++ bytes l) more ∙ ap (_++_ s) (bytes-append ts _ ∙ ap (_++_ (bytes ts)) (append-nil _)))
-bytes-grown vs (closed d) p e = absurd (true≢false e)
-
 -- ---- the writer follows the model
 
 -- an open value has items pending, and the state has its start
@@ -128,9 +80,10 @@ and-implied false false h = refl
 
 module _ (s : Writer) (out table : List ℕ) (b : Model) (f : Follows s out table b) where
   listed-same : (x : ℕ) → isListed s table x ≡ among x (startsOf b)
+  unfolding startsOf
   listed-same x =
       rw (f .agree .starts) (and-implied (ltb x (s .written)) (among x (startsOf b)) (λ e.
-      lt-ltb x (s .written) (omega (arith, start-lt b x e, f .agree .written))))
+      lt-ltb x (s .written) (omega (arith, start-lt (b .finished) x e, end-le (b .finished) (b .stage), f .agree .written))))
 
   aim-same : (t : Bool) (x : ℕ) → t && not (isListed s table (pick t x 0)) ≡ t && not (among x (startsOf b))
   aim-same true x = ap not (listed-same x)
@@ -192,23 +145,19 @@ take-sets : (d p : List ℕ) (w : ℕ) → w + length p ≤ length d → take (w
 take-sets d p w h =
     rw (sets-eq p d w h) (take-at (take w d ++ p) _ (w + length p) (omega (arith, length-append (take w d) p, length-take-le w d (omega arith))))
 
-starts-snoc : (vs : List Plain) (v : Plain) (g : Stage) → startsOf (model (vs ++ (v ∷ [])) g) ≡ startsOf (model vs g) ++ (endOf vs ∷ [])
-unfolding startsOf starts
-starts-snoc vs v g = rw (values-snoc vs v, starts-append 0 (valuesAt 0 vs) (valueAt (endOf vs) v ∷ []), zero-add)
-
 -- the start is listed where the value is finished
 module _ (vs : List Plain) (g : Stage) (v : Plain) (table : List ℕ) (n : ℕ) (word : n < length table) (same : take n table ≡ startsOf (model vs g)) where
   starts-listed : (x : Bool) → take (pick x (n + 1) n) (pick x (set table n (endOf vs)) table) ≡ startsOf (pick x (model (vs ++ (v ∷ [])) between) (model vs (within v)))
   unfolding startsOf
   starts-listed true =
       let e : n + 1 ≡ suc n = omega arith in
-      rw (e, take-suc-set table n (endOf vs) word, same) (sym (starts-snoc vs v between))
+      rw (e, take-suc-set table n (endOf vs) word, same) (sym (starts-snoc vs v))
   starts-listed false = same
 
   count-listed : (x : Bool) → pick x (n + 1) n ≡ length (startsOf (pick x (model (vs ++ (v ∷ [])) between) (model vs (within v))))
   unfolding startsOf
   count-listed true =
-      omega (arith, ap length (starts-snoc vs v between), length-append (startsOf (model vs between)) (endOf vs ∷ []), ap length same, length-take-le n table (omega arith))
+      omega (arith, ap length (starts-snoc vs v), length-append (startsOf (model vs between)) (endOf vs ∷ []), ap length same, length-take-le n table (omega arith))
   count-listed false = omega (arith, ap length same, length-take-le n table (omega arith))
 
 owed-settled : (k : ℕ) (vs : List Plain) (v : Plain) → k ≡ owes v → k ≡ owed (settle vs v .stage)
@@ -231,7 +180,7 @@ module _ (s : Writer) (out table : List ℕ) (vs : List Plain) (g : Stage) (f : 
       let left : due (s .pending) (pendingOf t) ≡ owes v = rw (f .agree .pending) (due-same s vs g (s .written) p (f .begun) c) in
       let start = start-same s out table vs g f c in
       let word = free-word alone t target s out table a in
-      let more : bytesOf (settle vs v) ≡ bytesOf (model vs g) ++ emit t = bytes-grown vs g p c ∙ rw (f .agree .written) in
+      let more : bytesOf (settle vs v) ≡ bytesOf (model vs g) ++ emit t = bytes-settle vs v ∙ bytes-grown vs g p c ∙ rw (f .agree .written) in
       rw (left, start) (record {
         bytes = take-sets out (emit t) (s .written) (omega (arith, behind alone t target s out table a)) ∙ rw (f .agree .bytes, more);
         written = omega (arith, ap length more, length-append (bytesOf (model vs g)) (emit t), f .agree .written);

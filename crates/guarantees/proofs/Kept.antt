@@ -10,10 +10,10 @@
 --
 -- In order: finished values joined (`finished-append`), and their parts (`holds-fit`); their starts; what an accepted line is (`adds-inv`,
 -- `ends-inv`), the bytes that it adds, and what it leaves (`kept-adds`, `closes-near`, `closes-far`); lists of calls (`kept-notes`, `kept-any`).
-use mathlib.Core.Path.{_≡_, refl, sym, ap, _∙_, subst}
+use mathlib.Core.Path.{_≡_, refl, ap, _∙_, subst}
 use mathlib.Core.Logic.{_↔_}
 use mathlib.Core.Bool.{Bool, true, false, not, _&&_, true≢false}
-use mathlib.Core.List.{List, [], _∷_, _++_, append-assoc, append-nil}
+use mathlib.Core.List.{List, [], _∷_, _++_, append-nil}
 use Prim.Native.Nat.{ℕ, _+_, _-_, _≤_, _<_, min}
 use native.Mathlib.Omega.{arith}
 use lib.Dec.{eqb, ltb, leb}
@@ -24,20 +24,20 @@ use Rattle.prelude.specs.Pick.{pick}
 use Rattle.prelude.specs.Answer.{ok, error}
 use Rattle.prelude.specs.Search.{among}
 use Rattle.prelude.proofs.Tests.{pick-elim, and-false, facts}
-use Rattle.prelude.proofs.Searches.{among-by, among-at}
+use Rattle.prelude.proofs.Searches.{among-at}
 use Rattle.error.specs.Error.{LIMIT}
 use Rattle.utf8.specs.Text.{isText}
 use Rattle.kind.specs.Kind.{rule, pending, immediate}
 use Rattle.token.specs.Token.{emit}
-use Rattle.values.specs.Values.{tokens, bytes, region, starts, Each}
+use Rattle.values.specs.Values.{region, starts, Each}
 use Rattle.values.proofs.Members.{each-append, each-imp}
-use Rattle.values.proofs.Laws.{bytes-append, emit-pos, starts-lt, length-starts, start-of}
+use Rattle.values.proofs.Laws.{emit-pos, length-starts, start-of}
 use Rattle.writer.specs.Step.{Call, Verdict}
 use Rattle.writer.proofs.Judged.{past}
-use Rattle.guarantees.specs.Model.{Part, part, Line, adds, ends, lineOf, Plain, plain, formOf, formsOf, valueAt, valuesAt, Stage, between, within, closed, isClosed, Model, model, blank, bytesOf, startsOf, owes, owed, grown, firstOf, roomOf, backTo, judgeOf, settle, takenOf}
+use Rattle.guarantees.specs.Model.{Part, part, Line, adds, ends, lineOf, Plain, plain, formOf, valueAt, valuesAt, Stage, between, within, closed, isClosed, Model, model, blank, bytesOf, startsOf, owes, owed, grown, firstOf, roomOf, backTo, judgeOf, settle, takenOf}
 use Rattle.guarantees.specs.History.{notes, kept}
 use Rattle.guarantees.specs.ReadsBack.{endOf, Holds}
-use Rattle.guarantees.proofs.Models.{forms-append, values-snoc, region-snoc, bytes-between, bytes-within, bytes-closed}
+use Rattle.guarantees.proofs.Models.{values-snoc, start-lt, bytes-between, bytes-closed, bytes-grown, bytes-settle}
 
 -- ---- what is kept
 
@@ -96,11 +96,6 @@ holds-fit P vs f j q p h =
 
 -- ---- starts
 
-pub start-lt : (vs : List Plain) (x : ℕ) → among x (starts 0 (valuesAt 0 vs)) ≡ true → x < endOf vs
-start-lt vs x h =
-    let (i, i<, e) = among-by x (starts 0 (valuesAt 0 vs)) h in
-    omega (arith, starts-lt 0 (valuesAt 0 vs) i (omega (arith, length-starts 0 (valuesAt 0 vs))))
-
 start-last : (vs : List Plain) (v : Plain) → among (endOf vs) (starts 0 (valuesAt 0 (vs ++ (v ∷ [])))) ≡ true
 start-last vs v =
     let a = valuesAt 0 vs in
@@ -157,26 +152,6 @@ ends-inv e b n m q =
       far = λ h. ltb-false _ _ (rw (lt-ltb 255 (backTo e b) h) at room);
       near = λ h. leb-false _ _ (rw (le-ltb 255 (backTo e b) h) at room);
     })
-
--- ---- the bytes that a part adds
-
-bytes-grown : (vs : List Plain) (g : Stage) (p : Part) → isClosed g ≡ false
-    → region (valuesAt 0 (vs ++ (grown g p ∷ []))) ≡ bytesOf (model vs g) ++ emit (formOf (length (bytesOf (model vs g))) p)
-unfolding bytes formsOf
-bytes-grown vs between p o = rw (region-snoc vs (plain p []), bytes-between vs, append-nil (emit (formOf (endOf vs) p)))
-bytes-grown vs (within v) p o =
-    let s = region (valuesAt 0 vs) in
-    let ts = tokens (valueAt (endOf vs) v) in
-    let t = formOf (endOf vs + length (bytes ts)) p in
-    let all : bytes (tokens (valueAt (endOf vs) (grown (within v) p))) ≡ bytes ts ++ emit t =
-    ap bytes (forms-append (endOf vs) (v .head ∷ v .items) (p ∷ [])) ∙ bytes-append ts (t ∷ []) ∙ rw (append-nil (emit t)) in
-    rw (region-snoc vs (grown (within v) p), all, bytes-within vs v, length-append s (bytes ts), append-assoc s (bytes ts) (emit t))
-bytes-grown vs (closed d) p o = absurd (true≢false o)
-
-bytes-settle : (vs : List Plain) (v : Plain) → bytesOf (settle vs v) ≡ region (valuesAt 0 (vs ++ (v ∷ [])))
-bytes-settle vs v =
-    pick-elim (λ b. bytesOf b ≡ region (valuesAt 0 (vs ++ (v ∷ [])))) (eqb (owes v) 0) (λ _. bytes-between (vs ++ (v ∷ [])))
-    (λ _. bytes-within vs v ∙ sym (region-snoc vs v))
 
 -- ---- what it leaves
 

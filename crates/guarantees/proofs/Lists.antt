@@ -1,14 +1,16 @@
 -- Lists of calls joined, and what comes after a close.
-use mathlib.Core.Path.{_≡_, refl, ap, _∙_}
+use mathlib.Core.Path.{_≡_, refl, ap}
 use mathlib.Core.List.{List, [], _∷_, _++_}
 use Prim.Native.Nat.{ℕ, suc}
+use lib.Dec.{ltb}
 use lib.ListN.{length}
-use Rattle.prelude.specs.Answer.{ok, error}
+use Rattle.prelude.specs.Answer.{error}
+use Rattle.prelude.proofs.Tests.{pick-elim}
 use Rattle.error.specs.Error.{CLOSED}
 use Rattle.values.specs.Values.{Each}
-use Rattle.writer.specs.Step.{Call, Verdict}
-use Rattle.guarantees.specs.Model.{Line, adds, ends, lineOf, Plain, Stage, closed, Model, model, judgeOf, takenOf}
-use Rattle.guarantees.specs.History.{Noted, noted, kept, notes}
+use Rattle.writer.specs.Step.{Call}
+use Rattle.guarantees.specs.Model.{Line, adds, ends, lineOf, Plain, closed, Model, model, backTo, judgeOf, takenOf}
+use Rattle.guarantees.specs.History.{noted, kept, notes}
 
 -- the calls of two lists, one list after the other
 pub notes-append : (a c : List Call) (b : Model) (n m : ℕ)
@@ -39,3 +41,13 @@ module _ (vs : List Plain) (d n m : ℕ) where
   unfolding notes
   closed-same [] = refl
   closed-same (c ∷ cs) = rw (closed-line (lineOf c)) (closed-same cs)
+
+-- whatever calls come after a close, they leave what it left
+pub ended-same : (e : ℕ) (b : Model) (n m : ℕ) (cs : List Call) → notes cs (takenOf (ends e) b) n m .model ≡ takenOf (ends e) b
+ended-same e b n m cs =
+    pick-elim (λ c. notes cs c n m .model ≡ c) (ltb 255 (backTo e b)) (λ _. closed-same _ _ n m cs) (λ _. closed-same _ _ n m cs)
+
+pub ended-answers : (e : ℕ) (b : Model) (n m : ℕ) (cs : List Call) → Each (λ v. v ≡ error CLOSED) (notes cs (takenOf (ends e) b) n m .answers)
+ended-answers e b n m cs =
+    pick-elim (λ c. Each (λ v. v ≡ error CLOSED) (notes cs c n m .answers)) (ltb 255 (backTo e b))
+    (λ _. closed-answers _ _ n m cs) (λ _. closed-answers _ _ n m cs)

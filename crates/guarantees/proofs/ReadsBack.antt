@@ -28,11 +28,11 @@ use Rattle.guarantees.specs.Tells.{tellOf}
 use Rattle.guarantees.specs.Places.{Stands}
 use Rattle.guarantees.specs.Model.{Part, ends, Plain, formOf, formsOf, valueAt, valuesAt, closed, Model, model, blank, bytesOf, backTo, judgeOf, takenOf}
 use Rattle.guarantees.specs.History.{notes}
-use Rattle.guarantees.specs.ReadsBack.{endOf, Holds, toldOf, GivesBack, ClosedAt}
+use Rattle.guarantees.specs.ReadsBack.{endOf, Holds, toldOf, GivesBack, ReadsBack}
 use Rattle.guarantees.proofs.Accepts.{accepts}
 use Rattle.guarantees.proofs.Tells.{tells-token, tells-body, tells-end, tells-item, tells-none}
-use Rattle.guarantees.proofs.Models.{forms-append, length-forms, values-append, length-values, bytes-closed}
-use Rattle.guarantees.proofs.Kept.{Finished, Staged, Kept, holds-fit, start-lt, closes-near, closes-far}
+use Rattle.guarantees.proofs.Models.{forms-append, length-forms, values-append, length-values, start-lt, bytes-closed}
+use Rattle.guarantees.proofs.Kept.{Finished, Staged, Kept, holds-fit, closes-near, closes-far}
 use Rattle.guarantees.proofs.Fine.{Fine, fine-given, kept-given, kind-le, target-form, kept-values}
 
 -- ---- parts as tokens
@@ -148,12 +148,12 @@ module _ (b : Model) (d entry : ℕ) (k : Kept Fine b) (c : b .stage ≡ closed 
 -- ---- an accepted close
 
 pub model-reads-back : (cs : List Call) → Each Given cs → (n m e : ℕ)
-    → let b = notes cs blank n m .model in judgeOf (ends e) b n m ≡ ok tt → ClosedAt b e (takenOf (ends e) b)
+    → let b = notes cs blank n m .model in judgeOf (ends e) b n m ≡ ok tt → ReadsBack b e (bytesOf (takenOf (ends e) b))
 model-reads-back cs g n m e q =
     let b = notes cs blank n m .model in
     let k = kept-given cs g n m in
     let fine = fine-given (close e) tt (λ four. absurd (omega arith)) in
     record {
-      near = λ h. let c = closes-near Fine b n m k e q h in rw (le-ltb 255 (backTo e b) h) (refl, model-gives-back _ _ _ (c .kept) refl (c .named));
-      far = λ h. let c = closes-far Fine b n m k e q fine h in rw (lt-ltb 255 (backTo e b) h) (refl, model-gives-back _ _ _ (c .kept) refl (c .named));
+      near = λ h. let c = closes-near Fine b n m k e q h in rw (le-ltb 255 (backTo e b) h) (model-gives-back _ _ _ (c .kept) refl (c .named));
+      far = λ h. let c = closes-far Fine b n m k e q fine h in rw (lt-ltb 255 (backTo e b) h) (model-gives-back _ _ _ (c .kept) refl (c .named));
     }

@@ -29,7 +29,7 @@ use Rattle.values.proofs.Laws.{bytes-append, region-append, starts-append, item
 use Rattle.writer.specs.Step.{Call, close}
 use Rattle.writer.specs.Given.{Given}
 use Rattle.guarantees.specs.Model.{Part, Plain, plain, formOf, formsOf, valuesAt, Line, adds, ends, lineOf, between, within, closed, Model, model, blank, roomOf, backTo, bytesOf, startsOf, owes, owed, grown, isClosed, firstOf, judgeOf, settle, takenOf}
-use Rattle.guarantees.specs.History.{noted, kept, notes}
+use Rattle.guarantees.specs.History.{notes}
 use Rattle.guarantees.specs.Rewrites.{callOf, callsAt, callsOf, rewriting, AllOk}
 use Rattle.guarantees.specs.ReadsBack.{endOf}
 use Rattle.guarantees.proofs.Files.{bytes-front}

@@ -8,10 +8,10 @@ use Prim.Native.Nat.{ℕ}
 use mathlib.Core.Path.{_≡_}
 use mathlib.Core.List.{List, [], _∷_}
 use lib.ListN.{length, take}
-use Rattle.prelude.specs.Answer.{Answer, ok, error}
+use Rattle.prelude.specs.Answer.{ok, error}
 use Rattle.writer.specs.Step.{Call, Verdict, step}
 use Rattle.writer.specs.declared.Writer.{Writer}
-use Rattle.guarantees.specs.Model.{Model, Line, lineOf, judgeOf, takenOf, bytesOf, startsOf, owed, isClosed}
+use Rattle.guarantees.specs.Model.{Model, lineOf, judgeOf, takenOf, bytesOf, startsOf, owed, isClosed}
 
 pub record Ran : Type 0 where
   pub answers : List Verdict

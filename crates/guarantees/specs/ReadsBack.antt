@@ -5,7 +5,8 @@
 --   GivesBack file vs entry
 --                      check, with enough words, accepts the file, with the starts of vs and this entry; reading, items and bodies tell
 --                      the values vs
---   ClosedAt b e c     c is the model b closed at e, and its bytes are read back
+--   ReadsBack b e file the file of a model that was b and was then closed at e gives back b's values, and where one was needed the pointer; the
+--                      entry is where document 01 has it
 use Prim.Native.Nat.{ℕ, _+_, _-_, _≤_, _<_}
 use mathlib.Core.Path.{_≡_}
 use mathlib.Core.Bool.{false}
@@ -59,12 +60,8 @@ pub record GivesBack (file : List ℕ) (vs : List Plain) (entry : ℕ) : Type 0 
   pub none : (a : List Plain) (v : Plain) (b : List Plain) → vs ≡ a ++ (v ∷ b) → immediate (rule (v .head .kind)) ≡ false
       → (i : ℕ) → length (v .items) ≤ i → itemOf file (endOf a) i ≡ error (fault NO_ITEM (endOf a))
 
-pub record ClosedAt (b : Model) (e : ℕ) (c : Model) : Type 0 where
-  -- the delta byte reaches back to e
-  pub near : backTo e b ≤ 255 → (c ≡ model (b .finished) (closed (backTo e b))) × GivesBack (bytesOf c) (b .finished) e
-  -- a pointer to e is the last value, and the entry
-  pub far : 255 < backTo e b
-      → let p = part 15 e 0 [] in
-      let vs = b .finished ++ (plain p [] ∷ []) in
-      let w = length (bytesOf b) in
-      (c ≡ model vs (closed (length (emit (formOf w p)) - 1))) × GivesBack (bytesOf c) vs w
+pub record ReadsBack (b : Model) (e : ℕ) (file : List ℕ) : Type 0 where
+  -- the delta byte reaches back to the value at e, which is the entry
+  pub near : backTo e b ≤ 255 → GivesBack file (b .finished) e
+  -- a pointer to it is the last value, and the entry
+  pub far : 255 < backTo e b → GivesBack file (b .finished ++ (plain (part 15 e 0 []) [] ∷ [])) (length (bytesOf b))
