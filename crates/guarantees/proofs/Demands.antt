@@ -3,7 +3,7 @@
 -- In order: the values of an accepted file, written again, are the same bytes (`rewrites`); a file that was closed is read back (`reads-back`), and each
 -- call after it is CLOSED (`closed-after`).
 use mathlib.Core.Path.{_≡_, sym, ap, _∙_, subst}
-use mathlib.Core.List.{List, [], _∷_, _++_}
+use mathlib.Core.List.{List, _∷_, _++_}
 use Prim.Native.Nat.{ℕ, _+_, _≤_}
 use native.Mathlib.Omega.{arith}
 use lib.ListN.{length, take, drop, getD}

@@ -137,6 +137,7 @@ module _ (b : Model) (d entry : ℕ) (k : Kept Fine b) (c : b .stage ≡ closed 
 
   pub model-gives-back : GivesBack file vs entry
   model-gives-back = record {
+    wellFormed = well-formed;
     accepted = accepted;
     read = read;
     body = body;

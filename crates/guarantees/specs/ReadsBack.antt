@@ -3,11 +3,11 @@
 --   Holds vs j q p     p is a part of value number j of the values vs, its head or an item, and its header is at q
 --   toldOf q p         what reading must tell of p at q: of a reference or pointer the offset that was handed in
 --   GivesBack file vs entry
---                      check, with enough words, accepts the file, with the starts of vs and this entry; reading, items and bodies tell
---                      the values vs
+--                      the file is well formed, with the values vs; check, with enough words, accepts it, with their starts and this entry;
+--                      reading, items and bodies tell the values vs
 --   ReadsBack b e file the file of a model that was b and was then closed at e gives back b's values, and where one was needed the pointer; the
 --                      entry is where document 01 has it
-use Prim.Native.Nat.{ℕ, _+_, _-_, _≤_, _<_}
+use Prim.Native.Nat.{ℕ, _+_, _≤_, _<_}
 use mathlib.Core.Path.{_≡_}
 use mathlib.Core.Bool.{false}
 use mathlib.Core.Logic.{_⊎_}
@@ -18,15 +18,14 @@ use Rattle.prelude.specs.Pick.{pick}
 use Rattle.prelude.specs.Answer.{ok, error}
 use Rattle.error.specs.Error.{fault, NO_ITEM}
 use Rattle.kind.specs.Kind.{rule, immediate}
-use Rattle.token.specs.Token.{emit}
-use Rattle.values.specs.Values.{tokens, bytes, region, starts}
+use Rattle.values.specs.Values.{tokens, bytes, region, starts, WellFormed}
 use Rattle.reader.specs.Read.{readOf}
 use Rattle.reader.specs.Query.{skipOf, itemOf, bodyBytes}
 use Rattle.reader.specs.declared.Value.{Value}
 use Rattle.reader.specs.declared.Value.the-variants.{Reference, Pointer}
 use Rattle.checker.specs.Check.{checked, filled, checkOf}
 use Rattle.guarantees.specs.Tells.{tellOf}
-use Rattle.guarantees.specs.Model.{Part, part, Plain, plain, formOf, formsOf, valueAt, valuesAt, closed, Model, model, bytesOf, backTo}
+use Rattle.guarantees.specs.Model.{Part, part, Plain, plain, formOf, formsOf, valueAt, valuesAt, Model, bytesOf, backTo}
 
 -- where the value behind the values vs starts
 abbrev pub endOf : List Plain → ℕ
@@ -47,6 +46,7 @@ unfoldable pub toldOf : ℕ → Part → Value
 toldOf q p = pick (leb 14 (p .kind)) (pick (eqb (p .kind) 14) (Reference (p .number)) (Pointer (p .number))) (tellOf q (formOf q p))
 
 pub record GivesBack (file : List ℕ) (vs : List Plain) (entry : ℕ) : Type 0 where
+  pub wellFormed : WellFormed file (valuesAt 0 vs) entry
   -- count, entry and starts
   pub accepted : (cap : ℕ) → length vs ≤ cap → checkOf file cap ≡ checked (ok (length vs, entry)) (filled cap (starts 0 (valuesAt 0 vs)))
   -- kinds, numbers and targets, of values and items
