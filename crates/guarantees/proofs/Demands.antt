@@ -15,7 +15,7 @@ use Rattle.values.specs.Values.{Value, starts, Each, WellFormed}
 use Rattle.checker.specs.Check.{checkOf}
 use Rattle.writer.specs.Step.{Call, close, fresh}
 use Rattle.writer.specs.Given.{Given}
-use Rattle.guarantees.specs.Model.{ends, Model, blank, bytesOf, judgeOf, takenOf}
+use Rattle.guarantees.specs.Model.{ends, Model, blank, judgeOf, takenOf}
 use Rattle.guarantees.specs.History.{runs, Noted, notes}
 use Rattle.guarantees.specs.ReadsBack.{ReadsBack}
 use Rattle.guarantees.specs.Rewrites.{rewriting, AllOk}
@@ -87,9 +87,8 @@ module _ (cs more : List Call) (e : ℕ) (out table : List ℕ) where
 
     -- of every list of calls with an accepted close among them, whatever came before it and after it: the output's first w bytes are a file that is
     -- read back as the model's finished values
-    pub reads-back : Each Given cs → let r = runs all fresh out table in ReadsBack b e (take (r .writer .written) (r .out))
-    reads-back given =
-        subst (ReadsBack b e) (sym (history all out table .1 .bytes ∙ ap bytesOf ended)) (model-reads-back cs given n m e judged)
+    pub reads-back : Each Given cs → let r = runs all fresh out table in ReadsBack b e (notes all blank n m .model) (take (r .writer .written) (r .out))
+    reads-back given = rw (history all out table .1 .bytes, ended) (model-reads-back cs given n m e judged)
 
     pub closed-after : Each (λ v. v ≡ error CLOSED) (drop (length cs + 1) (runs all fresh out table .answers))
     unfolding notes

@@ -60,3 +60,5 @@ pub mod ReadsBack
 pub mod Said
 -- demands 2 and 3 of the writer
 pub mod Demands
+-- lists of calls write their bytes
+pub mod Written

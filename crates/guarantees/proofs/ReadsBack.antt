@@ -4,7 +4,7 @@
 -- model are a well-formed file, and the reader gives back its values (`model-gives-back`); so it is of an accepted close, behind any calls whose
 -- arguments are of their widths (`model-reads-back`).
 use mathlib.Core.Path.{_≡_, refl, ap, _∙_, subst}
-use mathlib.Core.Bool.{false}
+use mathlib.Core.Bool.{true, false}
 use mathlib.Core.Logic.{_⊎_}
 use mathlib.Core.List.{List, [], _∷_, _++_}
 use Prim.Native.Nat.{ℕ, _+_, _-_, _≤_}
@@ -14,23 +14,23 @@ use borrow.Author.Tests.{lt-leb, lt-ltb, le-ltb}
 use lib.ListN.{length, length-append}
 use Rattle.prelude.specs.Answer.{ok, error}
 use Rattle.prelude.proofs.Tests.{split}
-use Rattle.error.specs.Error.{fault, NO_ITEM}
+use Rattle.error.specs.Error.{fault, NO_ITEM, WRONG_KIND}
 use Rattle.kind.specs.Kind.{rule, immediate}
 use Rattle.token.specs.Token.{Token, emit}
 use Rattle.values.specs.Values.{tokens, bytes, starts, Each, WellFormed}
 use Rattle.reader.specs.Read.{readOf}
-use Rattle.reader.specs.Query.{itemOf, bodyBytes}
+use Rattle.reader.specs.Query.{itemOf, bodyOf, bodyBytes}
 use Rattle.reader.specs.declared.Value.the-variants.{Reference, Pointer}
 use Rattle.writer.specs.Step.{Call, close}
 use Rattle.writer.specs.Given.{Given}
 use Rattle.checker.specs.Check.{checked, filled, checkOf}
-use Rattle.guarantees.specs.Tells.{tellOf}
+use Rattle.guarantees.specs.Tells.{behind, tellOf}
 use Rattle.guarantees.specs.Places.{Stands}
 use Rattle.guarantees.specs.Model.{Part, ends, Plain, formOf, formsOf, valueAt, valuesAt, closed, Model, model, blank, bytesOf, backTo, judgeOf, takenOf}
 use Rattle.guarantees.specs.History.{notes}
 use Rattle.guarantees.specs.ReadsBack.{endOf, Holds, toldOf, GivesBack, ReadsBack}
 use Rattle.guarantees.proofs.Accepts.{accepts}
-use Rattle.guarantees.proofs.Tells.{tells-token, tells-body, tells-end, tells-item, tells-none}
+use Rattle.guarantees.proofs.Tells.{tells-token, tells-body, tells-end, tells-item, tells-none, tells-leaf}
 use Rattle.guarantees.proofs.Models.{forms-append, length-forms, values-append, length-values, start-lt, bytes-closed}
 use Rattle.guarantees.proofs.Kept.{Finished, Staged, Kept, holds-fit, closes-near, closes-far}
 use Rattle.guarantees.proofs.Fine.{Fine, fine-given, kept-given, kind-le, target-form, kept-values}
@@ -109,9 +109,10 @@ module _ (b : Model) (d entry : ℕ) (k : Kept Fine b) (c : b .stage ≡ closed 
   read j q p h =
       tells-token file (valuesAt 0 vs) entry well-formed j q (formOf q p) (holds-stands vs j q p h) ∙ ap ok (told-form vs j q p h (k .finished))
 
-  body : (j q : ℕ) (p : Part) → Holds vs j q p → (p .kind ≡ 4) ⊎ (p .kind ≡ 5) → bodyBytes file q ≡ p .body
+  body : (j q : ℕ) (p : Part) → Holds vs j q p → (p .kind ≡ 4) ⊎ (p .kind ≡ 5)
+      → (bodyOf file q ≡ ok (behind q (formOf q p) - length (p .body), length (p .body))) × (bodyBytes file q ≡ p .body)
   unfolding formOf
-  body j q p h own = tells-body file (valuesAt 0 vs) entry well-formed j q (formOf q p) (holds-stands vs j q p h) own .1
+  body j q p h own = tells-body file (valuesAt 0 vs) entry well-formed j q (formOf q p) (holds-stands vs j q p h) own
 
   module _ (a : List Plain) (v : Plain) (z : List Plain) (e : vs ≡ a ++ (v ∷ z)) where
     abbrev at : ℕ
@@ -135,26 +136,31 @@ module _ (b : Model) (d entry : ℕ) (k : Kept Fine b) (c : b .stage ≡ closed 
         let long = length-forms (at + length (emit (formOf at (v .head)))) (v .items) in
         tells-none file (valuesAt 0 vs) entry well-formed (valuesAt 0 a) (valueAt at v) _ (values-at vs a v z e) i (omega arith) has
 
+    flat : immediate (rule (v .head .kind)) ≡ true → (i : ℕ) → itemOf file at i ≡ error (fault WRONG_KIND at)
+    unfolding formOf
+    flat one i = tells-leaf file (valuesAt 0 vs) entry well-formed (valuesAt 0 a) (valueAt at v) _ (values-at vs a v z e) i one
+
   pub model-gives-back : GivesBack file vs entry
   model-gives-back = record {
     wellFormed = well-formed;
     accepted = accepted;
     read = read;
     body = body;
-    ends = λ a v z e. tells-end file (valuesAt 0 vs) entry well-formed (valuesAt 0 a) (valueAt (endOf a) v) _ (values-at vs a v z e);
+    skip = λ a v z e. tells-end file (valuesAt 0 vs) entry well-formed (valuesAt 0 a) (valueAt (endOf a) v) _ (values-at vs a v z e);
     item = item;
     none = none;
+    flat = flat;
   }
 
 -- ---- an accepted close
 
 pub model-reads-back : (cs : List Call) → Each Given cs → (n m e : ℕ)
-    → let b = notes cs blank n m .model in judgeOf (ends e) b n m ≡ ok tt → ReadsBack b e (bytesOf (takenOf (ends e) b))
+    → let b = notes cs blank n m .model in judgeOf (ends e) b n m ≡ ok tt → ReadsBack b e (takenOf (ends e) b) (bytesOf (takenOf (ends e) b))
 model-reads-back cs g n m e q =
     let b = notes cs blank n m .model in
     let k = kept-given cs g n m in
     let fine = fine-given (close e) tt (λ four. absurd (omega arith)) in
     record {
-      near = λ h. let c = closes-near Fine b n m k e q h in rw (le-ltb 255 (backTo e b) h) (model-gives-back _ _ _ (c .kept) refl (c .named));
-      far = λ h. let c = closes-far Fine b n m k e q fine h in rw (lt-ltb 255 (backTo e b) h) (model-gives-back _ _ _ (c .kept) refl (c .named));
+      near = λ h. let c = closes-near Fine b n m k e q h in rw (le-ltb 255 (backTo e b) h) (refl, model-gives-back _ _ _ (c .kept) refl (c .named));
+      far = λ h. let c = closes-far Fine b n m k e q fine h in rw (lt-ltb 255 (backTo e b) h) (refl, model-gives-back _ _ _ (c .kept) refl (c .named));
     }

@@ -3,7 +3,8 @@
 --   Ran, runs cs ..    the answers of the calls cs one after the other, each given the state, output and table that the one before left; and
 --                      what the last left
 --   Noted, notes cs .. the answers of the reference model, with an output of n bytes and a table of m words, and the model behind the last
---   Agree ..           the bytes written and the starts listed are the model's, with the items pending and the close
+--   Agree ..           the bytes written and the starts listed are the model's, with the items pending and the close. Nothing is said here of the
+--                      output and the table behind them
 use Prim.Native.Nat.{ℕ}
 use mathlib.Core.Path.{_≡_}
 use mathlib.Core.List.{List, [], _∷_}

@@ -18,3 +18,5 @@ pub mod ReadsBack
 pub mod Rewrites
 -- what reading must tell of what a call wrote
 pub mod Said
+-- lists of calls, and the bytes that they write
+pub mod Written

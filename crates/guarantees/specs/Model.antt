@@ -1,9 +1,11 @@
 -- The reference model of the writer (document 01's plain book), in terms of values alone: no buffer, no table, no state that is handed in.
 --
---   Part               what a call puts down: its kind, its number, the argument count of a variant of many, and its body. The number of a
---                      reference or pointer is its target, the offset that was handed in
+--   Part               what a call puts down: its kind, its number, the argument count of a variant of many, and its body. The number is the
+--                      table's n (of a text or byte string its length, of a float 0 for 4 bytes and 1 for 8), but of a reference or pointer its
+--                      target, the offset that was handed in
 --   Line, lineOf c     what the call c asks for: a part, or a close at an offset
---   formOf q p         the token of p in the form of a file, with its header at q: a target is told by its distance
+--   formOf q p         the token of p in the form of a file, with its header at q: a target is told by its distance. `-` stops at 0: where the
+--                      target is not below q, it is no start and p is BAD_TARGET
 --   Plain              a value: the part that began it, and the items that it has taken
 --   valueAt, valuesAt  values in the form of a file, the first at an offset
 --   Stage              no value is open; one is, as far as it got; or the model is closed, with this delta byte
@@ -15,7 +17,9 @@
 --   settle vs v        v behind the finished values vs: finished when no item of it is pending, and else open
 --   firstOf ..         the first reason to refuse, in document 01's order. BAD_STATE is none: the model is handed no state
 --   roomOf b n         the bytes left for parts, with an output of n bytes
---   judgeOf l b n m    the answer to what a call asks for, with an output of n bytes and a table of m words
+--   backTo e b         the delta that would name the value at e
+--   judgeOf l b n m    the answer to what a call asks for, with an output of n bytes and a table of m words. Each value has a byte, so that the
+--                      model's starts are all below its bytes, as targets must be
 --   takenOf l b        the model after what was accepted
 use Prim.Native.Nat.{ℕ, _+_, _-_, min}
 use mathlib.Core.Bool.{Bool, true, false, not, _&&_}
@@ -159,7 +163,6 @@ firstOf isClosed isOwed isBadText isBadTarget isFull hasNoRoom =
 abbrev pub roomOf : Model → ℕ → ℕ
 roomOf b n = min n LIMIT - 1 - length (bytesOf b)
 
--- how far the bytes reach behind the value at e
 abbrev pub backTo : ℕ → Model → ℕ
 backTo e b = length (bytesOf b) - e - 1
 

@@ -1,31 +1,34 @@
 -- What the reader gives back of a file that the writer closed, in terms of the reference model's values.
 --
 --   Holds vs j q p     p is a part of value number j of the values vs, its head or an item, and its header is at q
+--   Names b j q p      p at q, a part of value number j of the model b, names a finished value before that one: its start is p's number, the offset
+--                      that was handed in
 --   toldOf q p         what reading must tell of p at q: of a reference or pointer the offset that was handed in
 --   GivesBack file vs entry
 --                      the file is well formed, with the values vs; check, with enough words, accepts it, with their starts and this entry;
 --                      reading, items and bodies tell the values vs
---   ReadsBack b e file the file of a model that was b and was then closed at e gives back b's values, and where one was needed the pointer; the
---                      entry is where document 01 has it
-use Prim.Native.Nat.{ℕ, _+_, _≤_, _<_}
+--   ReadsBack b e c file
+--                      the model was b before it was closed at e, and is c behind that: c's values are b's, and where one was needed the pointer;
+--                      the file gives them back, with the entry where document 01 has it
+use Prim.Native.Nat.{ℕ, _+_, _-_, _≤_, _<_}
 use mathlib.Core.Path.{_≡_}
-use mathlib.Core.Bool.{false}
+use mathlib.Core.Bool.{true, false}
 use mathlib.Core.Logic.{_⊎_}
 use mathlib.Core.List.{List, [], _∷_, _++_}
 use lib.Dec.{eqb, leb}
-use lib.ListN.{length}
+use lib.ListN.{length, getD}
 use Rattle.prelude.specs.Pick.{pick}
 use Rattle.prelude.specs.Answer.{ok, error}
-use Rattle.error.specs.Error.{fault, NO_ITEM}
+use Rattle.error.specs.Error.{fault, NO_ITEM, WRONG_KIND}
 use Rattle.kind.specs.Kind.{rule, immediate}
 use Rattle.values.specs.Values.{tokens, bytes, region, starts, WellFormed}
 use Rattle.reader.specs.Read.{readOf}
-use Rattle.reader.specs.Query.{skipOf, itemOf, bodyBytes}
+use Rattle.reader.specs.Query.{skipOf, itemOf, bodyOf, bodyBytes}
 use Rattle.reader.specs.declared.Value.{Value}
 use Rattle.reader.specs.declared.Value.the-variants.{Reference, Pointer}
 use Rattle.checker.specs.Check.{checked, filled, checkOf}
-use Rattle.guarantees.specs.Tells.{tellOf}
-use Rattle.guarantees.specs.Model.{Part, part, Plain, plain, formOf, formsOf, valueAt, valuesAt, Model, bytesOf, backTo}
+use Rattle.guarantees.specs.Tells.{behind, tellOf}
+use Rattle.guarantees.specs.Model.{Part, part, Plain, plain, formOf, formsOf, valueAt, valuesAt, Model, bytesOf, startsOf, backTo}
 
 -- where the value behind the values vs starts
 abbrev pub endOf : List Plain → ℕ
@@ -42,6 +45,12 @@ pub record Holds (vs : List Plain) (j q : ℕ) (p : Part) : Type 0 where
   pub parts : value .head ∷ value .items ≡ front ++ (p ∷ back)
   pub place : q ≡ endOf before + length (bytes (formsOf (endOf before) front))
 
+pub record Names (b : Model) (j q : ℕ) (p : Part) : Type 0 where
+  pub number : ℕ
+  pub earlier : number < j
+  pub start : getD (startsOf b) number 0 ≡ p .number
+  pub behind : p .number < q
+
 unfoldable pub toldOf : ℕ → Part → Value
 toldOf q p = pick (leb 14 (p .kind)) (pick (eqb (p .kind) 14) (Reference (p .number)) (Pointer (p .number))) (tellOf q (formOf q p))
 
@@ -51,17 +60,21 @@ pub record GivesBack (file : List ℕ) (vs : List Plain) (entry : ℕ) : Type 0 
   pub accepted : (cap : ℕ) → length vs ≤ cap → checkOf file cap ≡ checked (ok (length vs, entry)) (filled cap (starts 0 (valuesAt 0 vs)))
   -- kinds, numbers and targets, of values and items
   pub read : (j q : ℕ) (p : Part) → Holds vs j q p → readOf file q ≡ ok (toldOf q p)
-  pub body : (j q : ℕ) (p : Part) → Holds vs j q p → (p .kind ≡ 4) ⊎ (p .kind ≡ 5) → bodyBytes file q ≡ p .body
-  -- where a value ends, where its items start, and that there are no more
-  pub ends : (a : List Plain) (v : Plain) (b : List Plain) → vs ≡ a ++ (v ∷ b)
+  pub body : (j q : ℕ) (p : Part) → Holds vs j q p → (p .kind ≡ 4) ⊎ (p .kind ≡ 5)
+      → (bodyOf file q ≡ ok (behind q (formOf q p) - length (p .body), length (p .body))) × (bodyBytes file q ≡ p .body)
+  -- where a value ends; where its items start, that there are no more, and that an immediate has none
+  pub skip : (a : List Plain) (v : Plain) (b : List Plain) → vs ≡ a ++ (v ∷ b)
       → skipOf file (endOf a) ≡ ok (endOf a + length (bytes (tokens (valueAt (endOf a) v))))
   pub item : (a : List Plain) (v : Plain) (b : List Plain) → vs ≡ a ++ (v ∷ b) → (is : List Part) (p : Part) (js : List Part) → v .items ≡ is ++ (p ∷ js)
       → itemOf file (endOf a) (length is) ≡ ok (endOf a + length (bytes (formsOf (endOf a) (v .head ∷ is))))
   pub none : (a : List Plain) (v : Plain) (b : List Plain) → vs ≡ a ++ (v ∷ b) → immediate (rule (v .head .kind)) ≡ false
       → (i : ℕ) → length (v .items) ≤ i → itemOf file (endOf a) i ≡ error (fault NO_ITEM (endOf a))
+  pub flat : (a : List Plain) (v : Plain) (b : List Plain) → vs ≡ a ++ (v ∷ b) → immediate (rule (v .head .kind)) ≡ true
+      → (i : ℕ) → itemOf file (endOf a) i ≡ error (fault WRONG_KIND (endOf a))
 
-pub record ReadsBack (b : Model) (e : ℕ) (file : List ℕ) : Type 0 where
+pub record ReadsBack (b : Model) (e : ℕ) (c : Model) (file : List ℕ) : Type 0 where
   -- the delta byte reaches back to the value at e, which is the entry
-  pub near : backTo e b ≤ 255 → GivesBack file (b .finished) e
-  -- a pointer to it is the last value, and the entry
-  pub far : 255 < backTo e b → GivesBack file (b .finished ++ (plain (part 15 e 0 []) [] ∷ [])) (length (bytesOf b))
+  pub near : backTo e b ≤ 255 → (c .finished ≡ b .finished) × GivesBack file (c .finished) e
+  -- a pointer to it comes last, and is the entry
+  pub far : 255 < backTo e b
+      → (c .finished ≡ b .finished ++ (plain (part 15 e 0 []) [] ∷ [])) × GivesBack file (c .finished) (length (bytesOf b))

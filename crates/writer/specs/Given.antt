@@ -1,5 +1,6 @@
 -- The arguments that calls are given (document 01, "Writer": "integers are signed 64-bit, tags and counts unsigned 64-bit, variant indexes
--- unsigned 32-bit"). Float bits have their own width, a text or byte string is bytes and counted in 64 bits, and an offset may be any.
+-- unsigned 32-bit"). Float bits have their own width, a text or byte string is bytes and counted in 64 bits, and an offset may be any. The parameters
+-- of the calls in src/lib.rt are of these types, so that every call of a program has such arguments.
 --
 --   Given c    the arguments of the call c have these widths
 use Prim.Native.Nat.{_<_, _^_}
