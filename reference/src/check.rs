@@ -1,0 +1,283 @@
+//! Checking a file.
+
+use crate::error::Error;
+use crate::scan::{scan, Checked, Note};
+
+/// Checks a file: the count of its values and its entry, or the first fault.
+///
+/// "Accepted: count, entry, the starts in rising order, every other word 0. Refused: every word 0."
+pub fn check(file: &[u8], starts: &mut [u32]) -> Result<Checked, Error> {
+    let answer = scan(file, starts, &mut Nothing);
+    let used = answer.map_or(0, |checked| checked.count);
+    starts[used..].fill(0);
+    answer
+}
+
+/// Check notes nothing besides the starts.
+struct Nothing;
+
+impl Note for Nothing {
+    #[inline(always)]
+    fn target(&mut self, _: usize) {}
+
+    #[inline(always)]
+    fn finished(&mut self, _: usize) {}
+}
+
+#[cfg(test)]
+mod tests {
+    use super::*;
+    use crate::error::ErrorKind::{self, *};
+    use crate::leb128;
+    use crate::testing::{hex, refusal, JUNK};
+    use crate::MAX_LEN;
+
+    /// Checks a file with a table of `words` words and looks at the words that have to be 0.
+    fn checked(words: usize, file: &[u8]) -> Result<(usize, Vec<u32>), Error> {
+        let mut starts = vec![JUNK; words];
+        let answer = check(file, &mut starts);
+        let rest = starts.split_off(answer.map_or(0, |checked| checked.count));
+        assert!(rest.iter().all(|word| *word == 0));
+        answer.map(|checked| {
+            assert!(starts.is_sorted());
+            (checked.entry, starts)
+        })
+    }
+
+    fn accepted(file: &str, entry: usize, starts: &[u32]) {
+        let file = hex(file);
+        assert_eq!(checked(40, &file), Ok((entry, starts.to_vec())));
+        assert_eq!(checked(starts.len(), &file), Ok((entry, starts.to_vec())));
+        let full = refusal(Full, u64::from(starts[starts.len() - 1]));
+        assert_eq!(checked(starts.len() - 1, &file), Err(full));
+    }
+
+    fn refused(file: &str, kind: ErrorKind, place: u64) {
+        assert_eq!(checked(40, &hex(file)), Err(refusal(kind, place)), "{file}");
+    }
+
+    #[test]
+    fn samples_of_document_01() {
+        refused("", Empty, 0);
+        refused("00", BadEntry, 0);
+        accepted("00 00", 0, &[0]);
+        accepted(
+            "45 68 65 6c 6c 6f 61 f6 62 f8 f3 72 41 61 f5 41 78 01 06",
+            11,
+            &[0, 6, 8, 11],
+        );
+        accepted("61 1f 1b 64 f3 11 12 13 04", 3, &[0, 3]);
+        refused("61 f0 01", BadTarget, 1);
+        accepted("1f 1b e1 00", 2, &[0, 2]);
+        refused("1f 80 00 02", Overlong, 0);
+        refused("61 61 00 02", Nested, 1);
+        refused("7f f1 ff ff ff ff ff ff ff 7f 00", Trunc, 0);
+        accepted("2f f0 ff ff ff ff ff ff ff 7f 09", 0, &[0]);
+        refused("1f f1 ff ff ff ff ff ff ff 7f 09", Range, 0);
+        refused("42 c3 28 02", BadText, 0);
+        refused("41 61 41 61 00", BadEntry, 4);
+        refused("41 61 41 61 05", BadEntry, 4);
+    }
+
+    #[test]
+    fn rows_of_document_000() {
+        accepted("1f 1b 01", 0, &[0]);
+        accepted("21 00", 0, &[0]);
+        accepted("2f 0b 01", 0, &[0]);
+        accepted("31 00 00 00 00 00 40 45 40 08", 0, &[0]);
+        accepted(
+            "4f 02 68 65 6c 6c 6f 20 77 6f 72 6c 64 21 20 f0 9f 98 81 12",
+            0,
+            &[0],
+        );
+        accepted("61 1f 1b 64 f3 11 12 13 07", 0, &[0, 3]);
+        accepted("72 41 61 1f 1b 41 62 00 07", 0, &[0]);
+        accepted("1f 1b e1 02", 0, &[0, 2]);
+        accepted("1f 1b f1 00", 2, &[0, 2]);
+    }
+
+    #[test]
+    fn numbers() {
+        let ten = "80 80 80 80 80 80 80 80 80 80";
+        refused(&format!("1f {ten} 00"), Range, 0);
+        refused(&format!("1f {} 00", &ten[3..]), Trunc, 0);
+        refused(&format!("1f {} 00 0a", &ten[3..]), Overlong, 0);
+        let most = "ff ff ff ff ff ff ff ff 01";
+        refused(&format!("4f f1 {most} 00"), Range, 0);
+        refused(&format!("4f f0 {most} 00"), Trunc, 0);
+        refused(&format!("6f f1 {most} 00"), Range, 0);
+        refused(&format!("ff f0 {most} 00"), BadTarget, 0);
+        refused(&format!("ef f1 {most} 00"), Range, 0);
+        accepted(&format!("8f f0 {most} 10 0b"), 0, &[0]);
+        accepted("1f 00 01", 0, &[0]);
+        refused("10 ff f1 ff ff ff 0f 00", BadTarget, 1);
+    }
+
+    #[test]
+    fn argument_counts() {
+        let fifteen = "10".repeat(15);
+        accepted(&format!("c0 0f {fifteen} 10"), 0, &[0]);
+        refused(&format!("c0 0f {fifteen} 0f"), BadEntry, 17);
+        refused("cf f1 ff ff ff 0f 00", Range, 0);
+        refused("cf f0 ff ff ff 0f 00", Trunc, 0);
+        accepted("cf f0 ff ff ff 0f 00 06", 0, &[0]);
+        refused("c0 ff ff ff ff ff ff ff ff ff 01 00", Trunc, 0);
+        refused("c0 ff ff ff ff ff ff ff ff ff 02 00", Range, 0);
+        refused("c0 80 00 00", Overlong, 0);
+        refused("c3 00", Trunc, 0);
+    }
+
+    #[test]
+    fn items_wanted_at_the_end() {
+        refused("80 00", Trunc, 1);
+        refused("b0 00", Trunc, 1);
+        refused("62 41 61 00", Trunc, 3);
+        refused("10 80 00", Trunc, 2);
+    }
+
+    #[test]
+    fn counts_and_lengths() {
+        refused("63 90 90 00", Trunc, 0);
+        refused("62 90 90 00", Reserved, 1);
+        refused("61 45 61 00", Trunc, 1);
+        accepted("71 10 11 12 03", 0, &[0, 3]);
+        refused("72 10 11 12 03", Trunc, 0);
+        refused("71 10 00", Trunc, 0);
+        refused("7f f1 ff ff ff ff ff ff ff 7f 10 11 0b", Trunc, 0);
+        refused("7f f2 ff ff ff ff ff ff ff 7f 10 11 0b", Trunc, 0);
+        refused("45 68 65 6c 6c 6f", Trunc, 0);
+        refused("30 00 00 00 00", Trunc, 0);
+        accepted("30 00 00 00 00 04", 0, &[0]);
+    }
+
+    #[test]
+    fn tables_without_words() {
+        assert_eq!(checked(0, &[]), Err(refusal(Empty, 0)));
+        assert_eq!(checked(0, &[0]), Err(refusal(BadEntry, 0)));
+        assert_eq!(checked(0, &hex("90 00")), Err(refusal(Full, 0)));
+        assert_eq!(checked(1, &hex("10 90 00")), Err(refusal(Full, 1)));
+        assert_eq!(checked(1, &hex("90 10 00")), Err(refusal(Reserved, 0)));
+        let long = vec![0; MAX_LEN + 1];
+        assert_eq!(checked(3, &long), Err(refusal(TooLong, 0)));
+    }
+
+    #[test]
+    fn reserved_before_nested_before_the_number() {
+        refused("61 90 00", Reserved, 1);
+        refused("61 03 00", Reserved, 1);
+        refused("61 6f 00", Nested, 1);
+        refused("6f 00", Trunc, 0);
+    }
+
+    #[test]
+    fn targets() {
+        accepted("10 f0 e0 f0 00", 3, &[0, 1, 2, 3]);
+        accepted("61 10 f1 e0 00", 3, &[0, 2, 3]);
+        refused("62 10 11 f1 00", BadTarget, 3);
+        refused("1f 1b f0 00", BadTarget, 2);
+        refused("10 62 10 f1 00", BadTarget, 3);
+        refused("10 62 10 f0 00", BadTarget, 3);
+        refused("10 f1 00", BadTarget, 1);
+        refused("10 62 f0 90 00", BadTarget, 2);
+    }
+
+    #[test]
+    fn texts() {
+        accepted("43 ed a0 80 03", 0, &[0]);
+        accepted("43 e0 80 80 03", 0, &[0]);
+        accepted("44 f4 bf bf bf 04", 0, &[0]);
+        refused("44 f5 80 80 80 04", BadText, 0);
+        refused("42 c1 bf 02", BadText, 0);
+        refused("42 e2 82 02", BadText, 0);
+        refused("41 c2 80 00", BadText, 0);
+        refused("61 41 ff 02", BadText, 1);
+        // The same with bytes behind, which are passed quickly.
+        let behind = "10".repeat(16);
+        refused(&format!("42 c1 bf {behind} 00"), BadText, 0);
+        refused(&format!("41 c2 {behind} 00"), BadText, 0);
+        refused(&format!("42 61 c2 {behind} 00"), BadText, 0);
+    }
+
+    #[test]
+    fn entries() {
+        accepted("10 11 01", 0, &[0, 1]);
+        refused("10 90 01", Reserved, 1);
+        refused("10 11 ff", BadEntry, 2);
+    }
+
+    /// A header with low 15 and its number.
+    fn long_header(kind: u8, n: usize) -> Vec<u8> {
+        let rest = n as u64 - 15;
+        let mut bytes = vec![kind << 4 | 15; 1 + leb128::size(rest)];
+        leb128::write(&mut bytes[1..], rest);
+        bytes
+    }
+
+    /// Byte strings of `length` bytes, then tags that hold a pointer to each of them.
+    fn strings_and_tags(count: usize, length: usize) -> (Vec<u8>, Vec<u32>) {
+        let mut file = Vec::new();
+        let mut starts = Vec::new();
+        for _ in 0..count {
+            starts.push(file.len() as u32);
+            file.extend(long_header(5, length));
+            file.resize(file.len() + length, 0x9f);
+        }
+        for number in 0..count {
+            starts.push(file.len() as u32);
+            file.push(0x81);
+            let distance = file.len() - starts[number] as usize - 1;
+            file.extend(long_header(15, distance));
+        }
+        let delta = file.len() - starts[starts.len() - 1] as usize - 1;
+        file.push(delta as u8);
+        (file, starts)
+    }
+
+    #[test]
+    fn targets_in_other_blocks() {
+        // Regions below and over the length of a small file; starts at the beginning of blocks.
+        for (count, length) in [(7, 6000), (15, 4093), (17, 4093), (90, 1000), (3000, 16)] {
+            let (file, starts) = strings_and_tags(count, length);
+            let entry = starts[starts.len() - 1] as usize;
+            let answer = checked(starts.len(), &file);
+            assert_eq!(answer, Ok((entry, starts.clone())), "{count} of {length}");
+            for number in [0, 1, count / 2, count - 1] {
+                let mut file = file.clone();
+                let pointer = starts[count + number] as usize + 1;
+                file[pointer + 1] ^= 1;
+                let answer = checked(starts.len(), &file);
+                let bad = Err(refusal(BadTarget, pointer as u64));
+                assert_eq!(answer, bad, "{count} of {length}, pointer {number}");
+            }
+        }
+    }
+
+    #[test]
+    fn a_target_inside_a_holder_of_many_blocks() {
+        // The last item targets an item before it, none or more blocks behind the array's start.
+        for distance in [15, 4000, 5000, 9000, 13000] {
+            let mut file = vec![0x10];
+            file.extend(long_header(6, 14_000));
+            file.resize(file.len() + 13_999, 0x10);
+            let pointer = file.len() as u64;
+            file.extend(long_header(15, distance));
+            file.push(0);
+            assert_eq!(checked(9, &file), Err(refusal(BadTarget, pointer)));
+        }
+    }
+
+    #[test]
+    fn the_longest_file() {
+        let mut file = vec![0x10; MAX_LEN];
+        file[MAX_LEN - 1] = 0;
+        let mut starts = vec![JUNK; MAX_LEN];
+        let answer = check(&file, &mut starts);
+        let (count, entry) = (MAX_LEN - 1, MAX_LEN - 2);
+        assert_eq!(answer, Ok(Checked { count, entry }));
+        assert!(starts[..count]
+            .iter()
+            .zip(0..)
+            .all(|(&word, start)| word == start));
+        assert_eq!(starts[count], 0);
+    }
+}

@@ -1,0 +1,36 @@
+//! A second program for Twine plan files, written from the papers alone.
+//!
+//! Documents 000 and 001 describe the format; document 01, "Build requirements and exact rules for plan files", decides. What
+//! stands in quotation marks in this crate is a sentence of document 01.
+//!
+//! Nothing but [`model`] takes memory of its own: files, outputs and tables are lent by the caller.
+
+#![forbid(unsafe_code)]
+#![warn(missing_docs)]
+
+mod call;
+mod check;
+mod depths;
+mod error;
+mod file;
+pub mod kind;
+mod leb128;
+pub mod model;
+pub mod query;
+mod scan;
+#[cfg(test)]
+mod testing;
+mod token;
+mod utf8;
+mod writer;
+
+pub use call::Call;
+pub use check::check;
+pub use depths::depths;
+pub use error::{Error, ErrorKind};
+pub use file::MAX_LEN;
+pub use kind::Scalar;
+pub use query::{body, body_place, follow, item, lookup, read, skip, Value};
+pub use scan::Checked;
+pub use token::{tokens, Token};
+pub use writer::Writer;

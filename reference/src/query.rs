@@ -1,0 +1,511 @@
+//! Questions at an offset of a file that need not be checked.
+//!
+//! "All work on unchecked files: EMPTY, `TOO_LONG`, OUTSIDE, the order above, then `WRONG_KIND`."
+
+use crate::error::{Error, ErrorKind};
+use crate::file;
+use crate::kind::{
+    Scalar, ARRAY, BYTES, FLOAT, MAP, NEGATIVE, POINTER, POSITIVE, SCALAR, TAG, TEXT, VARIANT0,
+    VARIANT1, VARIANT_N,
+};
+use crate::token::{self, Token};
+
+/// A value as its header, its numbers and its fixed body tell it.
+#[derive(Clone, Copy, Debug, PartialEq, Eq)]
+pub enum Value {
+    /// False, true or null.
+    Scalar(Scalar),
+    /// "The integer n" or "the integer -n-1".
+    Integer(i64),
+    /// The bits of a float of 32 bits.
+    Float32(u32),
+    /// The bits of a float of 64 bits.
+    Float64(u64),
+    /// The bytes of a text, which are not looked at.
+    Text(Body),
+    /// The bytes of a byte string.
+    Bytes(Body),
+    /// An array.
+    Array {
+        /// How many items follow.
+        items: u64,
+        /// Where they begin.
+        first: usize,
+    },
+    /// A map.
+    Map {
+        /// How many pairs follow.
+        pairs: u64,
+        /// Where they begin.
+        first: usize,
+    },
+    /// A tag.
+    Tag {
+        /// The tag.
+        tag: u64,
+        /// Where the tagged item begins.
+        first: usize,
+    },
+    /// A variant without an argument.
+    Variant0 {
+        /// The variant index.
+        index: u32,
+    },
+    /// A variant of one argument.
+    Variant1 {
+        /// The variant index.
+        index: u32,
+        /// Where the argument begins.
+        first: usize,
+    },
+    /// A variant of many arguments.
+    VariantN {
+        /// The variant index.
+        index: u32,
+        /// How many arguments follow.
+        arguments: u64,
+        /// Where they begin.
+        first: usize,
+    },
+    /// A reference.
+    Reference {
+        /// The offset it targets.
+        target: usize,
+    },
+    /// A pointer.
+    Pointer {
+        /// The offset it targets.
+        target: usize,
+    },
+}
+
+/// Where the body of a text or byte string stands.
+#[derive(Clone, Copy, Debug, PartialEq, Eq)]
+pub struct Body {
+    /// Its first offset.
+    pub first: usize,
+    /// Its length.
+    pub length: usize,
+}
+
+/// Where pointers lead.
+#[derive(Clone, Copy, Debug, PartialEq, Eq)]
+pub struct Followed {
+    /// The offset of the first value that is no pointer.
+    pub offset: usize,
+    /// The pointers met.
+    pub hops: u64,
+}
+
+/// The region of a file and an asked offset in it.
+fn asked(file: &[u8], at: u64) -> Result<(&[u8], usize), Error> {
+    let (region, _) = file::split(file)?;
+    match usize::try_from(at) {
+        Ok(offset) if offset < region.len() => Ok((region, offset)),
+        _ => Err(Error {
+            kind: ErrorKind::Outside,
+            place: at,
+        }),
+    }
+}
+
+/// Reads the value at an offset.
+///
+/// "Reading one value looks at neither its items nor text bytes, and of a target only that it is not below 0."
+pub fn read(file: &[u8], at: u64) -> Result<Value, Error> {
+    let (region, at) = asked(file, at)?;
+    let token = token::read(region, at)?;
+    Ok(value(region, token))
+}
+
+fn value(region: &[u8], token: Token) -> Value {
+    let first = token.first;
+    let body = Body {
+        first,
+        length: token.end - first,
+    };
+    // The bound of n makes these exact.
+    let integer = token.n as i64;
+    let index = token.n as u32;
+    match token.kind {
+        SCALAR => Value::Scalar(match token.n {
+            0 => Scalar::False,
+            1 => Scalar::True,
+            _ => Scalar::Null,
+        }),
+        POSITIVE => Value::Integer(integer),
+        NEGATIVE => Value::Integer(-1 - integer),
+        FLOAT => {
+            let bits = region[token.first..token.end]
+                .iter()
+                .rev()
+                .fold(0, |bits, &byte| bits << 8 | u64::from(byte));
+            if token.n == 0 {
+                Value::Float32(bits as u32)
+            } else {
+                Value::Float64(bits)
+            }
+        }
+        TEXT => Value::Text(body),
+        BYTES => Value::Bytes(body),
+        ARRAY => Value::Array {
+            items: token.n,
+            first,
+        },
+        MAP => Value::Map {
+            pairs: token.n,
+            first,
+        },
+        TAG => Value::Tag {
+            tag: token.n,
+            first,
+        },
+        VARIANT0 => Value::Variant0 { index },
+        VARIANT1 => Value::Variant1 { index, first },
+        VARIANT_N => Value::VariantN {
+            index,
+            arguments: token.items,
+            first,
+        },
+        kind => {
+            // A token that was read has its target before it, and not below 0.
+            let target = token.at - 1 - token.n as usize;
+            if kind == POINTER {
+                Value::Pointer { target }
+            } else {
+                Value::Reference { target }
+            }
+        }
+    }
+}
+
+/// Tells where the value at an offset ends.
+///
+/// "Skipping tells where the value ends and does examine items, but neither text nor targets beyond 0."
+pub fn skip(file: &[u8], at: u64) -> Result<usize, Error> {
+    let (region, at) = asked(file, at)?;
+    let token = token::read(region, at)?;
+    skip_items(region, token.end, token.items)
+}
+
+/// Passes items: "the items before it are examined as skipping does".
+fn skip_items(region: &[u8], first: usize, count: u64) -> Result<usize, Error> {
+    let mut at = first;
+    for _ in 0..count {
+        at = token::read_item(region, at)?.end;
+    }
+    Ok(at)
+}
+
+/// An item's offset "only has to start in the region (TRUNC)".
+fn start_of_item(region: &[u8], at: usize) -> Result<usize, Error> {
+    if at < region.len() {
+        Ok(at)
+    } else {
+        Err(ErrorKind::Trunc.at(region.len()))
+    }
+}
+
+/// Tells the offset of an item of the value at an offset, which is not followed.
+///
+/// "`NO_ITEM` first; then the items before it are examined as skipping does; the item itself only has to start in the
+/// region (TRUNC)."
+pub fn item(file: &[u8], at: u64, index: u64) -> Result<usize, Error> {
+    let (region, at) = asked(file, at)?;
+    let token = token::read(region, at)?;
+    if !matches!(token.kind, ARRAY | MAP | TAG | VARIANT1 | VARIANT_N) {
+        return Err(ErrorKind::WrongKind.at(at));
+    }
+    if index >= token.items {
+        return Err(ErrorKind::NoItem.at(at));
+    }
+    let offset = skip_items(region, token.end, index)?;
+    start_of_item(region, offset)
+}
+
+/// Follows the pointers from an offset on.
+///
+/// "Following goes from pointer to pointer until a value of another kind; references stop it. Each value met is read, the
+/// last too."
+pub fn follow(file: &[u8], at: u64) -> Result<Followed, Error> {
+    let (region, at) = asked(file, at)?;
+    let (token, hops) = follow_in(region, at)?;
+    Ok(Followed {
+        offset: token.at,
+        hops,
+    })
+}
+
+/// The value that pointers lead to, and the pointers met.
+fn follow_in(region: &[u8], at: usize) -> Result<(Token, u64), Error> {
+    let mut token = token::read(region, at)?;
+    let mut hops = 0;
+    while let (POINTER, Some(target)) = (token.kind, token.target()) {
+        token = token::read(region, target)?;
+        hops += 1;
+    }
+    Ok((token, hops))
+}
+
+/// Tells the offset of the value of a key in the map at an offset, which is not followed.
+///
+/// "Pair by pair the key is examined as skipping the map does (TRUNC and NESTED too), then followed; the first text key with
+/// equal bytes gives its value item's offset, which has to be in the region (TRUNC); else the value is examined likewise.
+/// The first fault is the answer."
+pub fn lookup(file: &[u8], at: u64, key: &[u8]) -> Result<usize, Error> {
+    let (region, at) = asked(file, at)?;
+    let map = token::read(region, at)?;
+    if map.kind != MAP {
+        return Err(ErrorKind::WrongKind.at(at));
+    }
+    let mut next = map.end;
+    for _ in 0..map.n {
+        let held = token::read_item(region, next)?;
+        let (met, _) = follow_in(region, held.at)?;
+        if met.kind == TEXT && region[met.first..met.end] == *key {
+            return start_of_item(region, held.end);
+        }
+        next = token::read_item(region, held.end)?.end;
+    }
+    Err(ErrorKind::NoItem.at(at))
+}
+
+/// Hands back the body of the text or byte string that pointers lead to from an offset.
+///
+/// "The body of a text or byte string, after following, is handed back as a part of the lent file itself; a refusal hands
+/// back an empty part."
+#[must_use]
+pub fn body(file: &[u8], at: u64) -> &[u8] {
+    match body_place(file, at) {
+        Ok(Body { first, length }) => &file[first..first + length],
+        Err(_) => &[],
+    }
+}
+
+/// "A second question on the same offset tells the body's first offset and length, or the refusal."
+pub fn body_place(file: &[u8], at: u64) -> Result<Body, Error> {
+    let (region, at) = asked(file, at)?;
+    let (token, _) = follow_in(region, at)?;
+    if !matches!(token.kind, TEXT | BYTES) {
+        return Err(ErrorKind::WrongKind.at(token.at));
+    }
+    Ok(Body {
+        first: token.first,
+        length: token.end - token.first,
+    })
+}
+
+#[cfg(test)]
+mod tests {
+    use super::*;
+    use crate::error::ErrorKind::*;
+    use crate::testing::{hex, refusal};
+    use crate::MAX_LEN;
+
+    const DOCUMENT_001: &str = "45 68 65 6c 6c 6f 61 f6 62 f8 f3 72 41 61 f5 41 78 01 06";
+
+    fn read_at(at: u64, file: &str) -> Result<Value, Error> {
+        read(&hex(file), at)
+    }
+
+    fn skip_at(at: u64, file: &str) -> Result<usize, Error> {
+        skip(&hex(file), at)
+    }
+
+    fn item_at(at: u64, index: u64, file: &str) -> Result<usize, Error> {
+        item(&hex(file), at, index)
+    }
+
+    fn follow_at(at: u64, file: &str) -> Result<(usize, u64), Error> {
+        follow(&hex(file), at).map(|Followed { offset, hops }| (offset, hops))
+    }
+
+    fn lookup_at(at: u64, key: &str, file: &str) -> Result<usize, Error> {
+        lookup(&hex(file), at, &hex(key))
+    }
+
+    fn body_at(at: u64, file: &str) -> Result<(usize, usize), Error> {
+        let file = hex(file);
+        let place = body_place(&file, at);
+        let part = body(&file, at);
+        match place {
+            Ok(Body { first, length }) => assert_eq!(part, &file[first..first + length]),
+            Err(_) => assert!(part.is_empty()),
+        }
+        place.map(|Body { first, length }| (first, length))
+    }
+
+    #[test]
+    fn lengths_and_offsets_that_are_refused() {
+        let long = vec![0; MAX_LEN + 1];
+        for at in [0, 1, u64::MAX] {
+            assert_eq!(read(&[], at), Err(refusal(Empty, 0)));
+            assert_eq!(skip(&long, at), Err(refusal(TooLong, 0)));
+            assert_eq!(item(&[0], at, 0), Err(refusal(Outside, at)));
+            assert_eq!(follow(&[0], at), Err(refusal(Outside, at)));
+            assert_eq!(lookup(&[0], at, &[]), Err(refusal(Outside, at)));
+            assert_eq!(body_place(&[0], at), Err(refusal(Outside, at)));
+        }
+        assert_eq!(read_at(1, "10 00"), Err(refusal(Outside, 1)));
+    }
+
+    #[test]
+    fn values_of_each_kind() {
+        let cases = [
+            ("00 00", Value::Scalar(Scalar::False)),
+            ("01 00", Value::Scalar(Scalar::True)),
+            ("02 00", Value::Scalar(Scalar::Null)),
+            ("1f 1b 00", Value::Integer(42)),
+            ("21 00", Value::Integer(-2)),
+            ("2f f0 ff ff ff ff ff ff ff 7f 09", Value::Integer(i64::MIN)),
+            ("1f f0 ff ff ff ff ff ff ff 7f 09", Value::Integer(i64::MAX)),
+            ("30 00 00 80 3f 00", Value::Float32(0x3f80_0000)),
+            (
+                "31 00 00 00 00 00 40 45 40 00",
+                Value::Float64(0x4045_4000_0000_0000),
+            ),
+            (
+                "41 ff 00",
+                Value::Text(Body {
+                    first: 1,
+                    length: 1,
+                }),
+            ),
+            (
+                "50 00",
+                Value::Bytes(Body {
+                    first: 1,
+                    length: 0,
+                }),
+            ),
+            ("61 90 00", Value::Array { items: 1, first: 1 }),
+            ("71 90 90 00", Value::Map { pairs: 1, first: 1 }),
+            ("8f 01 00", Value::Tag { tag: 16, first: 2 }),
+            ("a5 00", Value::Variant0 { index: 5 }),
+            ("b5 00", Value::Variant1 { index: 5, first: 1 }),
+            (
+                "c5 01 90 00",
+                Value::VariantN {
+                    index: 5,
+                    arguments: 1,
+                    first: 2,
+                },
+            ),
+        ];
+        for (file, value) in cases {
+            assert_eq!(read_at(0, file), Ok(value), "{file}");
+        }
+        assert_eq!(read_at(2, "1f 1b f0 00"), Ok(Value::Pointer { target: 1 }));
+        assert_eq!(read_at(1, "10 e0 00"), Ok(Value::Reference { target: 0 }));
+        assert_eq!(read_at(1, "1f 1b 00"), Ok(Value::Integer(11)));
+    }
+
+    #[test]
+    fn reading_holds_a_count_against_the_bytes_left() {
+        assert_eq!(read_at(0, "63 10 00"), Err(refusal(Trunc, 0)));
+        assert_eq!(read_at(0, "f0 00"), Err(refusal(BadTarget, 0)));
+        assert_eq!(read_at(0, "03 00"), Err(refusal(Reserved, 0)));
+    }
+
+    #[test]
+    fn skipping() {
+        assert_eq!(skip_at(3, "61 1f 1b 64 f3 11 12 13 04"), Ok(8));
+        assert_eq!(skip_at(11, DOCUMENT_001), Ok(18));
+        assert_eq!(skip_at(0, "81 00"), Err(refusal(Trunc, 1)));
+        assert_eq!(skip_at(0, "41 ff 00"), Ok(2));
+        assert_eq!(skip_at(2, "1f 1b f0 00"), Ok(3));
+        assert_eq!(skip_at(0, "61 f1 00"), Err(refusal(BadTarget, 1)));
+        assert_eq!(skip_at(0, "61 f0 00"), Ok(2));
+        assert_eq!(skip_at(1, "61 61 10 00"), Ok(3));
+        assert_eq!(skip_at(0, "61 61 10 00"), Err(refusal(Nested, 1)));
+        assert_eq!(skip_at(0, "62 41 61 00"), Err(refusal(Trunc, 3)));
+    }
+
+    #[test]
+    fn items() {
+        let file = "61 1f 1b 64 f3 11 12 13 04";
+        assert_eq!(item_at(3, 3, file), Ok(7));
+        assert_eq!(item_at(3, 4, file), Err(refusal(NoItem, 3)));
+        assert_eq!(item_at(0, 0, "81 00"), Err(refusal(Trunc, 1)));
+        assert_eq!(item_at(0, 0, "41 ff 00"), Err(refusal(WrongKind, 0)));
+        assert_eq!(item_at(2, 0, "1f 1b f0 00"), Err(refusal(WrongKind, 2)));
+        assert_eq!(item_at(0, 0, "f0 00"), Err(refusal(BadTarget, 0)));
+        assert_eq!(item_at(0, 2, "62 90 90 00"), Err(refusal(NoItem, 0)));
+        assert_eq!(item_at(0, 1, "62 90 90 00"), Err(refusal(Reserved, 1)));
+        assert_eq!(item_at(0, 0, "61 60 00"), Ok(1));
+        assert_eq!(item_at(0, 1, "62 41 61 00"), Err(refusal(Trunc, 3)));
+        assert_eq!(item_at(0, 9, "6f 80 00 00"), Err(refusal(Overlong, 0)));
+        assert_eq!(item_at(0, u64::MAX, "10 00"), Err(refusal(WrongKind, 0)));
+        assert_eq!(item_at(0, 3, "72 10 11 12 13 14 00"), Ok(4));
+        assert_eq!(
+            item_at(0, 4, "72 10 11 12 13 14 00"),
+            Err(refusal(NoItem, 0))
+        );
+        assert_eq!(item_at(0, 1, "c0 02 10 11 00"), Ok(3));
+        assert_eq!(item_at(0, 0, "b3 10 00"), Ok(1));
+        assert_eq!(item_at(0, 1, "b3 10 00"), Err(refusal(NoItem, 0)));
+    }
+
+    #[test]
+    fn following() {
+        assert_eq!(follow_at(10, DOCUMENT_001), Ok((6, 1)));
+        assert_eq!(follow_at(3, "10 f0 f0 f0 00"), Ok((0, 3)));
+        assert_eq!(follow_at(3, "41 ff e1 f0 00"), Ok((2, 1)));
+        assert_eq!(follow_at(1, "90 f0 00"), Err(refusal(Reserved, 0)));
+        assert_eq!(follow_at(1, "f0 f0 00"), Err(refusal(BadTarget, 0)));
+        assert_eq!(follow_at(0, "41 ff 00"), Ok((0, 0)));
+        assert_eq!(follow_at(2, "1f 1b f0 00"), Ok((1, 1)));
+    }
+
+    #[test]
+    fn looking_up() {
+        assert_eq!(lookup_at(11, "61", DOCUMENT_001), Ok(14));
+        assert_eq!(lookup_at(11, "78", DOCUMENT_001), Ok(17));
+        assert_eq!(lookup_at(11, "79", DOCUMENT_001), Err(refusal(NoItem, 11)));
+        assert_eq!(
+            lookup_at(1, "61", "90 71 10 f2 00"),
+            Err(refusal(NoItem, 1))
+        );
+        assert_eq!(lookup_at(0, "ff", "71 41 ff 10 00"), Ok(3));
+        let file = "72 41 61 10 90 90 00";
+        assert_eq!(lookup_at(0, "61", file), Ok(3));
+        assert_eq!(lookup_at(0, "62", file), Err(refusal(Reserved, 4)));
+        assert_eq!(
+            lookup_at(0, "61", "71 51 61 10 00"),
+            Err(refusal(NoItem, 0))
+        );
+        assert_eq!(lookup_at(2, "61", "41 61 71 f2 10 00"), Ok(4));
+        assert_eq!(
+            lookup_at(3, "61", "41 61 e1 71 f1 10 00"),
+            Err(refusal(NoItem, 3))
+        );
+        assert_eq!(lookup_at(0, "61", "71 41 61 00"), Err(refusal(Trunc, 3)));
+        assert_eq!(lookup_at(0, "62", "71 41 61 00"), Err(refusal(Trunc, 3)));
+        assert_eq!(
+            lookup_at(1, "61", "90 71 f1 10 00"),
+            Err(refusal(Reserved, 0))
+        );
+        assert_eq!(lookup_at(0, "61", "71 60 10 00"), Err(refusal(Nested, 1)));
+        let file = "72 41 61 60 41 62 10 ff";
+        assert_eq!(lookup_at(0, "61", file), Ok(3));
+        assert_eq!(lookup_at(0, "62", file), Err(refusal(Nested, 3)));
+        assert_eq!(lookup_at(1, "61", "70 f0 00"), Err(refusal(WrongKind, 1)));
+        assert_eq!(lookup_at(0, "", "71 40 10 00"), Ok(2));
+    }
+
+    #[test]
+    fn bodies() {
+        assert_eq!(body_at(7, DOCUMENT_001), Ok((1, 5)));
+        assert_eq!(body_at(14, DOCUMENT_001), Err(refusal(WrongKind, 8)));
+        assert_eq!(body_at(0, "41 ff 00"), Ok((1, 1)));
+        assert_eq!(body_at(0, "40 00"), Ok((1, 0)));
+        assert_eq!(body_at(3, "41 61 e1 f0 00"), Err(refusal(WrongKind, 2)));
+        assert_eq!(body_at(0, "42 61 00"), Err(refusal(Trunc, 0)));
+    }
+
+    #[test]
+    fn the_body_is_a_part_of_the_file() {
+        let file = hex(DOCUMENT_001);
+        assert!(std::ptr::eq(body(&file, 0), &file[1..6]));
+    }
+}

@@ -1,0 +1,110 @@
+//! A well-formed file, read value by value and written again, has the same bytes.
+
+use reference::{body, check, item, read, Call, Value, Writer};
+
+use crate::random::Random;
+
+/// The calls that write a well-formed file, found by the questions at an offset.
+pub fn calls_of(file: &[u8]) -> Vec<Call<'_>> {
+    let mut starts = vec![0; file.len()];
+    let checked = check(file, &mut starts).expect("a well-formed file");
+    let mut calls = Vec::new();
+    for start in &starts[..checked.count] {
+        let start = u64::from(*start);
+        let (call, items) = call_at(file, start);
+        calls.push(call);
+        for index in 0..items {
+            let offset = item(file, start, index).expect("an item");
+            calls.push(call_at(file, offset as u64).0);
+        }
+    }
+    calls.push(Call::Close(checked.entry as u64));
+    calls
+}
+
+/// The call of the value at an offset, and the items that it opens.
+fn call_at(file: &[u8], at: u64) -> (Call<'_>, u64) {
+    match read(file, at).expect("a value") {
+        Value::Scalar(scalar) => (Call::Scalar(scalar), 0),
+        Value::Integer(integer) => (Call::Integer(integer), 0),
+        Value::Float32(bits) => (Call::Float32(bits), 0),
+        Value::Float64(bits) => (Call::Float64(bits), 0),
+        Value::Text(_) => (Call::Text(body(file, at)), 0),
+        Value::Bytes(_) => (Call::Bytes(body(file, at)), 0),
+        Value::Array { items, .. } => (Call::Array(items), items),
+        Value::Map { pairs, .. } => (Call::Map(pairs), 2 * pairs),
+        Value::Tag { tag, .. } => (Call::Tag(tag), 1),
+        Value::Variant0 { index } => (Call::Variant0(index), 0),
+        Value::Variant1 { index, .. } => (Call::Variant1(index), 1),
+        Value::VariantN {
+            index, arguments, ..
+        } => (Call::VariantN(index, arguments), arguments),
+        Value::Reference { target } => (Call::Reference(target as u64), 0),
+        Value::Pointer { target } => (Call::Pointer(target as u64), 0),
+    }
+}
+
+/// Writes a well-formed file again, with just enough room and words.
+fn assert_rewritten(file: &[u8]) {
+    let mut starts = vec![0; file.len()];
+    let count = check(file, &mut starts).expect("a well-formed file").count;
+    let mut out = vec![0; file.len()];
+    let mut starts = vec![0; count];
+    let mut writer = Writer::new();
+    for call in calls_of(file) {
+        let answer;
+        (answer, writer) = writer.step(call, &mut out, &mut starts);
+        assert_eq!(answer, Ok(()), "{call:?}");
+    }
+    assert!(writer.closed);
+    assert_eq!(writer.written as usize, file.len());
+    assert_eq!(out, file);
+}
+
+#[test]
+fn samples_of_the_papers() {
+    let files: [&[u8]; 6] = [
+        &[0x00, 0x00],
+        &[
+            0x45, 0x68, 0x65, 0x6c, 0x6c, 0x6f, 0x61, 0xf6, 0x62, 0xf8, 0xf3, 0x72, 0x41, 0x61,
+            0xf5, 0x41, 0x78, 0x01, 0x06,
+        ],
+        &[0x61, 0x1f, 0x1b, 0x64, 0xf3, 0x11, 0x12, 0x13, 0x04],
+        &[0x1f, 0x1b, 0xe1, 0x00],
+        &[
+            0x2f, 0xf0, 0xff, 0xff, 0xff, 0xff, 0xff, 0xff, 0xff, 0x7f, 0x09,
+        ],
+        &[
+            0xc5, 0x00, 0xc5, 0x01, 0x10, 0x82, 0x10, 0x31, 1, 2, 3, 4, 5, 6, 7, 8, 0x0a,
+        ],
+    ];
+    for file in files {
+        assert_rewritten(file);
+    }
+}
+
+#[test]
+fn written_files() {
+    let mut random = Random::new(3);
+    for _ in 0..1500 {
+        let longest = 8 + random.below(900) as usize;
+        let file = random.file(longest);
+        assert_rewritten(&file);
+    }
+}
+
+#[test]
+fn spoilt_files_that_are_still_well_formed() {
+    let mut random = Random::new(4);
+    let mut accepted = 0;
+    for _ in 0..20_000 {
+        let longest = 8 + random.below(60) as usize;
+        let file = random.file(longest);
+        let file = random.spoilt(&file);
+        if check(&file, &mut vec![0; file.len()]).is_ok() {
+            assert_rewritten(&file);
+            accepted += 1;
+        }
+    }
+    assert!(accepted > 1000, "{accepted} files");
+}
