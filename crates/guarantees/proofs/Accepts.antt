@@ -13,6 +13,7 @@ use lib.ListN.{length, drop, length-append}
 use lib.Seq.{append-snoc}
 use Rattle.prelude.specs.Answer.{ok}
 use Rattle.prelude.proofs.Readers.{bind-ok}
+use Rattle.prelude.proofs.Parts.{drop-past, length-past}
 use Rattle.kind.specs.Kind.{rule, pending}
 use Rattle.token.specs.Token.{Token, emit, Fits}
 use Rattle.utf8.specs.Text.{Text}
@@ -21,7 +22,7 @@ use Rattle.values.proofs.Laws.{length-starts, fits-item, fits-head}
 use Rattle.checker.specs.Check.{between, startsFrom, checkIn, checked, filled, checkOf}
 use Rattle.checker.proofs.Walks.{walk-end}
 use Rattle.guarantees.proofs.Files.{Whole, entered, checkIn-whole, entered-named}
-use Rattle.guarantees.proofs.Taken.{drop-past, length-past, Stands, settled, due-suc, walk-stands}
+use Rattle.guarantees.proofs.Taken.{Stands, settled, due-suc, walk-stands}
 
 -- ---- values
 

@@ -16,6 +16,8 @@ use Rattle.prelude.specs.Answer.{Answer, ok, error, bind}
 use Rattle.prelude.specs.Bytes.{Bytes}
 use Rattle.prelude.specs.Search.{among}
 use Rattle.prelude.proofs.Tests.{pick-elim, split, and-l, and-r}
+use Rattle.prelude.proofs.Parts.{bytes-front}
+use Rattle.prelude.proofs.Readers.{bind-ok-by, bind-error-by}
 use Rattle.error.specs.Error.{Fault, fault, LIMIT, EMPTY, TOO_LONG, BAD_ENTRY}
 use Rattle.checker.specs.Check.{between, startsFrom, entryAt, checkIn, listed}
 
@@ -70,10 +72,6 @@ checkIn-region s d cap short =
     let p : length s + 1 - 1 ≡ length s = omega arith in
     rw (n, ne-eqb (length s + 1) 0 (λ z. omega arith), le-ltb LIMIT (length s + 1) (omega arith), p, take-append-seam, getD-append-seam)
 
-pub bytes-front : (p s : List ℕ) → Bytes (p ++ s) → Bytes p
-bytes-front [] s b = tt
-bytes-front (x ∷ p) s b = (b .0, bytes-front p s (b .1))
-
 module _ (file : List ℕ) (w : Whole file) where
   pub length-whole : length file ≡ length (w .region) + 1
   length-whole = ap length (w .same) ∙ length-append (w .region) (w .delta ∷ [])
@@ -126,17 +124,6 @@ module _ (p d : ℕ) (done : List ℕ) where
   entered-told a e = subst (Enters p d done) (sym e) enters
 
 -- ---- what an answer tells
-
-bind-ok-by : {E A B X : Type 0} {x : B} (r : Answer E A) (f : A → Answer E B) → ok x ≡ bind r f → ((a : A) → ok a ≡ r → ok x ≡ f a → X) → X
-unfolding bind
-bind-ok-by (ok a) f e k = k a refl e
-bind-ok-by (error g) f e k = let z : _≡_ {A = ℕ} 0 1 = cc in absurd (omega arith)
-
-bind-error-by : {E A B X : Type 0} {x : E} (r : Answer E A) (f : A → Answer E B) → error x ≡ bind r f → (error x ≡ r → X)
-    → ((a : A) → ok a ≡ r → error x ≡ f a → X) → X
-unfolding bind
-bind-error-by (ok a) f e k l = l a refl e
-bind-error-by (error g) f e k l = k (cc)
 
 pub answer-ok : {X : Type 0} (cap count entry : ℕ) (a : Answer Fault ((List ℕ) × ℕ)) → listed cap a .answer ≡ ok (count, entry)
     → ((done : List ℕ) → ok (done, entry) ≡ a → count ≡ length done → X) → X

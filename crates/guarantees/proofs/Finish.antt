@@ -3,7 +3,7 @@
 -- In order: the open value takes an immediate that has room (`item-taken`); calls one after the other; immediates of one byte, which finish
 -- a value from any point on (`finishable`), and from its opening on (`opening-finishable`).
 use mathlib.Core.Path.{_≡_, refl, sym, _∙_, subst}
-use mathlib.Core.Bool.{Bool, true, false, not, _&&_}
+use mathlib.Core.Bool.{true, false}
 use mathlib.Core.List.{List, [], _∷_}
 use Prim.Native.Nat.{ℕ, suc, _+_, _≤_, _<_}
 use native.Mathlib.Omega.{arith}
@@ -11,6 +11,7 @@ use lib.Dec.{eqb}
 use lib.ListN.{length}
 use borrow.Author.Tests.{eqb-true, leb-true, ne-eqb}
 use Rattle.prelude.specs.Answer.{ok}
+use Rattle.prelude.proofs.Tests.{unless}
 use Rattle.kind.specs.Kind.{rule}
 use Rattle.utf8.specs.Text.{isText}
 use Rattle.token.specs.Token.{Token, token, putIf, emit}
@@ -41,10 +42,6 @@ pub record Took (k n : ℕ) (s : Writer) (table : List ℕ) (r : Result) : Type 
   pub more : 0 < k → FinishesNone s table r
   pub last : k ≡ 0 → Finishes (s .start) s table r
 
-and-not : (a b : Bool) → (a ≡ true → b ≡ true) → a && not b ≡ false
-and-not true b f = rw (f refl)
-and-not false b f = refl
-
 module _ (k : ℕ) (s : Writer) (out table : List ℕ) (o : Open (suc k) s out table) where
   some : eqb (s .pending) 0 ≡ false
   some = ne-eqb (s .pending) 0 (λ e. omega (arith, o .items))
@@ -58,8 +55,8 @@ module _ (k : ℕ) (s : Writer) (out table : List ℕ) (o : Open (suc k) s out t
   item-accepted : (t : Token) (target : ℕ) → Item k t target s out table → Accepted (opens t) t target s out table
   item-accepted t target i = record {
     passed = record { good = o .good; unclosed = o .unclosed; alike = rw (i .immediate) };
-    text = and-not _ _ (λ e. i .text (eqb-true _ _ e));
-    aim = and-not _ _ (λ e. i .aim (leb-true _ _ e));
+    text = unless _ _ (λ e. i .text (eqb-true _ _ e));
+    aim = unless _ _ (λ e. i .aim (leb-true _ _ e));
     word = rw some;
     fits = rw (due-is (pendingOf t)) (i .fits);
   }

@@ -16,7 +16,7 @@ use borrow.Author.Tests.{eqb-true, eqb-false, leb-true, leb-false, ltb-false, le
 use Rattle.prelude.specs.Pick.{pick}
 use Rattle.prelude.specs.Answer.{ok, error}
 use Rattle.prelude.specs.Search.{among}
-use Rattle.prelude.proofs.Tests.{pick-elim, pick-cong, split}
+use Rattle.prelude.proofs.Tests.{pick-elim, pick-cong, split, and-implied}
 use Rattle.kind.specs.Kind.{rule, pending}
 use Rattle.token.specs.Token.{token, emit}
 use Rattle.values.specs.Values.{bytes, region, starts}
@@ -72,11 +72,6 @@ pub record Follows (s : Writer) (out table : List ℕ) (b : Model) : Type 0 wher
   pub agree : Agree s out table b
   pub good : bad s (length out) (length table) ≡ false
   pub begun : Begun s (b .finished) (b .stage)
-
-and-implied : (a b : Bool) → (b ≡ true → a ≡ true) → a && b ≡ b
-and-implied true b h = refl
-and-implied false true h = h refl
-and-implied false false h = refl
 
 module _ (s : Writer) (out table : List ℕ) (b : Model) (f : Follows s out table b) where
   listed-same : (x : ℕ) → isListed s table x ≡ among x (startsOf b)

@@ -16,8 +16,8 @@ use borrow.Author.Tests.{lt-leb, le-ltb, leb-true, eqb-true, ne-eqb}
 use Rattle.prelude.specs.Answer.{ok}
 use Rattle.prelude.specs.Bytes.{Bytes}
 use Rattle.prelude.specs.Search.{among}
-use Rattle.prelude.proofs.Tests.{split}
-use Rattle.prelude.proofs.Parts.{bytes-after}
+use Rattle.prelude.proofs.Tests.{split, unless}
+use Rattle.prelude.proofs.Parts.{bytes-after, bytes-front}
 use Rattle.error.specs.Error.{LIMIT}
 use Rattle.utf8.specs.Text.{isText}
 use Rattle.utf8.proofs.Laws.{text-isText}
@@ -32,7 +32,6 @@ use Rattle.guarantees.specs.Model.{Part, Plain, plain, formOf, formsOf, 
 use Rattle.guarantees.specs.History.{notes}
 use Rattle.guarantees.specs.Rewrites.{callOf, callsAt, callsOf, rewriting, AllOk}
 use Rattle.guarantees.specs.ReadsBack.{endOf}
-use Rattle.guarantees.proofs.Files.{bytes-front}
 use Rattle.guarantees.proofs.Lists.{notes-append}
 use Rattle.guarantees.proofs.Models.{target-each, forms-append, values-snoc, region-snoc, bytes-between, bytes-closed}
 use Rattle.guarantees.proofs.Again.{partOf, partsOf, plainOf, plainsOf, form-part, value-plain, values-plains, line-call, call-given}
@@ -79,10 +78,6 @@ bytes-body t b = bytes-after (putIf (rule (t .kind) .args) (t .args)) (t .body) 
 
 first-ok : {a b c d e f : Bool} → a ≡ false → b ≡ false → c ≡ false → d ≡ false → e ≡ false → f ≡ false → firstOf a b c d e f ≡ ok tt
 first-ok a b c d e f = rw (a, b, c, d, e, f)
-
-unless : (a b : Bool) → (a ≡ true → b ≡ true) → (a && not b) ≡ false
-unless true b h = rw (h refl)
-unless false b h = refl
 
 -- t's part at q, behind the bytes of b
 judged : (n m : ℕ) (b : Model) (q : ℕ) (t : Token) → length (bytesOf b) ≡ q → Sound t → Reaches (startsOf b) q t → isClosed (b .stage) ≡ false

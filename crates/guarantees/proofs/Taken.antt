@@ -5,17 +5,18 @@
 -- `walk-stands`).
 use mathlib.Core.Path.{_≡_, refl, sym, ap, _∙_}
 use Prim.Native.Nat.{ℕ, zero, suc, _+_, _<_}
-use mathlib.Core.Bool.{Bool, true, false, not, _&&_, false≢true, and-comm}
+use mathlib.Core.Bool.{Bool, true, false, _&&_, and-comm}
 use mathlib.Core.List.{List, [], _∷_, _++_}
 use native.Mathlib.Nat.{suc-ne-zero}
 use native.Mathlib.Omega.{arith}
-use borrow.Author.Tests.{eqb-true, eq-eqb, ne-eqb, leb-true, le-leb, ltb-true, lt-ltb, lt-leb, not-false}
+use borrow.Author.Tests.{eqb-true, eq-eqb, ne-eqb, leb-true, le-leb, ltb-true, lt-ltb, lt-leb}
 use lib.Dec.{eqb, ltb, leb}
 use lib.ListN.{length, take, drop, length-drop, length-append, take-append-drop}
-use lib.Seq.{length-take-le, drop-append-seam, drop-drop}
+use lib.Seq.{length-take-le}
 use Rattle.prelude.specs.Answer.{ok, bind}
 use Rattle.prelude.specs.Bytes.{Bytes}
-use Rattle.prelude.proofs.Tests.{and-l, and-r}
+use Rattle.prelude.proofs.Tests.{and-l, and-r, unless, unless-by}
+use Rattle.prelude.proofs.Parts.{}
 use Rattle.utf8.specs.Text.{Text, isText}
 use Rattle.utf8.proofs.Laws.{text-isText, isText-text}
 use Rattle.token.specs.Token.{Token, emit, Fits}
@@ -29,13 +30,6 @@ use Rattle.checker.proofs.Walks.{taken, walk-token}
 
 -- ---- what is emitted at an offset
 
--- past a part of the bytes at `at`
-pub drop-past : (s : List ℕ) (at : ℕ) (p rest : List ℕ) → drop at s ≡ p ++ rest → drop (at + length p) s ≡ rest
-drop-past s at p rest same = sym (drop-drop (length p) at s) ∙ rw same (drop-append-seam p rest)
-
-pub length-past : (at : ℕ) (p q : List ℕ) → at + length (p ++ q) ≡ at + length p + length q
-length-past at p q = omega (arith, length-append p q)
-
 module _ (s : List ℕ) (at : ℕ) (t : Token) (rest : List ℕ) (same : drop at s ≡ emit t ++ rest) where
   length-at : length s ≡ at + length (emit t) + length rest
   length-at = omega (arith, emit-pos t, length-append (emit t) rest, length-drop at s, ap length same)
@@ -46,15 +40,6 @@ module _ (s : List ℕ) (at : ℕ) (t : Token) (rest : List ℕ) (same : drop at
       rw (front, ← same, take-append-drop) at (scanAt-emit inner (take at s) t rest f)
 
 -- ---- a token that the walk takes
-
--- a test `a && not b` that fails, as that b follows from a
-unless : (a b : Bool) → (a ≡ true → b ≡ true) → a && not b ≡ false
-unless true b f = rw (f refl)
-unless false b f = refl
-
-unless-by : (a b : Bool) → a && not b ≡ false → a ≡ true → b ≡ true
-unless-by true b e h = not-false b e
-unless-by false b e h = absurd (false≢true h)
 
 -- a token at the walk's offset, and `rest` behind it: it may stand there, its text is text, its target is a start, and a new value has a word
 pub record Stands (s : List ℕ) (cap : ℕ) (w : Walk) (t : Token) (rest : List ℕ) : Type 0 where

@@ -12,6 +12,7 @@ use native.Mathlib.Omega.{arith}
 use borrow.Author.Tests.{lt-ltb, not-true, not-false}
 use lib.ListN.{length, drop, length-append}
 use lib.Seq.{drop-append-seam}
+use Rattle.prelude.proofs.Parts.{length-past}
 use Rattle.kind.specs.Kind.{rule, counted, pending, immediate}
 use Rattle.token.specs.Token.{Token, emit}
 use Rattle.scan.specs.declared.Head.{Head}
@@ -20,7 +21,7 @@ use Rattle.values.specs.Values.{Value, bytes, region, starts, Each, Sound, Item
 use Rattle.values.proofs.Members.{each-append}
 use Rattle.values.proofs.Laws.{bytes-append, region-append, starts-append, back-append}
 use Rattle.checker.specs.Check.{Walk, between, passed}
-use Rattle.guarantees.proofs.Taken.{length-past, Stands, Stood, settled, passed-settled, due-suc}
+use Rattle.guarantees.proofs.Taken.{Stands, Stood, settled, passed-settled, due-suc}
 
 -- ---- one token more
 

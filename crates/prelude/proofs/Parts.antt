@@ -8,7 +8,7 @@ use Prim.Native.Nat.{ℕ, zero, suc, _+_, _-_, _≤_, _<_}
 use native.Mathlib.Nat.{zero-add, add-zero, add-suc, suc-add, le-add-right}
 use native.Mathlib.Omega.{arith}
 use lib.ListN.{length, take, drop, set, length-set, length-drop, length-append, take-append-drop, drop-of-length-le}
-use lib.Seq.{sets, sets-eq, length-sets, take-all, drop-set-add, take-set-le}
+use lib.Seq.{drop-append-seam, drop-drop, sets, sets-eq, length-sets, take-all, drop-set-add, take-set-le}
 use borrow.Author.Tests.{le-leb, lt-leb}
 use borrow.Rule.Slice.PartMut.{putMid}
 use Rattle.prelude.specs.Pick.{pick}
@@ -30,6 +30,17 @@ bytes-drop (suc k) (x ∷ s) b = bytes-drop k s (b .1)
 pub bytes-after : (p s : List ℕ) → Bytes (p ++ s) → Bytes s
 bytes-after [] s b = b
 bytes-after (x ∷ p) s b = bytes-after p s (b .1)
+
+pub bytes-front : (p s : List ℕ) → Bytes (p ++ s) → Bytes p
+bytes-front [] s b = tt
+bytes-front (x ∷ p) s b = (b .0, bytes-front p s (b .1))
+
+-- past a part of the bytes at `at`
+pub drop-past : (s : List ℕ) (at : ℕ) (p rest : List ℕ) → drop at s ≡ p ++ rest → drop (at + length p) s ≡ rest
+drop-past s at p rest same = sym (drop-drop (length p) at s) ∙ rw same (drop-append-seam p rest)
+
+pub length-past : (at : ℕ) (p q : List ℕ) → at + length (p ++ q) ≡ at + length p + length q
+length-past at p q = omega (arith, length-append p q)
 
 -- ---- stores
 

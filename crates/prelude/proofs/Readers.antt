@@ -69,3 +69,14 @@ module _ {E A B : Type 0} (f : A → Answer E B) where
   pub bind-error : {e : E} {r : Answer E A} → error e ≡ r → error e ≡ bind r f
   unfolding bind
   bind-error q = rw (← q)
+
+pub bind-ok-by : {E A B X : Type 0} {x : B} (r : Answer E A) (f : A → Answer E B) → ok x ≡ bind r f → ((a : A) → ok a ≡ r → ok x ≡ f a → X) → X
+unfolding bind
+bind-ok-by (ok a) f e k = k a refl e
+bind-ok-by (error g) f e k = let z : _≡_ {A = ℕ} 0 1 = cc in absurd (omega arith)
+
+pub bind-error-by : {E A B X : Type 0} {x : E} (r : Answer E A) (f : A → Answer E B) → error x ≡ bind r f → (error x ≡ r → X)
+    → ((a : A) → ok a ≡ r → error x ≡ f a → X) → X
+unfolding bind
+bind-error-by (ok a) f e k l = l a refl e
+bind-error-by (error g) f e k l = k (cc)

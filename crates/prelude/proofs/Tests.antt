@@ -3,14 +3,14 @@
 -- In order: a property of both arms of a `pick`, and equal arms; one order or the other, inside a term; tests joined by `&&` and `||`; tests
 -- that a flag tells, and that follow from each other; the rulesets. The tests themselves (`lt-ltb`, `ltb-true`, ..) are those of `borrow.Author.Tests`.
 use mathlib.Core.Path.{_≡_, refl, sym, _∙_}
-use mathlib.Core.Bool.{Bool, true, false, _&&_, _||_, false≢true}
+use mathlib.Core.Bool.{Bool, true, false, not, _&&_, _||_, false≢true}
 use Prim.Native.Nat.{ℕ, _≤_, _<_}
 use native.Mathlib.Decide.{decLe}
 use native.Mathlib.Nat.{lt-of-not-le}
 use native.Mathlib.Omega.{arith}
 use lib.Dec.{leb}
 use borrow.Author.Needs.{needs}
-use borrow.Author.Tests.{ltb-true, ltb-false, leb-true, leb-false, eqb-true, lt-ltb, le-ltb, le-leb, lt-leb, eq-eqb, ne-eqb}
+use borrow.Author.Tests.{ltb-true, ltb-false, leb-true, leb-false, eqb-true, not-false, lt-ltb, le-ltb, le-leb, lt-leb, eq-eqb, ne-eqb}
 use Rattle.prelude.specs.Pick.{pick}
 
 pub pick-elim : {A : Type 0} (P : A → Type 0) (t : Bool) {x y : A} → (t ≡ true → P x) → (t ≡ false → P y) → P (pick t x y)
@@ -50,6 +50,21 @@ leb-cong a b c d f g = split b a (λ h. rw (lt-leb a b h, lt-leb c d (g h))) (λ
 pub and-false : {X : Type 0} (a b : Bool) → a && b ≡ false → (a ≡ false → X) → (b ≡ false → X) → X
 and-false true b e f g = g e
 and-false false b e f g = f refl
+
+-- a test `a && not b` that fails, as that b follows from a
+pub unless : (a b : Bool) → (a ≡ true → b ≡ true) → a && not b ≡ false
+unless true b f = rw (f refl)
+unless false b f = refl
+
+pub unless-by : (a b : Bool) → a && not b ≡ false → a ≡ true → b ≡ true
+unless-by true b e h = not-false b e
+unless-by false b e h = absurd (false≢true h)
+
+-- a test beside one that implies it
+pub and-implied : (a b : Bool) → (b ≡ true → a ≡ true) → a && b ≡ b
+and-implied true b h = refl
+and-implied false true h = h refl
+and-implied false false h = refl
 
 -- for `rw` and `simp`: a test's value from the fact
 pub ruleset tests = (lt-ltb, le-ltb, le-leb, lt-leb, eq-eqb, ne-eqb)
