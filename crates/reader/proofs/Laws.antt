@@ -10,7 +10,7 @@ use native.Mathlib.Nat.{not-suc-le-zero}
 use native.Mathlib.Numerals.{sub-one, add-one}
 use native.Mathlib.Omega.{arith}
 use lib.Dec.{eqb, ltb, leb}
-use lib.ListN.{length, take, drop, getD, drop-of-length-le}
+use lib.ListN.{length, take, drop, getD, length-take, drop-of-length-le}
 use lib.Seq.{length-take-le, drop-cons}
 use borrow.Author.Tests.{lt-ltb, ltb-true, eqb-true, eqb-false, eq-eqb, ne-eqb}
 use Rattle.prelude.specs.Pick.{pick}
@@ -25,7 +25,7 @@ use Rattle.kind.proofs.Laws.{rule-past}
 use Rattle.scan.specs.Told.{scanAt}
 use Rattle.scan.specs.declared.Head.{Head}
 use Rattle.scan.proofs.Places.{Within, scan-within}
-use Rattle.reader.specs.Region.{gate, inside, below, peek, walk}
+use Rattle.reader.specs.Region.{gate, inside, below, peek, peekOf, walk}
 use Rattle.reader.specs.Query.{Met, met, Spot, spot, turned, turn, trail, same, keyed, startsIn, pairs}
 use Rattle.reader.specs.Read.{rows, shown}
 use Rattle.reader.specs.declared.Value.the-variants.{Null}
@@ -104,6 +104,17 @@ pub peek-looked : (inner : Bool) (s : List ℕ) (q : ℕ) (h : Head) → ok h �
 peek-looked inner s q h e =
     let w = scan-within inner s q h (peek-scan inner s q h e) in
     record { body = w .body; end = w .end; used = w .used; most = w .most; aimed = subst (Aimed q) (sym e) (peek-aimed inner s q) }
+
+-- the same of a whole file
+pub peekOf-looked : (file : List ℕ) (at : ℕ) (h : Head) → ok h ≡ peekOf file at → Looked file at h
+unfolding inside bind
+peekOf-looked file at h e = in-region (gate (length file) at) e
+  where
+    in-region : (g : Answer Fault ℕ) → ok h ≡ bind g (λ n. peek false (take n file) at) → Looked file at h
+    in-region (ok n) q =
+        let l = peek-looked false (take n file) at h q in
+        record { body = l .body; end = omega (arith, l .end, length-take n file); used = l .used; most = l .most; aimed = l .aimed }
+    in-region (error f) q = let z : _≡_ {A = ℕ} 0 1 = cc in absurd (omega arith)
 
 -- ---- what is shown
 

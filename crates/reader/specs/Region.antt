@@ -5,6 +5,7 @@
 --   inside file at k what k makes of the region, or `gate`'s error
 --   peek inner s at  the token at the offset `at` of the region s, as a query looks at it, and as an item (NESTED) where `inner` is true: its
 --                    faults, then BAD_TARGET where its target is below 0; of text and targets nothing more
+--   peekOf file at   the same of a value at any offset of a file
 --   walk s k at      the offset after k items from `at` on, each looked at
 use Prim.Native.Nat.{ℕ, zero, suc, _-_}
 use mathlib.Core.Bool.{Bool, true, false, _&&_}
@@ -33,6 +34,9 @@ below at h = leb 14 (h .kind) && leb at (h .n)
 
 unfoldable pub peek : Bool → List ℕ → ℕ → Answer Fault Head
 peek inner s at = bind (scanAt inner s at) (λ h. pick (below at h) (error (fault BAD_TARGET at)) (ok h))
+
+abbrev pub peekOf : List ℕ → ℕ → Answer Fault Head
+peekOf file at = inside file at (λ s. peek false s at)
 
 unfoldable pub walk : List ℕ → ℕ → ℕ → Answer Fault ℕ
 walk s zero at = ok at

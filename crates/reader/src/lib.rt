@@ -11,7 +11,7 @@ ghost use Rattle.prelude.specs.Pick.{pick};
 ghost use Rattle.prelude.specs.Answer.{ok, error, bind};
 ghost use Rattle.error.specs.Error.{fault, BAD_TARGET};
 ghost use Rattle.scan.specs.Told as scans;
-ghost use Rattle.reader.specs.Region.{gate, below, peek, walk};
+ghost use Rattle.reader.specs.Region.{gate, below, peek, peekOf, walk};
 ghost use Rattle.reader.specs.Read.{scalar, float, shown, readIn, readOf};
 ghost use Rattle.reader.specs.Query.{skipIn, skipOf, itemIn, itemOn, itemOf, startsIn, spot, trail, followIn, followOf, bodyAt, bodyIn, bodyOf, bodyBytes, same, keyed, pairs, lookupOn, lookupIn, lookupOf};
 ghost use Rattle.reader.specs.Stages.{Looked, toldTrail, valueOf, keyOf, followOfKey, pairOf, toldPair};
@@ -155,6 +155,18 @@ fn look(region: &[u8], at: usize, inner: bool) -> ScanResult
     match scan::scan(region, at, inner) {
         ScanResult::Ok(h) => aimed(at, h),
         ScanResult::Err(e) => ScanResult::Err(e),
+    }
+}
+
+// ---- peek
+
+// The head of the value at `at`, with the errors of `read`: its kind and numbers as they stand, and where its body or first item starts.
+pub fn peek(file: &[u8], at: usize) -> ScanResult
+    ensures { λ r. ⌜ scans.told r ≡ peekOf (now (file .entry)) at ⌝ }
+{
+    match enter(file.len(), at) {
+        OffsetResult::Ok(n) => look(&file[..n], at, false),
+        OffsetResult::Err(e) => ScanResult::Err(e),
     }
 }
 

@@ -1,0 +1,477 @@
+/* Runs the samples of document 01 through the C ABI, and calls of the writer on states that hold anything. Prints
+   what differs, a line each, and exits with 1 where anything does. */
+#include <stdio.h>
+#include <string.h>
+
+#include "twine.h"
+
+#define WORDS 64
+#define ROOM 512
+#define JUNK 0xaaaaaaaau
+
+static int failures;
+
+static void expect(int line, const char *what, uint64_t got, uint64_t want) {
+    if (got != want) {
+        printf("test.c:%d: %s: %llu, and not %llu\n", line, what, (unsigned long long)got,
+               (unsigned long long)want);
+        failures++;
+    }
+}
+
+#define EXPECT(got, want) expect(__LINE__, #got, (uint64_t)(got), (uint64_t)(want))
+
+/* A byte string literal as pointer and length. */
+#define BYTES(s) (const uint8_t *)(s), sizeof(s) - 1
+
+/* ---- check and depths */
+
+/* What check and depths are to tell: the answer, out, and the first words of the tables; the others are 0. */
+struct checked {
+    uint32_t error;
+    uint64_t out[2];
+    size_t count;
+    uint32_t starts[4], depths[4];
+};
+
+/* Checks a file, given tables of junk. */
+static void check(int line, const uint8_t *file, size_t len, struct checked want) {
+    uint32_t starts[WORDS], depths[WORDS];
+    for (int deep = 0; deep < 2; deep++) {
+        uint64_t out[2] = {JUNK, JUNK};
+        memset(starts, 0xaa, sizeof starts);
+        memset(depths, 0xaa, sizeof depths);
+        uint32_t error = deep ? twine_depths(file, len, starts, WORDS, depths, WORDS, out)
+                              : twine_check(file, len, starts, WORDS, out);
+        expect(line, deep ? "twine_depths" : "twine_check", error, want.error);
+        expect(line, "out[0]", out[0], want.out[0]);
+        expect(line, "out[1]", out[1], want.out[1]);
+        for (size_t i = 0; i < WORDS; i++) {
+            expect(line, "a start", starts[i], i < want.count ? want.starts[i] : 0);
+            expect(line, "a depth", depths[i], !deep ? JUNK : i < want.count ? want.depths[i] : 0);
+        }
+    }
+}
+
+#define REFUSED(file, error, place) check(__LINE__, BYTES(file), (struct checked){error, {place, 0}, 0, {0}, {0}})
+#define ACCEPTED(file, count, entry, ...) \
+    check(__LINE__, BYTES(file), (struct checked){TWINE_OK, {count, entry}, count, __VA_ARGS__})
+
+#define HELLO "\x45hello\x61\xf6\x62\xf8\xf3\x72\x41\x61\xf5\x41\x78\x01\x06"
+#define LEAST "\x2f\xf0\xff\xff\xff\xff\xff\xff\xff\x7f\x09"
+
+static void samples(void) {
+    REFUSED("", TWINE_EMPTY, 0);
+    REFUSED("\x00", TWINE_BAD_ENTRY, 0);
+    ACCEPTED("\x00\x00", 1, 0, {0}, {1});
+    ACCEPTED(HELLO, 4, 11, {0, 6, 8, 11}, {1, 2, 3, 4});
+    ACCEPTED("\x61\x1f\x1b\x64\xf3\x11\x12\x13\x04", 2, 3, {0, 3}, {1, 2});
+    REFUSED("\x61\xf0\x01", TWINE_BAD_TARGET, 1);
+    ACCEPTED("\x1f\x1b\xe1\x00", 2, 2, {0, 2}, {1, 2});
+    REFUSED("\x1f\x80\x00\x02", TWINE_OVERLONG, 0);
+    REFUSED("\x61\x61\x00\x02", TWINE_NESTED, 1);
+    REFUSED("\x7f\xf1\xff\xff\xff\xff\xff\xff\xff\x7f\x00", TWINE_TRUNC, 0);
+    ACCEPTED(LEAST, 1, 0, {0}, {1});
+    REFUSED("\x1f\xf1\xff\xff\xff\xff\xff\xff\xff\x7f\x09", TWINE_RANGE, 0);
+    REFUSED("\x42\xc3\x28\x02", TWINE_BAD_TEXT, 0);
+    REFUSED("\x41\x61\x41\x61\x00", TWINE_BAD_ENTRY, 4);
+    REFUSED("\x41\x61\x41\x61\x05", TWINE_BAD_ENTRY, 4);
+    REFUSED("\x90\x00", TWINE_RESERVED, 0);
+}
+
+/* Tables that are too short, and a file that is too long. */
+static void short_tables(void) {
+    static uint8_t file[TWINE_LIMIT + 1];
+    uint32_t starts[4] = {JUNK, JUNK, JUNK, JUNK}, depths[4] = {JUNK, JUNK, JUNK, JUNK};
+    uint64_t out[2];
+    EXPECT(twine_check(BYTES(HELLO), starts, 3, out), TWINE_FULL);
+    EXPECT(out[0], 11);
+    EXPECT(out[1], 0);
+    EXPECT(starts[0] | starts[1] | starts[2], 0);
+    EXPECT(starts[3], JUNK);
+    EXPECT(twine_depths(BYTES(HELLO), starts, 4, depths, 2, out), TWINE_FULL);
+    EXPECT(out[0], 8);
+    EXPECT(starts[0] | starts[1] | starts[2] | starts[3] | depths[0] | depths[1], 0);
+    EXPECT(depths[2], JUNK);
+    EXPECT(twine_check(file, sizeof file, starts, 4, out), TWINE_TOO_LONG);
+    EXPECT(twine_read(file, sizeof file, 0, (uint64_t[4]){0}), TWINE_TOO_LONG);
+}
+
+/* ---- queries */
+
+static void read_at(int line, const uint8_t *file, size_t len, size_t at, uint32_t error, const uint64_t want[4]) {
+    uint64_t out[4] = {JUNK, JUNK, JUNK, JUNK};
+    expect(line, "twine_read", twine_read(file, len, at, out), error);
+    expect(line, "out[0]", out[0], want[0]);
+    expect(line, "out[1]", out[1], want[1]);
+    expect(line, "out[2]", out[2], want[2]);
+    expect(line, "out[3]", out[3], want[3]);
+}
+
+#define READ(file, at, kind, number, first, count) \
+    read_at(__LINE__, BYTES(file), at, TWINE_OK, (const uint64_t[4]){kind, number, first, count})
+#define READ_ERROR(file, at, error, place) read_at(__LINE__, BYTES(file), at, error, (const uint64_t[4]){place, 0, 0, 0})
+
+/* The call, its answer, and what it leaves in out. */
+#define ANSWER(call, error, first, second) \
+    do { \
+        uint64_t out[2] = {JUNK, JUNK}; \
+        EXPECT(call, error); \
+        EXPECT(out[0], first); \
+        EXPECT(out[1], second); \
+    } while (0)
+
+static void queries(void) {
+    /* every kind, with a number in the header and with one behind it */
+    READ("\x02\x00", 0, TWINE_KIND_SCALAR, 2, 1, 0);
+    READ("\x13\x00", 0, TWINE_KIND_INTEGER, 3, 1, 0);
+    READ("\x1f\x1b\x00", 0, TWINE_KIND_INTEGER, 42, 2, 0);
+    READ("\x20\x00", 0, TWINE_KIND_NEGATIVE, (uint64_t)-1, 1, 0);
+    READ(LEAST, 0, TWINE_KIND_NEGATIVE, (uint64_t)INT64_MIN, 10, 0);
+    READ("\x30\x01\x02\x03\x84\x00", 0, TWINE_KIND_FLOAT, 0x84030201u, 1, 4);
+    READ("\x31\x01\x02\x03\x04\x05\x06\x07\x88\x00", 0, TWINE_KIND_FLOAT, 0x8807060504030201u, 1, 8);
+    READ("\x42hi\x00", 0, TWINE_KIND_TEXT, 2, 1, 2);
+    READ("\x5f\x00" "123456789012345\x00", 0, TWINE_KIND_BYTES, 15, 2, 15);
+    READ("\x62\x00\x01\x00", 0, TWINE_KIND_ARRAY, 2, 1, 2);
+    READ("\x71\x00\x01\x00", 0, TWINE_KIND_MAP, 1, 1, 2);
+    READ("\x8f\x01\x00\x00", 0, TWINE_KIND_TAG, 16, 2, 1);
+    READ("\xaf\xf0\xff\xff\xff\x0f\x00", 0, TWINE_KIND_VARIANT, 0xffffffffu, 6, 0);
+    READ("\xb4\x00\x00", 0, TWINE_KIND_VARIANT1, 4, 1, 1);
+    READ("\xc5\x02\x00\x01\x00", 0, TWINE_KIND_VARIANTN, 5, 2, 2);
+    READ("\x00\x01\xe1\x00", 2, TWINE_KIND_REFERENCE, 0, 3, 0);
+    READ("\x00\x01\xf0\x00", 2, TWINE_KIND_POINTER, 1, 3, 0);
+    READ("\x42\xc3\x28\x02", 0, TWINE_KIND_TEXT, 2, 1, 2);
+    READ_ERROR("\x00\x01\xf2\x00", 2, TWINE_BAD_TARGET, 2);
+    READ_ERROR("\x90\x00", 0, TWINE_RESERVED, 0);
+    READ_ERROR("\x00\x00", 1, TWINE_OUTSIDE, 1);
+    READ_ERROR("\x00\x00", SIZE_MAX, TWINE_OUTSIDE, SIZE_MAX);
+    READ_ERROR("", 0, TWINE_EMPTY, 0);
+
+    READ(HELLO, 0, TWINE_KIND_TEXT, 5, 1, 5);
+    READ(HELLO, 6, TWINE_KIND_ARRAY, 1, 7, 1);
+    READ(HELLO, 7, TWINE_KIND_POINTER, 0, 8, 0);
+    READ(HELLO, 11, TWINE_KIND_MAP, 2, 12, 4);
+    ANSWER(twine_skip(BYTES(HELLO), 11, out), TWINE_OK, 18, 0);
+    ANSWER(twine_skip(BYTES("\x61\x61\x00\x02"), 0, out), TWINE_NESTED, 1, 0);
+    ANSWER(twine_skip(BYTES(HELLO), 18, out), TWINE_OUTSIDE, 18, 0);
+
+    ANSWER(twine_item(BYTES("\x61\x1f\x1b\x64\xf3\x11\x12\x13\x04"), 3, 3, out), TWINE_OK, 7, 0);
+    ANSWER(twine_item(BYTES("\x61\x1f\x1b\x64\xf3\x11\x12\x13\x04"), 3, 4, out), TWINE_NO_ITEM, 3, 0);
+    ANSWER(twine_item(BYTES(HELLO), 11, 2, out), TWINE_OK, 15, 0);
+    ANSWER(twine_item(BYTES(HELLO), 11, SIZE_MAX, out), TWINE_NO_ITEM, 11, 0);
+    ANSWER(twine_item(BYTES(HELLO), 0, 0, out), TWINE_WRONG_KIND, 0, 0);
+
+    ANSWER(twine_follow(BYTES(HELLO), 7, out), TWINE_OK, 0, 1);
+    ANSWER(twine_follow(BYTES(HELLO), 14, out), TWINE_OK, 8, 1);
+    ANSWER(twine_follow(BYTES("\x00\xf0\xf0\x00"), 2, out), TWINE_OK, 0, 2);
+    ANSWER(twine_follow(BYTES("\x61\xf1\x00"), 1, out), TWINE_BAD_TARGET, 1, 0);
+
+    ANSWER(twine_lookup(BYTES(HELLO), 11, BYTES("a"), out), TWINE_OK, 14, 0);
+    ANSWER(twine_lookup(BYTES(HELLO), 11, BYTES("x"), out), TWINE_OK, 17, 0);
+    ANSWER(twine_lookup(BYTES(HELLO), 11, BYTES("b"), out), TWINE_NO_ITEM, 11, 0);
+    ANSWER(twine_lookup(BYTES(HELLO), 11, BYTES(""), out), TWINE_NO_ITEM, 11, 0);
+    ANSWER(twine_lookup(BYTES(HELLO), 8, BYTES("a"), out), TWINE_WRONG_KIND, 8, 0);
+
+    ANSWER(twine_body(BYTES(HELLO), 0, out), TWINE_OK, 1, 5);
+    ANSWER(twine_body(BYTES(HELLO), 7, out), TWINE_OK, 1, 5);
+    ANSWER(twine_body(BYTES(HELLO), 14, out), TWINE_WRONG_KIND, 8, 0);
+}
+
+/* ---- writer */
+
+static uint64_t state[TWINE_STATE];
+static uint8_t output[ROOM];
+static uint32_t table[WORDS];
+
+/* The lengths that a call is told. */
+static size_t room = ROOM, words = WORDS;
+
+enum call {
+    BOOL, NULL_, INTEGER, FLOAT32, FLOAT64, TEXT, BYTES_, VARIANT, REFERENCE, POINTER,
+    ARRAY, MAP, TAG, VARIANT1, VARIANTN, CLOSE, CALLS
+};
+
+/* A call with its number, its bytes, or (VARIANTN) its number and a count of items. */
+static uint32_t call(enum call c, uint64_t n, const uint8_t *body, size_t len) {
+    switch (c) {
+    case BOOL: return twine_write_bool(state, n != 0, output, room, table, words);
+    case NULL_: return twine_write_null(state, output, room, table, words);
+    case INTEGER: return twine_write_integer(state, (int64_t)n, output, room, table, words);
+    case FLOAT32: return twine_write_float32(state, (uint32_t)n, output, room, table, words);
+    case FLOAT64: return twine_write_float64(state, n, output, room, table, words);
+    case TEXT: return twine_write_text(state, body, len, output, room, table, words);
+    case BYTES_: return twine_write_bytes(state, body, len, output, room, table, words);
+    case VARIANT: return twine_write_variant(state, (uint32_t)n, output, room, table, words);
+    case REFERENCE: return twine_write_reference(state, n, output, room, table, words);
+    case POINTER: return twine_write_pointer(state, n, output, room, table, words);
+    case ARRAY: return twine_open_array(state, n, output, room, table, words);
+    case MAP: return twine_open_map(state, n, output, room, table, words);
+    case TAG: return twine_open_tag(state, n, output, room, table, words);
+    case VARIANT1: return twine_open_variant1(state, (uint32_t)n, output, room, table, words);
+    case VARIANTN: return twine_open_variantn(state, (uint32_t)n, len, output, room, table, words);
+    case CLOSE: return twine_close(state, n, output, room, table, words);
+    default: return UINT32_MAX;
+    }
+}
+
+/* A call, held to what the header says of every call: refused, it leaves all as it was; accepted, it changes the
+   state, the bytes from the old to the new `written`, and at most the word `count`. */
+static uint32_t held(int line, enum call c, uint64_t n, const uint8_t *body, size_t len) {
+    uint64_t old_state[TWINE_STATE];
+    uint8_t old_output[ROOM], old_body[ROOM];
+    uint32_t old_table[WORDS];
+    memcpy(old_state, state, sizeof state);
+    memcpy(old_output, output, sizeof output);
+    memcpy(old_table, table, sizeof table);
+    memcpy(old_body, body, len < ROOM ? len : 0);
+    uint32_t error = call(c, n, body, len);
+    if (c == TEXT || c == BYTES_) {
+        expect(line, "an argument that has changed", memcmp(old_body, body, len) != 0, 0);
+    }
+    if (error != TWINE_OK) {
+        expect(line, "a refused call that changes the state", memcmp(old_state, state, sizeof state) != 0, 0);
+        expect(line, "a refused call that changes the output", memcmp(old_output, output, sizeof output) != 0, 0);
+        expect(line, "a refused call that changes the table", memcmp(old_table, table, sizeof table) != 0, 0);
+        expect(line, "an error that the writer does not have", error < TWINE_BAD_TEXT || error > TWINE_BAD_STATE, 0);
+        return error;
+    }
+    uint64_t old = old_state[0], new = state[0], k = old_state[1];
+    expect(line, "an accepted call of a closed writer", old_state[4], 0);
+    expect(line, "a call that writes nothing", new > old, 1);
+    expect(line, "bytes written past the output", new <= room, 1);
+    expect(line, "a count that goes on by another number than 0 or 1", state[1] - k > 1, 0);
+    expect(line, "a closed word", state[4], c == CLOSE);
+    for (size_t i = 0; i < ROOM; i++) {
+        if (i < old || i >= new) {
+            expect(line, "a byte that is not the call's", output[i], old_output[i]);
+        }
+    }
+    for (size_t i = 0; i < WORDS; i++) {
+        if (i != k || state[1] == k) {
+            expect(line, "a word that is not the call's", table[i], old_table[i]);
+        }
+    }
+    return error;
+}
+
+#define CALL(c, n, error) expect(__LINE__, #c, held(__LINE__, c, n, (const uint8_t *)"", 0), error)
+#define CALL_BODY(c, bytes, error) expect(__LINE__, #c, held(__LINE__, c, 0, BYTES(bytes)), error)
+#define STATE(a, b, c, d, e) (state[0] = a, state[1] = b, state[2] = c, state[3] = d, state[4] = e)
+
+static void fresh(size_t bytes, size_t entries) {
+    memset(state, 0xaa, sizeof state);
+    memset(output, 0xaa, sizeof output);
+    memset(table, 0xaa, sizeof table);
+    room = bytes;
+    words = entries;
+    EXPECT(twine_writer_new(state), TWINE_OK);
+    EXPECT(state[0] | state[1] | state[2] | state[3] | state[4], 0);
+}
+
+/* The hello sample, with calls between that are refused. */
+static void hello(void) {
+    fresh(sizeof HELLO - 1, 4);
+    CALL(POINTER, 0, TWINE_BAD_TARGET);
+    CALL_BODY(TEXT, "hello", TWINE_OK);
+    CALL_BODY(TEXT, "\xc3\x28", TWINE_BAD_TEXT);
+    CALL(ARRAY, 1, TWINE_OK);
+    CALL(ARRAY, 1, TWINE_OWED);
+    CALL(CLOSE, 0, TWINE_OWED);
+    CALL(POINTER, 6, TWINE_BAD_TARGET);
+    CALL(POINTER, 0, TWINE_OK);
+    CALL(ARRAY, 2, TWINE_OK);
+    CALL(POINTER, 0, TWINE_OK);
+    CALL(POINTER, 6, TWINE_OK);
+    CALL(MAP, (uint64_t)1 << 63, TWINE_NO_ROOM);
+    CALL(MAP, 2, TWINE_OK);
+    CALL_BODY(TEXT, "a", TWINE_OK);
+    CALL(POINTER, 8, TWINE_OK);
+    CALL_BODY(TEXT, "xy", TWINE_NO_ROOM);
+    CALL_BODY(TEXT, "x", TWINE_OK);
+    CALL(BOOL, 1, TWINE_OK);
+    CALL(NULL_, 0, TWINE_FULL);
+    CALL(CLOSE, 12, TWINE_BAD_TARGET);
+    CALL(CLOSE, 11, TWINE_OK);
+    CALL(BOOL, 1, TWINE_CLOSED);
+    EXPECT(state[0], sizeof HELLO - 1);
+    EXPECT(memcmp(output, HELLO, sizeof HELLO - 1), 0);
+    EXPECT(table[0], 0);
+    EXPECT(table[1], 6);
+    EXPECT(table[2], 8);
+    EXPECT(table[3], 11);
+}
+
+/* Every call, as `twine_read` tells it back. */
+static void back(void) {
+    fresh(ROOM, WORDS);
+    CALL(BOOL, 0, TWINE_OK);
+    CALL(BOOL, 1, TWINE_OK);
+    CALL(NULL_, 0, TWINE_OK);
+    CALL(INTEGER, 42, TWINE_OK);
+    CALL(INTEGER, (uint64_t)INT64_MIN, TWINE_OK);
+    CALL(FLOAT32, 0x84030201u, TWINE_OK);
+    CALL(FLOAT64, 0x8807060504030201u, TWINE_OK);
+    CALL_BODY(TEXT, "text", TWINE_OK);
+    CALL_BODY(BYTES_, "\xff\xfe", TWINE_OK);
+    CALL(VARIANT, 0xffffffffu, TWINE_OK);
+    CALL(REFERENCE, 1, TWINE_OK);
+    CALL(POINTER, 2, TWINE_OK);
+    CALL(ARRAY, 1, TWINE_OK);
+    CALL(NULL_, 0, TWINE_OK);
+    CALL(MAP, 0, TWINE_OK);
+    CALL(TAG, UINT64_MAX, TWINE_OK);
+    CALL(NULL_, 0, TWINE_OK);
+    CALL(VARIANT1, 7, TWINE_OK);
+    CALL(NULL_, 0, TWINE_OK);
+    CALL(VARIANTN, 8, TWINE_OK);
+    CALL(CLOSE, 0, TWINE_OK);
+    static const uint64_t want[][3] = {
+        {TWINE_KIND_SCALAR, 0, 0},
+        {TWINE_KIND_SCALAR, 1, 0},
+        {TWINE_KIND_SCALAR, 2, 0},
+        {TWINE_KIND_INTEGER, 42, 0},
+        {TWINE_KIND_NEGATIVE, (uint64_t)INT64_MIN, 0},
+        {TWINE_KIND_FLOAT, 0x84030201u, 4},
+        {TWINE_KIND_FLOAT, 0x8807060504030201u, 8},
+        {TWINE_KIND_TEXT, 4, 4},
+        {TWINE_KIND_BYTES, 2, 2},
+        {TWINE_KIND_VARIANT, 0xffffffffu, 0},
+        {TWINE_KIND_REFERENCE, 1, 0},
+        {TWINE_KIND_POINTER, 2, 0},
+        {TWINE_KIND_ARRAY, 1, 1},
+        {TWINE_KIND_MAP, 0, 0},
+        {TWINE_KIND_TAG, UINT64_MAX, 1},
+        {TWINE_KIND_VARIANT1, 7, 1},
+        {TWINE_KIND_VARIANTN, 8, 0},
+    };
+    size_t count = sizeof want / sizeof want[0];
+    uint32_t starts[WORDS];
+    uint64_t out[2];
+    EXPECT(twine_check(output, state[0], starts, WORDS, out), TWINE_OK);
+    EXPECT(out[0], count);
+    EXPECT(out[1], 0);
+    for (size_t i = 0; i < count; i++) {
+        uint64_t value[4];
+        EXPECT(starts[i], table[i]);
+        EXPECT(twine_read(output, state[0], starts[i], value), TWINE_OK);
+        EXPECT(value[0], want[i][0]);
+        EXPECT(value[1], want[i][1]);
+        EXPECT(value[3], want[i][2]);
+    }
+}
+
+/* A close at 0 with 256 bytes written has the delta 255; with 257 a pointer is added. */
+static void deltas(void) {
+    static uint8_t zeros[ROOM];
+    for (size_t size = 256; size <= 257; size++) {
+        fresh(ROOM, WORDS);
+        EXPECT(held(__LINE__, BYTES_, 0, zeros, size - 3), TWINE_OK);
+        EXPECT(state[0], size);
+        CALL(CLOSE, 0, TWINE_OK);
+        uint64_t out[2];
+        uint32_t starts[2];
+        EXPECT(twine_check(output, state[0], starts, 2, out), TWINE_OK);
+        if (size == 256) {
+            EXPECT(state[0], 257);
+            EXPECT(output[256], 255);
+            EXPECT(out[0], 1);
+            EXPECT(out[1], 0);
+        } else {
+            EXPECT(state[0], 257 + 3 + 1);
+            EXPECT(output[260], 2);
+            EXPECT(out[0], 2);
+            EXPECT(out[1], 257);
+            EXPECT(table[1], 257);
+            ANSWER(twine_follow(output, state[0], 257, out), TWINE_OK, 0, 1);
+        }
+    }
+}
+
+/* Chosen states, and then any. */
+static void states(void) {
+    fresh(16, 2);
+    STATE(17, 0, 0, 0, 0);
+    CALL(NULL_, 0, TWINE_BAD_STATE);
+    STATE(0, 3, 0, 0, 0);
+    CALL(NULL_, 0, TWINE_BAD_STATE);
+    STATE(1, 2, 1, 0, 0);
+    CALL(NULL_, 0, TWINE_BAD_STATE);
+    STATE(1, 0, 1, 1, 0);
+    CALL(NULL_, 0, TWINE_BAD_STATE);
+    STATE(UINT64_MAX, UINT64_MAX, UINT64_MAX, UINT64_MAX, UINT64_MAX);
+    CALL(CLOSE, 0, TWINE_BAD_STATE);
+    STATE(1, 0, 0, 99, 7);
+    CALL(NULL_, 0, TWINE_CLOSED);
+    EXPECT(state[4], 7);
+    STATE(1, 0, 1, 0, (uint64_t)1 << 63);
+    CALL(NULL_, 0, TWINE_CLOSED);
+    STATE(1, 0, 1, 0, 0);
+    CALL(NULL_, 0, TWINE_OK);
+    EXPECT(state[0], 2);
+    EXPECT(state[1], 1);
+    EXPECT(table[0], 0);
+    STATE(0, 0, 0, 77, 0);
+    CALL(ARRAY, 16, TWINE_NO_ROOM);
+
+    uint64_t seed = 1;
+    int accepted = 0;
+    for (int turn = 0; turn < 200000; turn++) {
+        uint64_t r[12];
+        for (int i = 0; i < 12; i++) {
+            seed = seed * 6364136223846793005u + 1442695040888963407u;
+            r[i] = seed >> 33;
+        }
+        room = r[0] % 3 ? r[0] % 48 : ROOM;
+        words = r[1] % (r[1] % 7 ? 6 : WORDS);
+        STATE(r[2] % 40, r[3] % 6, r[4] % 3 ? 0 : r[4] % 5, r[5] % 40, r[6] % 8 ? 0 : r[6]);
+        if (r[7] % 16 == 0) {
+            state[r[7] / 16 % TWINE_STATE] = seed;
+        }
+        for (size_t i = 0; i < 6; i++) {
+            table[i] = (uint32_t)(r[8] >> i) % 40;
+        }
+        output[r[8] % ROOM] = (uint8_t)r[9];
+        uint8_t body[32];
+        size_t len = r[9] % sizeof body;
+        memset(body, r[9] % 5 ? 'a' : 0xc3, sizeof body);
+        uint64_t n = r[10] % 4 ? r[10] % 40 : seed;
+        accepted += held(__LINE__, (enum call)(r[11] % CALLS), n, body, len) == TWINE_OK;
+    }
+    EXPECT(accepted > 20000, 1);
+}
+
+/* ---- names */
+
+static void names(void) {
+    static const char *const want[] = {
+        "",           "EMPTY", "TOO_LONG",  "TRUNC",   "RESERVED", "OVERLONG",   "RANGE",   "NESTED", "BAD_TEXT",
+        "BAD_TARGET", "FULL",  "BAD_ENTRY", "OUTSIDE", "NO_ITEM",  "WRONG_KIND", "NO_ROOM", "OWED",   "CLOSED",
+        "BAD_STATE",  "",
+    };
+    for (uint32_t n = 0; n < sizeof want / sizeof want[0]; n++) {
+        char name[TWINE_NAME];
+        memset(name, 'x', sizeof name);
+        twine_error_name(n, name);
+        if (strcmp(name, want[n]) != 0) {
+            printf("test.c: the name of %u is %s, and not %s\n", (unsigned)n, name, want[n]);
+            failures++;
+        }
+    }
+}
+
+int main(void) {
+    samples();
+    short_tables();
+    queries();
+    hello();
+    back();
+    deltas();
+    states();
+    names();
+    if (failures != 0) {
+        printf("c: %d failed\n", failures);
+        return 1;
+    }
+    printf("c: ok\n");
+    return 0;
+}

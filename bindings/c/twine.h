@@ -1,0 +1,253 @@
+/*
+ * twine.h: a reader and a writer of plan files in the Twine wire format.
+ *
+ * Link with libtwine.a, which `rt staticlib twine` writes to target/staticlib/ (x86-64 Linux). Nothing is
+ * allocated, printed or kept between calls.
+ *
+ * A file is values back to back, the region, and one last byte, which names the value where a reader starts,
+ * the entry. Offsets count from the file's first byte. A value is a header with its numbers, and then a body or
+ * items; an item is a value that has no items itself.
+ *
+ * Any bytes, offsets, indexes, tables and writer states may be handed in. Each call ends with an answer or an
+ * error, and touches no memory but what it is handed; what it answers and leaves there is proved for every input
+ * (the contracts in crates/twine/src/lib.rt). The caller's part, which nothing checks:
+ *
+ *   - a pointer is not NULL, also where its length is 0, and names as many initialized elements as said;
+ *   - memory that a call writes (starts, depths, out, state, name) overlaps no other that the call is handed;
+ *   - nobody else writes any of it during the call.
+ *
+ * Each function but twine_error_name answers an error's number, TWINE_OK for none.
+ */
+#ifndef TWINE_H
+#define TWINE_H
+
+#include <stdbool.h>
+#include <stddef.h>
+#include <stdint.h>
+
+#ifdef __cplusplus
+extern "C" {
+#endif
+
+/* The most bytes that a file may have. */
+#define TWINE_LIMIT 16777216
+
+/* The words of a writer's state. */
+#define TWINE_STATE 5
+
+/* The bytes of an error's name, with the 0 at its end. */
+#define TWINE_NAME 11
+
+/* What a call answers. In brackets the place, the offset that is told with the number; the writer's errors have
+   none. */
+enum twine_error {
+    TWINE_OK = 0,
+    /* the file has no bytes [0] */
+    TWINE_EMPTY = 1,
+    /* the file has more than TWINE_LIMIT bytes [0] */
+    TWINE_TOO_LONG = 2,
+    /* the region ends inside a number or a body, or a length or count exceeds the bytes left [the header]; an item
+       is wanted at the region's end [that end] */
+    TWINE_TRUNC = 3,
+    /* a reserved kind or low nibble [the header] */
+    TWINE_RESERVED = 4,
+    /* a number that is not in its shortest form [the header] */
+    TWINE_OVERLONG = 5,
+    /* a number over its kind's bound or over 64 bits [the header] */
+    TWINE_RANGE = 6,
+    /* an item of a kind that may have items [the item's header] */
+    TWINE_NESTED = 7,
+    /* a text that is not text [the header] */
+    TWINE_BAD_TEXT = 8,
+    /* a reference or pointer to no value that ended before [the header]; writer: to no finished value */
+    TWINE_BAD_TARGET = 9,
+    /* one value more than the table has words [the value's start] */
+    TWINE_FULL = 10,
+    /* the last byte names no value [its own offset] */
+    TWINE_BAD_ENTRY = 11,
+    /* the offset is not in the region [the offset] */
+    TWINE_OUTSIDE = 12,
+    /* an index at or past the count, or a key that is not there [the value's offset] */
+    TWINE_NO_ITEM = 13,
+    /* the query does not fit the kind [the offset of the value of the wrong kind] */
+    TWINE_WRONG_KIND = 14,
+    /* writer: the output has no room */
+    TWINE_NO_ROOM = 15,
+    /* writer: items are still pending */
+    TWINE_OWED = 16,
+    /* writer: already closed */
+    TWINE_CLOSED = 17,
+    /* writer: a state that the output or the table does not fit */
+    TWINE_BAD_STATE = 18
+};
+
+/* What a value is. Arrays, maps, tags, VARIANT1 and VARIANTN may have items, and are no items. */
+enum twine_kind {
+    TWINE_KIND_SCALAR = 0,
+    TWINE_KIND_INTEGER = 1,
+    TWINE_KIND_NEGATIVE = 2,
+    TWINE_KIND_FLOAT = 3,
+    TWINE_KIND_TEXT = 4,
+    TWINE_KIND_BYTES = 5,
+    TWINE_KIND_ARRAY = 6,
+    TWINE_KIND_MAP = 7,
+    TWINE_KIND_TAG = 8,
+    TWINE_KIND_VARIANT = 10,
+    TWINE_KIND_VARIANT1 = 11,
+    TWINE_KIND_VARIANTN = 12,
+    TWINE_KIND_REFERENCE = 14,
+    TWINE_KIND_POINTER = 15
+};
+
+/* The name of an error, as "BAD_TARGET", with 0 in every byte behind it; no letters for a number that no error
+   has. */
+void twine_error_name(uint32_t number, char name[TWINE_NAME]);
+
+/* ---- check and depths */
+
+/* Checks a file. out = {count of values, offset of the entry}; starts gets the offset where each value starts, in
+   rising order, and 0 in every other word. On an error out = {place, 0}, and starts gets 0 in every word. A value
+   has at least one byte, so that len - 1 words, one for each byte of the region, are always enough. */
+uint32_t twine_check(const uint8_t *file, size_t len,
+                     uint32_t *starts, size_t words, uint64_t out[2]);
+
+/* Checks a file, and tells how deep each value is: how many values the longest way from it has along pointers and
+   references, itself counted. out and starts as twine_check; depths gets the depth of each value, and 0 in every
+   other word. Check's errors come first, then TWINE_FULL where words2 is less than the count. On an error
+   out = {place, 0}, and both tables get 0 in every word. */
+uint32_t twine_depths(const uint8_t *file, size_t len,
+                      uint32_t *starts, size_t words, uint32_t *depths, size_t words2, uint64_t out[2]);
+
+/* ---- queries
+
+   They take any offset of any file, checked or not. TWINE_EMPTY, TWINE_TOO_LONG and TWINE_OUTSIDE come first, then
+   the errors of the values that are read. On an error out = {place, 0}, of twine_read {place, 0, 0, 0}. */
+
+/* Reads the value at an offset, but neither its items nor the bytes of a text. out = {kind, number, first, count};
+   first is the offset just after the header's numbers, where the body or the first item starts.
+
+     kind                  number                              count
+     SCALAR                0 false, 1 true, 2 null             0
+     INTEGER, NEGATIVE     the integer, in two's complement    0
+     FLOAT                 the bits                            4 or 8, the bytes
+     TEXT, BYTES           the bytes                           the bytes
+     ARRAY                 the items                           the items
+     MAP                   the pairs                           the items, two for each pair
+     TAG                   the tag                             1
+     VARIANT               the index                           0
+     VARIANT1              the index                           1
+     VARIANTN              the index                           the items
+     REFERENCE, POINTER    the offset of the target            0                                            */
+uint32_t twine_read(const uint8_t *file, size_t len, size_t at, uint64_t out[4]);
+
+/* Where the value at an offset ends, its items included, which are read. out = {offset just after it, 0}. */
+uint32_t twine_skip(const uint8_t *file, size_t len, size_t at, uint64_t out[2]);
+
+/* An item of the value at an offset, which is not followed; of a map keys and values by turns.
+   out = {offset of the item, 0}. TWINE_WRONG_KIND of a kind without items, TWINE_NO_ITEM of an index at or past the
+   count. It takes time with the items before it: a loop over items takes item 0, and then what twine_skip tells of
+   each. */
+uint32_t twine_item(const uint8_t *file, size_t len, size_t at, size_t index, uint64_t out[2]);
+
+/* Follows pointers, but not references, from the value at an offset to one that is no pointer.
+   out = {its offset, pointers met}. */
+uint32_t twine_follow(const uint8_t *file, size_t len, size_t at, uint64_t out[2]);
+
+/* The value that the map at an offset has for a key: of the first pair whose key, followed, is a text of these
+   bytes. The map itself is not followed. out = {offset of the value, 0}. TWINE_WRONG_KIND of another kind,
+   TWINE_NO_ITEM where no key is it. */
+uint32_t twine_lookup(const uint8_t *file, size_t len, size_t at,
+                      const uint8_t *key, size_t key_len, uint64_t out[2]);
+
+/* The bytes of the text or byte string that the value at an offset is or that pointers lead to.
+   out = {offset of the first byte, count of bytes}. TWINE_WRONG_KIND where they lead to another kind. */
+uint32_t twine_body(const uint8_t *file, size_t len, size_t at, uint64_t out[2]);
+
+/* ---- writer
+
+   A writer's state is five words of the caller's, {written, count, pending, start, closed}: the bytes written, the
+   values finished, the items that the open value still has to get, its start (without meaning where none are
+   pending), and whether the file is closed (any word but 0). Any five words are a state; one that out or starts
+   does not fit is TWINE_BAD_STATE.
+
+   out and starts go into each call as the call before left them. A call writes behind the first `written` bytes of
+   out, and the start of a value that it finishes into the word `count` of starts. TWINE_OK: the state is the next
+   one, and in out and starts nothing else has changed. On an error state, out and starts are as they were, in
+   every word and byte.
+
+   A byte of out is held back for the close and for each item pending, so that an open value can always be finished.
+   As many words as out has bytes less one are always enough. After the close the file is the first `written` bytes.
+
+   The first of these is the error: BAD_STATE, CLOSED, OWED, BAD_TEXT, BAD_TARGET, FULL, NO_ROOM. */
+
+/* The state of a writer that has written nothing: five zeros. TWINE_OK. */
+uint32_t twine_writer_new(uint64_t state[TWINE_STATE]);
+
+/* Immediates: the next item where items are pending, and else a value of its own. */
+
+uint32_t twine_write_bool(uint64_t state[TWINE_STATE], bool value,
+                          uint8_t *out, size_t out_len, uint32_t *starts, size_t words);
+
+uint32_t twine_write_null(uint64_t state[TWINE_STATE],
+                          uint8_t *out, size_t out_len, uint32_t *starts, size_t words);
+
+uint32_t twine_write_integer(uint64_t state[TWINE_STATE], int64_t value,
+                             uint8_t *out, size_t out_len, uint32_t *starts, size_t words);
+
+/* A float of four bytes, and one of eight, by its bits. */
+uint32_t twine_write_float32(uint64_t state[TWINE_STATE], uint32_t bits,
+                             uint8_t *out, size_t out_len, uint32_t *starts, size_t words);
+
+uint32_t twine_write_float64(uint64_t state[TWINE_STATE], uint64_t bits,
+                             uint8_t *out, size_t out_len, uint32_t *starts, size_t words);
+
+/* A text; TWINE_BAD_TEXT of bytes that are none. */
+uint32_t twine_write_text(uint64_t state[TWINE_STATE], const uint8_t *text, size_t len,
+                          uint8_t *out, size_t out_len, uint32_t *starts, size_t words);
+
+/* A byte string. */
+uint32_t twine_write_bytes(uint64_t state[TWINE_STATE], const uint8_t *bytes, size_t len,
+                           uint8_t *out, size_t out_len, uint32_t *starts, size_t words);
+
+/* A variant without arguments. */
+uint32_t twine_write_variant(uint64_t state[TWINE_STATE], uint32_t index,
+                             uint8_t *out, size_t out_len, uint32_t *starts, size_t words);
+
+/* A reference, and a pointer, to the finished value that starts at an offset; TWINE_BAD_TARGET where none does. */
+uint32_t twine_write_reference(uint64_t state[TWINE_STATE], size_t at,
+                               uint8_t *out, size_t out_len, uint32_t *starts, size_t words);
+
+uint32_t twine_write_pointer(uint64_t state[TWINE_STATE], size_t at,
+                             uint8_t *out, size_t out_len, uint32_t *starts, size_t words);
+
+/* Openings: a value whose items are the next immediates. TWINE_OWED while items are pending. */
+
+uint32_t twine_open_array(uint64_t state[TWINE_STATE], uint64_t items,
+                          uint8_t *out, size_t out_len, uint32_t *starts, size_t words);
+
+/* A map, whose items are key and value of each pair by turns. */
+uint32_t twine_open_map(uint64_t state[TWINE_STATE], uint64_t pairs,
+                        uint8_t *out, size_t out_len, uint32_t *starts, size_t words);
+
+/* A tag, with one item. */
+uint32_t twine_open_tag(uint64_t state[TWINE_STATE], uint64_t tag,
+                        uint8_t *out, size_t out_len, uint32_t *starts, size_t words);
+
+/* A variant with one argument, and one with as many as said. */
+uint32_t twine_open_variant1(uint64_t state[TWINE_STATE], uint32_t index,
+                             uint8_t *out, size_t out_len, uint32_t *starts, size_t words);
+
+uint32_t twine_open_variantn(uint64_t state[TWINE_STATE], uint32_t index, uint64_t items,
+                             uint8_t *out, size_t out_len, uint32_t *starts, size_t words);
+
+/* Ends the file. Its entry is the finished value that starts at an offset, or a pointer to it, which is added as
+   one more value where the last byte does not reach back to it. TWINE_OWED while items are pending,
+   TWINE_BAD_TARGET where no finished value starts there. */
+uint32_t twine_close(uint64_t state[TWINE_STATE], size_t at,
+                     uint8_t *out, size_t out_len, uint32_t *starts, size_t words);
+
+#ifdef __cplusplus
+}
+#endif
+
+#endif

@@ -1,0 +1,11 @@
+-- `twine::tell_error` meets its contract.
+use borrow.Author.Needs.{needs}
+use Rattle.twine.proofs.tell_error.Statement.{statement}
+use Rattle.twine.proofs.tell_error.Tie as tie
+
+pub tell-error-spec : {M : Type 1} → statement M
+tell-error-spec =
+    tie.close
+    (tie.spec
+    (λ c κs. search needs)
+    (λ c. rw (c .number .ensures .0)))

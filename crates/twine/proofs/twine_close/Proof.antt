@@ -1,0 +1,17 @@
+-- `twine::twine_close` meets its contract.
+use borrow.Author.Needs.{needs}
+use Rattle.twine.proofs.Calls.{step-called}
+use Rattle.twine.proofs.twine_close.Statement.{statement}
+use Rattle.twine.proofs.twine_close.Tie as tie
+
+pub twine-close-spec : {M : Type 1} → statement M
+twine-close-spec =
+    tie.close
+    (tie.spec
+    (λ c κs. search needs)
+    (λ c κs. search needs)
+    (λ c κs. search needs)
+    (λ c. search needs)
+    (λ c. search needs)
+    (λ c. let k = c .before .before .before .before .before .before in
+    step-called _ _ _ _ (k .close .result) (k .before .before .before .load .ensures) (k .close .ensures) (c .settle .ensures)))

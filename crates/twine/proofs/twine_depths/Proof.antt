@@ -1,0 +1,19 @@
+-- `twine::twine_depths` meets its contract.
+use mathlib.Core.Path.{ap, _∙_}
+use borrow.Author.Needs.{needs}
+use Rattle.depths.specs.Depths.{Deepened}
+use Rattle.twine.specs.Reply.{Reply, pairC, depthsReply}
+use Rattle.twine.proofs.twine_depths.Statement.{statement}
+use Rattle.twine.proofs.twine_depths.Tie as tie
+
+pub twine-depths-spec : {M : Type 1} → statement M
+twine-depths-spec =
+    tie.close
+    (tie.spec
+    (λ c κs. search needs)
+    (λ c κs. search needs)
+    (λ c. search needs)
+    (λ c. search needs)
+    (λ c. let k = c .before .before .before .before .before .before in
+    ap (λ (r : Reply). depthsReply r (k .depths .last .1 .0) (k .depths .last .1 .1 .0)) (c .tell-entry .ensures)
+    ∙ ap (λ (x : Deepened). depthsReply (pairC (x .answer)) (x .starts) (x .depths)) (k .depths .ensures)))

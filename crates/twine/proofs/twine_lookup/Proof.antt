@@ -1,0 +1,14 @@
+-- `twine::twine_lookup` meets its contract.
+use mathlib.Core.Path.{ap, _∙_}
+use borrow.Author.Needs.{needs}
+use Rattle.twine.specs.Reply.{offsetC}
+use Rattle.twine.proofs.twine_lookup.Statement.{statement}
+use Rattle.twine.proofs.twine_lookup.Tie as tie
+
+pub twine-lookup-spec : {M : Type 1} → statement M
+twine-lookup-spec =
+    tie.close
+    (tie.spec
+    (λ c κs. search needs)
+    (λ c κs. search needs)
+    (λ c. c .tell-offset .ensures ∙ ap offsetC (c .before .before .lookup .ensures)))

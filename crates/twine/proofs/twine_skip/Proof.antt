@@ -1,0 +1,14 @@
+-- `twine::twine_skip` meets its contract.
+use mathlib.Core.Path.{ap, _∙_}
+use borrow.Author.Needs.{needs}
+use Rattle.twine.specs.Reply.{offsetC}
+use Rattle.twine.proofs.twine_skip.Statement.{statement}
+use Rattle.twine.proofs.twine_skip.Tie as tie
+
+pub twine-skip-spec : {M : Type 1} → statement M
+twine-skip-spec =
+    tie.close
+    (tie.spec
+    (λ c κs. search needs)
+    (λ c κs. search needs)
+    (λ c. c .tell-offset .ensures ∙ ap offsetC (c .before .before .skip .ensures)))

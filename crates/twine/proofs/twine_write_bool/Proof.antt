@@ -1,0 +1,18 @@
+-- `twine::twine_write_bool` meets its contract: `truth` is the scalar that is put.
+use borrow.Author.Needs.{needs}
+use Rattle.twine.proofs.Calls.{step-called}
+use Rattle.twine.proofs.twine_write_bool.Statement.{statement}
+use Rattle.twine.proofs.twine_write_bool.Tie as tie
+
+pub twine-write-bool-spec : {M : Type 1} → statement M
+twine-write-bool-spec =
+    tie.close
+    (tie.spec
+    (λ c κs. search needs)
+    (λ c κs. search needs)
+    (λ c κs. search needs)
+    (λ c κs. search needs)
+    (λ c. search needs)
+    (λ c. search needs)
+    (λ c. let k = c .before .before .before .before .before .before in
+    step-called _ _ _ _ (k .scalar .result) (k .before .before .before .before .load .ensures) (rw (k .before .before .before .truth .ensures) at (k .scalar .ensures)) (c .settle .ensures)))

@@ -1,0 +1,17 @@
+-- `twine::twine_write_float32` meets its contract.
+use borrow.Author.Needs.{needs}
+use Rattle.twine.proofs.Calls.{step-called}
+use Rattle.twine.proofs.twine_write_float32.Statement.{statement}
+use Rattle.twine.proofs.twine_write_float32.Tie as tie
+
+pub twine-write-float32-spec : {M : Type 1} → statement M
+twine-write-float32-spec =
+    tie.close
+    (tie.spec
+    (λ c κs. search needs)
+    (λ c κs. search needs)
+    (λ c κs. search needs)
+    (λ c. search needs)
+    (λ c. search needs)
+    (λ c. let k = c .before .before .before .before .before .before in
+    step-called _ _ _ _ (k .float32 .result) (k .before .before .before .load .ensures) (k .float32 .ensures) (c .settle .ensures)))

@@ -1,0 +1,21 @@
+-- `twine::twine_write_integer` meets its contract: an integer is passed on by its 64 bits.
+use borrow.Author.Needs.{needs}
+use mir.Syntax.{w64}
+use mir.ValLaws.{toZ-ofZ}
+use Rattle.twine.proofs.Calls.{step-called}
+use Rattle.twine.proofs.twine_write_integer.Statement.{statement}
+use Rattle.twine.proofs.twine_write_integer.Tie as tie
+
+pub twine-write-integer-spec : {M : Type 1} → statement M
+twine-write-integer-spec =
+    tie.close
+    (tie.spec
+    (λ c κs. search needs)
+    (λ c κs. search needs)
+    (λ c κs. search needs)
+    (λ c. search needs)
+    (λ c. search needs)
+    (λ c. let k = c .before .before .before .before .before .before in
+    let l = k .before .before .before in
+    let s = l .before .before .before .before in
+    step-called _ _ _ _ (k .integer .result) (l .load .ensures) (rw (toZ-ofZ w64 (s .args .value) (s .fits .value)) at (k .integer .ensures)) (c .settle .ensures)))

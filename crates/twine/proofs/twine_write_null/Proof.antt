@@ -1,0 +1,17 @@
+-- `twine::twine_write_null` meets its contract.
+use borrow.Author.Needs.{needs}
+use Rattle.twine.proofs.Calls.{step-called}
+use Rattle.twine.proofs.twine_write_null.Statement.{statement}
+use Rattle.twine.proofs.twine_write_null.Tie as tie
+
+pub twine-write-null-spec : {M : Type 1} → statement M
+twine-write-null-spec =
+    tie.close
+    (tie.spec
+    (λ c κs. search needs)
+    (λ c κs. search needs)
+    (λ c κs. search needs)
+    (λ c. search needs)
+    (λ c. search needs)
+    (λ c. let k = c .before .before .before .before .before .before in
+    step-called _ _ _ _ (k .scalar .result) (k .before .before .before .load .ensures) (k .scalar .ensures) (c .settle .ensures)))
