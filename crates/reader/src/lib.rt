@@ -218,70 +218,50 @@ fn value_of(region: &[u8], at: usize, h: Head) -> Value
     let kind = h.kind;
     let n = h.n;
     let first = h.first;
-    if kind < 1 {
-        return scalar_of(n);
-    }
-    if kind < 2 {
-        return positive(n);
-    }
-    if kind < 3 {
-        return negative(n);
-    }
-    if kind < 4 {
-        return float_of(region, h);
-    }
-    if kind < 5 {
-        return Value::Text {
+    match kind {
+        0 => scalar_of(n),
+        1 => positive(n),
+        2 => negative(n),
+        3 => float_of(region, h),
+        4 => Value::Text {
             first,
             len: h.end - first,
-        };
-    }
-    if kind < 6 {
-        return Value::Bytes {
+        },
+        5 => Value::Bytes {
             first,
             len: h.end - first,
-        };
-    }
-    if kind < 7 {
-        return Value::Array {
+        },
+        6 => Value::Array {
             items: h.items,
             first,
-        };
-    }
-    if kind < 8 {
-        return Value::Map {
+        },
+        7 => Value::Map {
             pairs: n,
             items: h.items,
             first,
-        };
-    }
-    if kind < 9 {
-        return Value::Tag {
+        },
+        8 => Value::Tag {
             tag: n,
             item: first,
-        };
-    }
-    if kind < 11 {
-        return Value::Variant { index: n as u32 };
-    }
-    if kind < 12 {
-        return Value::Variant1 {
+        },
+        10 => Value::Variant { index: n as u32 },
+        11 => Value::Variant1 {
             index: n as u32,
             item: first,
-        };
-    }
-    if kind < 14 {
-        return Value::VariantN {
+        },
+        12 => Value::VariantN {
             index: n as u32,
             items: h.items,
             first,
-        };
+        },
+        14 => Value::Reference {
+            target: at - n as usize - 1,
+        },
+        15 => Value::Pointer {
+            target: at - n as usize - 1,
+        },
+        _ => Value::Null,
     }
-    let target = at - n as usize - 1;
-    if kind < 15 {
-        return Value::Reference { target };
-    }
-    Value::Pointer { target }
 }
 
 fn read_in(region: &[u8], at: usize) -> ReadResult

@@ -175,6 +175,13 @@ fn value(v: Value) {
         Value::Integer(z) => integer(z),
         Value::Float32(bits) => one(b" float32", bits as u64),
         Value::Float64(bits) => one(b" float64", bits),
+        _ => held(v),
+    }
+}
+
+// A value that has bytes or items.
+fn held(v: Value) {
+    match v {
         Value::Text { first, len } => two(b" text", first as u64, len as u64),
         Value::Bytes { first, len } => two(b" bytes", first as u64, len as u64),
         Value::Array { items, first } => two(b" array", items, first as u64),
@@ -184,6 +191,13 @@ fn value(v: Value) {
             first,
         } => three(b" map", pairs, items, first as u64),
         Value::Tag { tag, item } => two(b" tag", tag, item as u64),
+        _ => aimed(v),
+    }
+}
+
+// A variant, or a value that has a target.
+fn aimed(v: Value) {
+    match v {
         Value::Variant { index } => one(b" variant", index as u64),
         Value::Variant1 { index, item } => two(b" variant1", index as u64, item as u64),
         Value::VariantN {
@@ -193,6 +207,7 @@ fn value(v: Value) {
         } => three(b" variantn", index as u64, items, first as u64),
         Value::Reference { target } => one(b" reference", target as u64),
         Value::Pointer { target } => one(b" pointer", target as u64),
+        _ => {}
     }
 }
 
@@ -486,6 +501,14 @@ fn next(r: WriteResult) -> Writer {
     r.writer
 }
 
+fn scalar(letter: u8) -> Scalar {
+    match letter {
+        b'f' => Scalar::False,
+        b't' => Scalar::True,
+        _ => Scalar::Null,
+    }
+}
+
 // A text of the bytes that s has in hex.
 fn text(w: Writer, s: &[u8], out: &mut [u8], starts: &mut [u32]) -> WriteResult {
     let mut space = [0u8; 1024];
@@ -509,18 +532,30 @@ fn zeros(w: Writer, n: usize, out: &mut [u8], starts: &mut [u32]) -> WriteResult
 // One call of the arguments s; the next state.
 fn call(w: Writer, letter: u8, s: &[u8], out: &mut [u8], starts: &mut [u32]) -> Writer {
     match letter {
-        b'f' => next(w.scalar(Scalar::False, out, starts)),
-        b't' => next(w.scalar(Scalar::True, out, starts)),
-        b'n' => next(w.scalar(Scalar::Null, out, starts)),
+        b'f' | b't' | b'n' => next(w.scalar(scalar(letter), out, starts)),
         b'i' => next(w.integer(signed(s), out, starts)),
         b's' => next(w.float32(number32(s), out, starts)),
         b'd' => next(w.float64(number(s) as u64, out, starts)),
+        _ => call_held(w, letter, s, out, starts),
+    }
+}
+
+// The same of bytes, variants and targets.
+fn call_held(w: Writer, letter: u8, s: &[u8], out: &mut [u8], starts: &mut [u32]) -> Writer {
+    match letter {
         b'"' => next(text(w, s, out, starts)),
         b'#' => next(byte_string(w, s, out, starts)),
         b'z' => next(zeros(w, number(s), out, starts)),
         b'v' => next(w.variant(number32(s), out, starts)),
         b'r' => next(w.reference(number(s), out, starts)),
         b'p' => next(w.pointer(number(s), out, starts)),
+        _ => call_open(w, letter, s, out, starts),
+    }
+}
+
+// The same of openings and the close.
+fn call_open(w: Writer, letter: u8, s: &[u8], out: &mut [u8], starts: &mut [u32]) -> Writer {
+    match letter {
         b'a' => next(w.open_array(number(s) as u64, out, starts)),
         b'm' => next(w.open_map(number(s) as u64, out, starts)),
         b'g' => next(w.open_tag(number(s) as u64, out, starts)),
