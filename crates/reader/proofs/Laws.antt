@@ -16,7 +16,7 @@ use borrow.Author.Tests.{lt-ltb, ltb-true, eqb-true, eqb-false, eq-eqb, ne-eqb}
 use Rattle.prelude.specs.Pick.{pick}
 use Rattle.prelude.specs.Loop.{Turn, go, stop, follow}
 use Rattle.prelude.specs.Answer.{Answer, ok, error, bind}
-use Rattle.prelude.proofs.Tests.{pick-elim, and-false, facts}
+use Rattle.prelude.proofs.Tests.{pick-elim, split, and-false, facts}
 use Rattle.prelude.proofs.Readers.{bind-ok, bind-error}
 use Rattle.prelude.proofs.Turns.{from-go, from-stop, from-all}
 use Rattle.error.specs.Error.{Fault, fault, LIMIT, BAD_TARGET, NO_ITEM}
@@ -127,6 +127,9 @@ looked-lt s at h k m lt l e = omega (arith, rw e at (l .most))
 
 pub used-past : (k : ℕ) → 0 < rule k .lows → 16 ≤ k → ⊥
 used-past k u l = omega (arith, rw (rule-past k l) at u)
+
+pub used-lt : (k : ℕ) → 0 < rule k .lows → k < 16
+used-lt k u = split k 16 (λ l. l) (λ l. absurd (used-past k u l))
 
 -- 9 and 13 are reserved
 pub used-ne : (k j : ℕ) → rule k .lows ≡ 0 → 0 < rule j .lows → j ≡ k → ⊥

@@ -1,0 +1,24 @@
+//! Links libtwine.a, from the directory that TWINE_LIB_DIR names or else from the repository's target/staticlib.
+
+use std::env;
+use std::path::PathBuf;
+
+fn main() {
+    println!("cargo::rerun-if-env-changed=TWINE_LIB_DIR");
+    println!("cargo::rerun-if-changed=build.rs");
+    // a build script runs in its package's directory
+    let here = env::current_dir().expect("the package's directory");
+    let named = env::var_os("TWINE_LIB_DIR").map(PathBuf::from);
+    let dir = here.join(named.unwrap_or_else(|| PathBuf::from("../../target/staticlib")));
+    let archive = dir.join("libtwine.a");
+    if !archive.is_file() {
+        println!(
+            "cargo::error=there is no {}; run: rt staticlib twine (in the repository's root), or name its directory in TWINE_LIB_DIR",
+            archive.display()
+        );
+        return;
+    }
+    println!("cargo::rerun-if-changed={}", archive.display());
+    println!("cargo::rustc-link-search=native={}", dir.display());
+    println!("cargo::rustc-link-lib=static=twine");
+}

@@ -1,0 +1,234 @@
+//! Random lists of calls and random bytes: an answer or an error, never a panic.
+
+use twine::{query, Error, ErrorKind, File, Writer};
+
+use crate::{parts, Part};
+
+/// Xorshift of 64 bits.
+struct Random(u64);
+
+impl Random {
+    fn next(&mut self) -> u64 {
+        self.0 ^= self.0 << 13;
+        self.0 ^= self.0 >> 7;
+        self.0 ^= self.0 << 17;
+        self.0
+    }
+
+    fn below(&mut self, n: usize) -> usize {
+        (self.next() % n as u64) as usize
+    }
+
+    /// A number of any size, the small ones often.
+    fn number(&mut self) -> u64 {
+        let shift = self.below(64);
+        self.next() >> shift
+    }
+
+    /// A count that is mostly small.
+    fn count(&mut self) -> u64 {
+        if self.below(20) == 0 {
+            self.number()
+        } else {
+            self.below(5) as u64
+        }
+    }
+
+    fn bytes(&mut self) -> Vec<u8> {
+        let len = if self.below(8) == 0 { self.below(300) } else { self.below(6) };
+        let text = self.below(3) > 0;
+        (0..len).map(|_| if text { b'a' + self.below(3) as u8 } else { self.next() as u8 }).collect()
+    }
+
+    /// An offset, mostly of the list.
+    fn target(&mut self, offsets: &[usize]) -> usize {
+        match self.below(10) {
+            0 => self.number() as usize,
+            1 => self.below(100),
+            _ if offsets.is_empty() => 0,
+            _ => offsets[self.below(offsets.len())],
+        }
+    }
+
+    fn part(&mut self, offsets: &[usize]) -> Part {
+        match self.below(15) {
+            0 => Part::Null,
+            1 => Part::Bool(self.below(2) == 1),
+            2 => Part::Integer(self.number() as i64),
+            3 => Part::Float32(self.next() as u32),
+            4 => Part::Float64(self.next()),
+            5 => Part::Text(self.bytes()),
+            6 => Part::Bytes(self.bytes()),
+            7 => Part::Array(self.count()),
+            8 => Part::Map(self.count()),
+            9 => Part::Tag(self.number()),
+            10 => Part::Variant(self.number() as u32),
+            11 => Part::Variant1(self.number() as u32),
+            12 => Part::VariantN(self.number() as u32, self.count()),
+            13 => Part::Reference(self.target(offsets)),
+            _ => Part::Pointer(self.target(offsets)),
+        }
+    }
+}
+
+fn write(w: &mut Writer, part: &Part) -> Result<usize, Error> {
+    match part {
+        Part::Null => w.null(),
+        Part::Bool(value) => w.bool(*value),
+        Part::Integer(value) => w.integer(*value),
+        Part::Float32(bits) => w.float32_bits(*bits),
+        Part::Float64(bits) => w.float64_bits(*bits),
+        Part::Text(bytes) => w.text_bytes(bytes),
+        Part::Bytes(bytes) => w.bytes(bytes),
+        Part::Array(items) => w.open_array(*items),
+        Part::Map(pairs) => w.open_map(*pairs),
+        Part::Tag(tag) => w.open_tag(*tag),
+        Part::Variant(index) => w.variant(*index),
+        Part::Variant1(index) => w.open_variant1(*index),
+        Part::VariantN(index, items) => w.open_variant_n(*index, *items),
+        Part::Reference(target) => w.reference(*target),
+        Part::Pointer(target) => w.pointer(*target),
+    }
+}
+
+/// What a writer shows of itself.
+fn shown(w: &Writer) -> (Vec<u8>, usize, u64, bool) {
+    (w.written().to_vec(), w.count(), w.owed(), w.is_closed())
+}
+
+/// Makes calls, closes, and reads back what was accepted.
+fn session(random: &mut Random, mut w: Writer, calls: usize) -> Vec<u8> {
+    let mut accepted = Vec::new();
+    let mut starts = Vec::new();
+    let mut offsets = Vec::new();
+    for _ in 0..calls {
+        let part = random.part(&offsets);
+        // an opening of more items than the test is willing to write
+        if matches!(part, Part::Array(n) | Part::Map(n) | Part::VariantN(_, n) if (1000..1 << 24).contains(&n)) {
+            continue;
+        }
+        let before = shown(&w);
+        match write(&mut w, &part) {
+            Ok(at) => {
+                assert_eq!(at, before.0.len());
+                assert_eq!(w.written()[..at], before.0);
+                if before.2 == 0 {
+                    starts.push(at);
+                }
+                offsets.push(at);
+                accepted.push((at, part));
+            }
+            Err(error) => {
+                assert_eq!(error.place, None);
+                assert_ne!(error.kind, ErrorKind::BadState);
+                assert_eq!(shown(&w), before);
+            }
+        }
+        if random.below(50) == 0 && w.owed() > 0 {
+            assert_eq!(w.close(0).unwrap_err().kind, ErrorKind::Owed);
+        }
+    }
+    while w.owed() > 0 {
+        accepted.push((w.null().expect("an open value can be finished"), Part::Null));
+    }
+    let Some(last) = starts.last().copied() else { return Vec::new() };
+    let mut entry = starts[random.below(starts.len())];
+    let before = shown(&w);
+    let bytes = w.close(entry).or_else(|error| {
+        // a fixed writer may have no word or room for the pointer; the last value may be out of reach as well
+        assert!(matches!(error.kind, ErrorKind::Full | ErrorKind::NoRoom), "{error}");
+        assert_eq!(shown(&w), before);
+        entry = last;
+        w.close(last)
+    });
+    let Ok(bytes) = bytes else { return Vec::new() };
+    assert_eq!(w.null().unwrap_err().kind, ErrorKind::Closed);
+
+    let file = File::check(&bytes).unwrap();
+    let mut read = parts(&file);
+    if file.entry().offset() != entry {
+        assert_eq!(read.pop(), Some((file.entry().offset(), Part::Pointer(entry))));
+    }
+    assert_eq!(read, accepted);
+    for (value, depth) in file.values().zip(file.depths()) {
+        assert!(depth >= 1);
+        let _ = (value.follow().value(), value.get("a"), value.body());
+    }
+    bytes
+}
+
+#[test]
+fn calls() {
+    let mut random = Random(0x9e37_79b9_7f4a_7c15);
+    for round in 0..300 {
+        session(&mut random, Writer::new(), 1 + round);
+        let fixed = Writer::fixed(random.below(400), random.below(100));
+        session(&mut random, fixed, 1 + round);
+    }
+}
+
+/// Asks everything at an offset.
+fn ask(file: &[u8], at: usize, random: &mut Random) {
+    let read = query::read(file, at);
+    let skip = query::skip(file, at);
+    assert!(read.is_ok() || skip.is_err());
+    if let Ok(end) = skip {
+        assert!(at < end && end < file.len());
+    }
+    if let Ok(item) = query::item(file, at, random.below(4)) {
+        assert!(at < item && item < file.len());
+    }
+    if let Ok((end, met)) = query::follow(file, at) {
+        assert!(end <= at && met <= at);
+    }
+    if let Ok(value) = query::lookup(file, at, "a") {
+        assert!(at < value && value < file.len());
+    }
+    if let Ok(body) = query::body(file, at) {
+        assert!(body.len() < file.len());
+    }
+}
+
+#[test]
+fn bytes() {
+    let mut random = Random(0x2545_f491_4f6c_dd1d);
+    let (mut good, mut bad) = (0, 0);
+    for round in 0..3000 {
+        let mut file = if round % 3 == 0 {
+            (0..random.below(40)).map(|_| random.next() as u8).collect()
+        } else {
+            let calls = 1 + random.below(30);
+            session(&mut random, Writer::new(), calls)
+        };
+        // some bytes changed, or the end lost
+        for _ in 0..random.below(3) {
+            if !file.is_empty() {
+                let at = random.below(file.len());
+                file[at] = random.next() as u8;
+            }
+        }
+        if random.below(8) == 0 {
+            file.truncate(random.below(file.len() + 1));
+        }
+        match File::check(&file) {
+            Ok(checked) => {
+                good += 1;
+                parts(&checked);
+                assert_eq!(checked.depths().len(), checked.count());
+                for value in checked.values() {
+                    assert!(value.follow().offset() <= value.offset());
+                    let _ = (value.get("a"), value.lookup("b"), value.body());
+                }
+            }
+            Err(error) => {
+                bad += 1;
+                assert!(error.place.unwrap() <= file.len());
+            }
+        }
+        for at in 0..file.len() + 2 {
+            ask(&file, at, &mut random);
+        }
+        ask(&file, random.next() as usize, &mut random);
+    }
+    assert!(good > 500 && bad > 500, "{good} accepted, {bad} refused");
+}
