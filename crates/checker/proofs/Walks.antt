@@ -1,9 +1,9 @@
 -- The walk of check over a region.
 --
 -- In order: a token that the walk takes; what holds of a walk, and of the walk behind a token; turns; the starts that it comes to rise and
--- are within the region; the walk as the code makes it, with the starts in the first words of a table.
+-- are within the region; the walk as the code makes it, with the starts in the first words of a table, counted by blocks.
 use mathlib.Core.Path.{_≡_, refl, sym, _∙_, subst}
-use Prim.Native.Nat.{ℕ, _+_, _-_, _≤_, _<_}
+use Prim.Native.Nat.{ℕ, _+_, _-_, _*_, _/_, _≤_, _<_, _^_}
 use mathlib.Core.Bool.{true, false, not, _&&_}
 use mathlib.Core.List.{List, [], _∷_, _++_}
 use native.Mathlib.Nat.{not-suc-le-zero}
@@ -11,18 +11,20 @@ use native.Mathlib.Numerals.{add-one}
 use native.Mathlib.Omega.{arith}
 use borrow.Author.Tests.{eq-eqb, ne-eqb, eqb-false}
 use lib.Dec.{eqb, ltb, leb}
-use lib.ListN.{length, take, getD, set, length-set, length-append, List·getD-append}
+use lib.ListN.{length, take, getD, set, length-set, length-take, length-append, List·getD-append}
 use lib.Seq.{length-take-le, take-suc-set, getD-append-seam}
 use Rattle.prelude.specs.Answer.{Answer, ok, error, bind}
 use Rattle.prelude.specs.Loop.{Turn, go, stop}
 use Rattle.prelude.specs.Search.{Rising}
 use Rattle.prelude.proofs.Tests.{pick-elim, split, and-false, facts}
 use Rattle.prelude.proofs.Turns.{from-go, from-stop, from-all}
-use Rattle.prelude.proofs.Searches.{rising-nil, rising-snoc}
+use Rattle.prelude.proofs.Searches.{rising-nil, rising-snoc, rising-ge}
 use Rattle.error.specs.Error as errors
-use Rattle.error.specs.Error.{Fault}
+use Rattle.error.specs.Error.{Fault, LIMIT}
 use Rattle.error.specs.declared.Error.{Error}
 use Rattle.utf8.specs.Text.{isText}
+use Rattle.table.specs.Blocks.{BLOCK, Counted, Below}
+use Rattle.table.proofs.Blocks.{counted-first, counted-snoc}
 use Rattle.scan.specs.Told as scans
 use Rattle.scan.specs.Told.{scanAt, bytesOf}
 use Rattle.scan.specs.declared.ScanResult.{ScanResult}
@@ -201,6 +203,26 @@ pub record Along (s t : List ℕ) (cap at start pending count : ℕ) : Type 0 wh
   pub going : Going s cap (walkOn t at start pending count)
   pub leads : startsFrom s cap (walkOn t at start pending count) ≡ startsFrom s cap (between 0 [])
 
+-- the starts are counted for the blocks that begin at most at `start`; each block of the region has a word
+pub record Indexed (s t blocks : List ℕ) (start count : ℕ) : Type 0 where
+  pub long : length s < length blocks * BLOCK
+  pub counted : Counted (take (start / BLOCK + 1) blocks) (take count t)
+
+pub indexed-start : (s t blocks : List ℕ) → length s < length blocks * BLOCK → getD blocks 0 0 ≡ 0 → Indexed s t blocks 0 0
+indexed-start s t blocks h e = record { long = h; counted = counted-first blocks e }
+
+pub known-fits : (s t : List ℕ) (cap at start pending count : ℕ) → Along s t cap at start pending count → (blocks : List ℕ) → Indexed s t blocks start count
+    → start / BLOCK + 1 ≤ length blocks
+known-fits s t cap at start pending count a blocks i = omega (arith, a .going .start, a .going .inside, i .long)
+
+-- what `table::count_blocks` asks for, where a value is finished that begins at `start` and ends at `end`
+pub record Countable (t blocks : List ℕ) (start count end : ℕ) : Type 0 where
+  pub next : start / BLOCK + 1 ≤ end / BLOCK + 1
+  pub last : end / BLOCK < length blocks
+  pub few : length (take count t) < 2 ^ 32
+  pub below : Below ((start / BLOCK + 1) * BLOCK) (take count t)
+  pub counted : Counted (take (start / BLOCK + 1) blocks) (take count t)
+
 -- there is a word for a value that is finished, and its start is in the region
 pub record Room (s t : List ℕ) (start count : ℕ) : Type 0 where
   pub free : count < length t
@@ -250,14 +272,31 @@ module _ (s t : List ℕ) (cap at start pending count : ℕ) (a : Along s t cap 
         let same : walkOn t (h .end) start left count ≡ passed here h = rw (← due, ne-eqb left 0 pos) in
         record { long = a .long; fits = a .fits; going = going-on _ same; leads = leads-on _ same }
 
+    -- the starts with the one of the value that is finished
+    words : take (count + 1) (set t count start) ≡ take count t ++ (start ∷ [])
+    words = rw add-one (take-suc-set t count start (along-room .free))
+
     pub along-finished : (left : ℕ) → left ≡ due pending (h .items) → left ≡ 0 → Along s (set t count start) cap (h .end) (h .end) left (count + 1)
     unfolding passed
     along-finished left due z =
-        let words : take (count + 1) (set t count start) ≡ take count t ++ (start ∷ []) = rw add-one (take-suc-set t count start (along-room .free)) in
         let same : walkOn (set t count start) (h .end) (h .end) left (count + 1) ≡ passed here h = rw (← due, eq-eqb left 0 z, z, words) in
         record {
           long = length-set t count start ∙ a .long;
           fits = rw length-set (omega (arith, along-room .free));
           going = going-on _ same;
           leads = leads-on _ same;
+        }
+
+    pub along-counts : (blocks : List ℕ) → length s ≤ LIMIT → Indexed s t blocks start count → Countable (set t count start) blocks start (count + 1) (h .end)
+    along-counts blocks short i =
+        let g = a .going in
+        let w = ahead s cap here h took in
+        let n = length-take-le count t (a .fits) in
+        let few : count ≤ start = split 0 count (λ p. omega (arith, rising-ge (take count t) (g .rising) (count - 1) (omega arith), g .below (count - 1) (omega arith))) (λ z. omega arith) in
+        record {
+          next = omega (arith, g .start, w .numbers, w .body);
+          last = omega (arith, w .end, i .long);
+          few = rw (words, length-append) (omega (arith, g .start, g .inside));
+          below = rw words (below-snoc (take count t) start _ (λ k b. omega (arith, g .below k b)) (omega arith));
+          counted = rw words (counted-snoc (take (start / BLOCK + 1) blocks) (take count t) start (omega (arith, length-take (start / BLOCK + 1) blocks)) (i .counted));
         }

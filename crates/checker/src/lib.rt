@@ -6,13 +6,14 @@ use scan::ScanResult;
 ghost use mathlib.Core.Path.{_≡_};
 ghost use mathlib.Core.Bool.{not, _&&_};
 ghost use mathlib.Core.List.{[]};
-ghost use Prim.Native.Nat.{_≤_, _<_, _^_};
+ghost use Prim.Native.Nat.{_*_, _≤_, _<_, _^_};
 ghost use lib.Dec.{eqb, leb};
-ghost use lib.ListN.{length, take};
+ghost use lib.ListN.{length, take, getD};
 ghost use Rattle.prelude.specs.Answer.{ok, bind};
 ghost use Rattle.prelude.specs.Search.{Rising};
 ghost use Rattle.error.specs.Error.{LIMIT};
 ghost use Rattle.utf8.specs.Text.{isText};
+ghost use Rattle.table.specs.Blocks.{BLOCK, Counted};
 ghost use Rattle.scan.specs.Told as scans;
 ghost use Rattle.checker.specs.Check.{aimed, judge, between, next, due, startsFrom, entryAt, checkIn, checked, checkOf};
 ghost use Rattle.checker.specs.Told.{toldCheck};
@@ -48,33 +49,33 @@ fn is_bad_text(region: &[u8], h: Head) -> bool
 }
 
 // Whether the target of a reference or pointer of head h at `at` is one of the starts.
-fn is_aimed(starts: &[u32], at: usize, h: Head) -> bool
-    requires { ⌜ (Rising (now starts)) × (at < 2 ^ 32) ⌝ }
+fn is_aimed(starts: &[u32], blocks: &[u32], at: usize, h: Head) -> bool
+    requires { ⌜ (Rising (now starts)) × (Counted (now blocks) (now starts)) × (at < 2 ^ 32) ⌝ }
     ensures { λ r. ⌜ r ≡ aimed (now (starts .entry)) at h ⌝ }
 {
     let q = at as u64;
     if h.n < q {
         let target = q - h.n - 1;
-        return table::has(starts, target as u32);
+        return table::has(starts, blocks, target as u32);
     }
     false
 }
 
 // Whether a token of head h at `at` is a reference or pointer to no start.
-fn is_bad_target(starts: &[u32], at: usize, h: Head) -> bool
-    requires { ⌜ (Rising (now starts)) × (at < 2 ^ 32) ⌝ }
+fn is_bad_target(starts: &[u32], blocks: &[u32], at: usize, h: Head) -> bool
+    requires { ⌜ (Rising (now starts)) × (Counted (now blocks) (now starts)) × (at < 2 ^ 32) ⌝ }
     ensures { λ r. ⌜ r ≡ leb 14 (h .kind) && not (aimed (now (starts .entry)) at h) ⌝ }
 {
     if 14 <= h.kind {
-        let good = is_aimed(starts, at, h);
+        let good = is_aimed(starts, blocks, at, h);
         return !good;
     }
     false
 }
 
 // The token of head h at `at`, after the values that begin at `starts`.
-fn judged(region: &[u8], starts: &[u32], at: usize, h: Head) -> ScanResult
-    requires { ⌜ (h .first ≤ h .end) × (h .end ≤ length (now region)) × (Rising (now starts)) × (at < 2 ^ 32) ⌝ }
+fn judged(region: &[u8], starts: &[u32], blocks: &[u32], at: usize, h: Head) -> ScanResult
+    requires { ⌜ (h .first ≤ h .end) × (h .end ≤ length (now region)) × (Rising (now starts)) × (Counted (now blocks) (now starts)) × (at < 2 ^ 32) ⌝ }
     ensures { λ r. ⌜ scans.told r ≡ judge (now (region .entry)) (now (starts .entry)) at h ⌝ }
 {
     if is_bad_text(region, h) {
@@ -83,7 +84,7 @@ fn judged(region: &[u8], starts: &[u32], at: usize, h: Head) -> ScanResult
             place: at,
         });
     }
-    if is_bad_target(starts, at, h) {
+    if is_bad_target(starts, blocks, at, h) {
         return ScanResult::Err(Error {
             kind: ErrorKind::BadTarget,
             place: at,
@@ -92,9 +93,16 @@ fn judged(region: &[u8], starts: &[u32], at: usize, h: Head) -> ScanResult
     ScanResult::Ok(h)
 }
 
-// The token at `at`, with the starts of the values before in the first `count` words of the table.
-fn look(region: &[u8], starts: &[u32], count: usize, at: usize, pending: u64) -> ScanResult
-    requires { ⌜ (count ≤ length (now starts)) × (Rising (take count (now starts))) × (at < 2 ^ 32) ⌝ }
+// The token at `at`, with the starts of the values before in the first `count` words of the table, counted by blocks.
+fn look(
+    region: &[u8],
+    starts: &[u32],
+    count: usize,
+    blocks: &[u32],
+    at: usize,
+    pending: u64,
+) -> ScanResult
+    requires { ⌜ (count ≤ length (now starts)) × (Rising (take count (now starts))) × (Counted (now blocks) (take count (now starts))) × (at < 2 ^ 32) ⌝ }
     ensures { λ r. ⌜ scans.told r ≡ next (now (region .entry)) (length (now (starts .entry))) (take count (now (starts .entry))) pending at ⌝ }
 {
     // FULL: a new value without a word
@@ -105,7 +113,7 @@ fn look(region: &[u8], starts: &[u32], count: usize, at: usize, pending: u64) ->
         });
     }
     match scan::scan(region, at, 0 < pending) {
-        ScanResult::Ok(h) => judged(region, &starts[..count], at, h),
+        ScanResult::Ok(h) => judged(region, &starts[..count], blocks, at, h),
         ScanResult::Err(e) => ScanResult::Err(e),
     }
 }
@@ -122,9 +130,9 @@ fn due(pending: u64, items: u64) -> u64
     pending - 1
 }
 
-// Lists the starts of a region's values in the first words of the table.
-fn list_starts(region: &[u8], starts: &mut [u32]) -> ListResult
-    requires { ⌜ length (now region) ≤ LIMIT ⌝ }
+// Lists the starts of a region's values in the first words of the table, and counts them by blocks of the region.
+fn walk(region: &[u8], starts: &mut [u32], blocks: &mut [u32]) -> ListResult
+    requires { ⌜ (length (now region) ≤ LIMIT) × (length (now region) < length (now blocks) * BLOCK) × (getD (now blocks) 0 0 ≡ 0) ⌝ }
     ensures { λ r. ⌜ (toldList r (now (starts .exit)) ≡ startsFrom (now (region .entry)) (length (now (starts .entry))) (between 0 [])) × (Listed r (now (starts .exit))) ⌝ }
 {
     let mut at: usize = 0;
@@ -135,13 +143,16 @@ fn list_starts(region: &[u8], starts: &mut [u32]) -> ListResult
         if (pending == 0) & (region.len() <= at) {
             return ListResult::Ok(count);
         }
-        match look(region, starts, count, at, pending) {
+        // the blocks that begin at most at `start` are counted
+        let known = start / 4096 + 1;
+        match look(region, starts, count, &blocks[..known], at, pending) {
             ScanResult::Ok(h) => {
                 at = h.end;
                 pending = due(pending, h.items);
                 if pending == 0 {
                     starts[count] = start as u32;
                     count = count + 1;
+                    table::count_blocks(&starts[..count], blocks, known, at / 4096);
                     start = at;
                 }
             }
@@ -150,6 +161,20 @@ fn list_starts(region: &[u8], starts: &mut [u32]) -> ListResult
             }
         }
     }
+}
+
+// Lists the starts of a region's values in the first words of the table. A short region has few blocks: for a small file, the zeros of the
+// large array would take longer than the walk.
+fn list_starts(region: &[u8], starts: &mut [u32]) -> ListResult
+    requires { ⌜ length (now region) < LIMIT ⌝ }
+    ensures { λ r. ⌜ (toldList r (now (starts .exit)) ≡ startsFrom (now (region .entry)) (length (now (starts .entry))) (between 0 [])) × (Listed r (now (starts .exit))) ⌝ }
+{
+    if region.len() < 65536 {
+        let mut few = [0u32; 16];
+        return walk(region, starts, &mut few);
+    }
+    let mut blocks = [0u32; 4096];
+    walk(region, starts, &mut blocks)
 }
 
 // ---- check
@@ -162,7 +187,8 @@ fn entry_at(starts: &[u32], p: usize, d: u8) -> CheckResult
     let delta = d as usize;
     if delta < p {
         let entry = p - delta - 1;
-        if table::has(starts, entry as u32) {
+        // by no block: the entry is near the end
+        if table::has(starts, &starts[..0], entry as u32) {
             return CheckResult::Ok {
                 count: starts.len(),
                 entry,
@@ -212,7 +238,7 @@ fn kept(answer: CheckResult) -> usize
 
 // Checks a file. The table gets the offsets where its values start, in rising order, and 0 in every other word; on an error 0 in every word. The
 // first value starts at 0, so that the count tells how many words are starts.
-// A table with as many words as the file has bytes is never too short.
+// A table with as many words as the file has bytes is never too short. Besides it, check takes some 16 KB of the stack.
 pub fn check(file: &[u8], starts: &mut [u32]) -> CheckResult
     ensures { λ r. ⌜ checked (toldCheck r) (now (starts .exit)) ≡ checkOf (now (file .entry)) (length (now (starts .entry))) ⌝ }
 {

@@ -9,7 +9,7 @@ use lib.ListN.{length, getD}
 use Rattle.prelude.specs.Pick.{pick}
 use Rattle.prelude.specs.Search.{rank, Rising}
 use Rattle.prelude.proofs.Tests.{split}
-use Rattle.prelude.proofs.Searches.{rank-le, rank-after, rank-until}
+use Rattle.prelude.proofs.Searches.{rank-after, rank-until}
 
 -- what one word tells of the rank
 module _ (x : ℕ) (t : List ℕ) (i : ℕ) (up : Rising t) where
@@ -28,11 +28,8 @@ pub record Between (r n lo size : ℕ) : Type 0 where
   pub high : r ≤ lo + size
   pub fits : lo + size ≤ n
 
-pub within : (x : ℕ) (t : List ℕ) (lo : ℕ) → lo ≤ rank x t → lo ≤ length t
-within x t lo l = omega (arith, rank-le x t)
-
-pub between-from : (x : ℕ) (t : List ℕ) (lo : ℕ) → lo ≤ rank x t → Between (rank x t) (length t) lo (length t - lo)
-between-from x t lo l = let h = rank-le x t in record { low = l; high = omega arith; fits = omega arith }
+pub between-of : (r n lo hi : ℕ) → lo ≤ r → r ≤ hi → hi ≤ n → Between r n lo (hi - lo)
+between-of r n lo hi l h f = record { low = l; high = omega arith; fits = omega arith }
 
 module _ (r n lo size : ℕ) (b : Between r n lo size) where
   -- by the words at the ends of three quarters

@@ -1,10 +1,11 @@
-// A table of words: filled with zeros, searched by quarters.
+// A table of words: filled with zeros, searched by quarters, and its words counted by blocks, so that a search has little to look at.
 ghost use mathlib.Core.Path.{_≡_};
-ghost use Prim.Native.Nat.{_≤_, _<_};
+ghost use Prim.Native.Nat.{_+_, _*_, _≤_, _<_, _^_};
 ghost use lib.Dec.{ltb};
-ghost use lib.ListN.{length, replicate};
+ghost use lib.ListN.{length, take, replicate};
 ghost use Rattle.prelude.specs.Pick.{pick};
 ghost use Rattle.prelude.specs.Search.{among, rank, Rising};
+ghost use Rattle.table.specs.Blocks.{BLOCK, Counted, Below};
 
 // Makes every word 0.
 pub fn zero(t: &mut [u32])
@@ -28,9 +29,11 @@ fn below(t: &[u32], i: usize, x: u32) -> usize
     0
 }
 
-// An index at most the rank: 32 before the end where the rank is past it, and else 0. Plans point mostly to values shortly before.
-fn near(t: &[u32], x: u32) -> usize
-    requires { ⌜ Rising (now t) ⌝ }
+// An index at most the rank: 32 before the end where the rank is past it, since plans point mostly to values shortly before; and else how many
+// words are before x's block, where that is counted. A table of fewer than 32,768 words is searched whole: it stays in the cache, and the steps
+// are as many for every x.
+fn low(t: &[u32], blocks: &[u32], x: u32) -> usize
+    requires { ⌜ (Rising (now t)) × (Counted (now blocks) (now t)) ⌝ }
     ensures { λ r. ⌜ r ≤ rank x (now (t .entry)) ⌝ }
 {
     let n = t.len();
@@ -39,18 +42,40 @@ fn near(t: &[u32], x: u32) -> usize
             return n - 32;
         }
     }
+    if 32768 <= n {
+        let b = (x / 4096) as usize;
+        if b < blocks.len() {
+            return blocks[b] as usize;
+        }
+    }
     0
 }
 
-// How many words of a rising table are less than x: x's index, where the table has it. Three words at a time are looked at, and their tests
-// added up, so that no step of the two loops waits for a guess at a word's test.
-pub fn rank(t: &[u32], x: u32) -> usize
-    requires { ⌜ Rising (now t) ⌝ }
+// An index at least the rank: how many words are before the block after x's, as in `low`, and else the end.
+fn high(t: &[u32], blocks: &[u32], x: u32) -> usize
+    requires { ⌜ (Rising (now t)) × (Counted (now blocks) (now t)) ⌝ }
+    ensures { λ r. ⌜ (rank x (now (t .entry)) ≤ r) × (r ≤ length (now (t .entry))) ⌝ }
+{
+    let n = t.len();
+    if 32768 <= n {
+        let b = (x / 4096) as usize + 1;
+        if b < blocks.len() {
+            return blocks[b] as usize;
+        }
+    }
+    n
+}
+
+// How many words of a rising table are less than x: x's index, where the table has it. `blocks` tells how many are before each block, as far as
+// these are counted. Three words at a time are looked at, and their tests added up, so that no step of the two loops waits for a guess at a
+// word's test.
+pub fn rank(t: &[u32], blocks: &[u32], x: u32) -> usize
+    requires { ⌜ (Rising (now t)) × (Counted (now blocks) (now t)) ⌝ }
     ensures { λ r. ⌜ r ≡ rank x (now (t .entry)) ⌝ }
 {
     // the rank is one of lo to lo + size
-    let mut lo = near(t, x);
-    let mut size = t.len() - lo;
+    let mut lo = low(t, blocks, x);
+    let mut size = high(t, blocks, x) - lo;
     while 4 <= size {
         let q = size / 4;
         lo = lo + q * (below(t, lo + q, x) + below(t, lo + 2 * q, x) + below(t, lo + 3 * q, x));
@@ -64,13 +89,41 @@ pub fn rank(t: &[u32], x: u32) -> usize
 }
 
 // Whether a rising table has x.
-pub fn has(t: &[u32], x: u32) -> bool
-    requires { ⌜ Rising (now t) ⌝ }
+pub fn has(t: &[u32], blocks: &[u32], x: u32) -> bool
+    requires { ⌜ (Rising (now t)) × (Counted (now blocks) (now t)) ⌝ }
     ensures { λ r. ⌜ r ≡ among x (now (t .entry)) ⌝ }
 {
-    let i = rank(t, x);
+    let i = rank(t, blocks, x);
     if i < t.len() {
         return t[i] == x;
     }
     false
+}
+
+// Counts the words of a table, which are all before block number `next`, for the blocks from there to `last`.
+pub fn count_blocks(t: &[u32], blocks: &mut [u32], next: usize, last: usize)
+    requires { ⌜ (next ≤ last + 1) × (last < length (now blocks)) × (length (now t) < 2 ^ 32) × (Below (next * BLOCK) (now t)) × (Counted (take next (now blocks)) (now t)) ⌝ }
+    ensures { λ _. ⌜ Counted (take (last + 1) (now (blocks .exit))) (now (t .entry)) ⌝ }
+{
+    let mut b = next;
+    while b <= last {
+        blocks[b] = t.len() as u32;
+        b += 1;
+    }
+}
+
+// Counts the words of a rising table by blocks, as far as blocks begin at most at its last word: answers how many blocks these are.
+pub fn index(t: &[u32], blocks: &mut [u32]) -> usize
+    requires { ⌜ (Rising (now t)) × (Below (length (now blocks) * BLOCK) (now t)) ⌝ }
+    ensures { λ r. ⌜ (r ≤ length (now (blocks .exit))) × (Counted (take r (now (blocks .exit))) (now (t .entry))) ⌝ }
+{
+    let mut known: usize = 0;
+    let mut i: usize = 0;
+    while i < t.len() {
+        let last = (t[i] / 4096) as usize;
+        count_blocks(&t[..i], blocks, known, last);
+        known = last + 1;
+        i += 1;
+    }
+    known
 }

@@ -3,6 +3,7 @@ use mathlib.Core.Path.{sym, _∙_}
 use borrow.Author.Needs.{needs}
 use borrow.Author.Tests.{lt-ltb, le-ltb}
 use Rattle.prelude.specs.Answer.{bind}
+use Rattle.table.proofs.Blocks.{counted-none}
 use Rattle.checker.specs.Check.{entryAt}
 use Rattle.checker.proofs.entry_at.Statement.{statement}
 use Rattle.checker.proofs.entry_at.Tie as tie
@@ -15,7 +16,8 @@ entry-at-spec =
     (λ c. search needs)
     (λ c. search needs)
     (λ c. search needs)
-    (λ c κs. search needs)
-    (λ c. rw (lt-ltb _ _ (c .before .before .if1 .taken), sym (c .before .has .ensures) ∙ c .if2 .taken))
-    (λ c. rw (lt-ltb _ _ (c .before .before .if1 .taken), sym (c .before .has .ensures) ∙ c .if2 .left))
+    (λ c. search needs)
+    (λ c κs. (search needs, counted-none _))
+    (λ c. rw (lt-ltb _ _ (c .before .before .before .if1 .taken), sym (c .before .has .ensures) ∙ c .if2 .taken))
+    (λ c. rw (lt-ltb _ _ (c .before .before .before .if1 .taken), sym (c .before .has .ensures) ∙ c .if2 .left))
     (λ c. rw (le-ltb _ _ (c .if1 .left))))

@@ -1,37 +1,18 @@
 -- `depths::measure` meets its contract.
-use mathlib.Core.Path.{_≡_, refl}
-use Prim.Native.Nat.{_-_, _≤_, _<_}
-use lib.ListN.{length, take}
 use borrow.Author.Needs.{needs}
 use native.Mathlib.Omega.{arith}
-use Rattle.depths.specs.Depths.{depthsTo}
-use Rattle.depths.proofs.Laws.{depths-more, depths-all}
 use Rattle.depths.proofs.measure.Statement.{statement}
 use Rattle.depths.proofs.measure.Tie as tie
 
-abbrev Inv-loop : tie.InvT-loop
-Inv-loop region starts depths₀ i₀ depths i =
-    (i ≤ length starts) × (length depths ≡ length depths₀) × (take i depths ≡ depthsTo region starts i)
-
-abbrev μ-loop : tie.MeasureT-loop
-μ-loop region starts depths₀ i₀ depths i = length starts - i
-
 pub measure-spec : {M : Type 1} → statement M
-unfolding depthsTo
 measure-spec =
     tie.close
     (tie.spec
-    Inv-loop
-    μ-loop
-    (λ c. (omega arith, refl, refl))
-    (λ c κs. search needs)
+    (λ c. search needs)
+    (λ c κs. let p = c .before .before .before .before .before .before .pre in (p .0, p .1, p .2, λ k h. omega (arith, p .2 .inside k h)))
     (λ c. search needs)
     (λ c. search needs)
     (λ c. search needs)
+    (λ c κs. let p = c .before .before .before .before .before .before .pre in (p .0, p .1, p .2, λ k h. omega (arith, p .2 .inside k h)))
     (λ c. search needs)
-    (λ c. let l = c .before .before .before in
-    let h : l .loop .i < length (l .loop .depths) = omega arith in
-    (omega arith, search needs, depths-more _ _ _ _ _ h (l .loop .inv .2) (c .depth-at .ensures)))
-    (λ c. search needs)
-    (λ c. let e : c .before .loop .i ≡ length (c .before .before .before .before .before .args .starts .now) = omega arith in
-    depths-all _ _ _ _ (c .before .loop .inv .2) e))
+    (λ c. search needs))

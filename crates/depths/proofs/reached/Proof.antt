@@ -10,9 +10,9 @@ use Rattle.depths.proofs.reached.Statement.{statement}
 use Rattle.depths.proofs.reached.Tie as tie
 
 -- the target is not below 0
-below : (c : tie.After-struct-known3) → c .before .before .before .before .before .before .args .h .n < c .before .before .before .before .before .before .args .at
+below : (c : tie.After-struct-known3) → c .before .before .before .before .before .before .before .args .h .n < c .before .before .before .before .before .before .before .args .at
 below c =
-    let a = c .before .before .before .before .before .before .args in
+    let a = c .before .before .before .before .before .before .before .args in
     ltb-true _ _ (and-r (leb 14 (a .h .kind)) (ltb (a .h .n) (a .at)) (c .before .if1 .taken))
 
 pub reached-spec : {M : Type 1} → statement M
@@ -26,5 +26,5 @@ reached-spec =
     (λ c. search needs)
     (λ c. search needs)
     (λ c. let k = c .before .before in rw (k .before .before .if1 .taken, k .rank .ensures))
-    (λ c. let k = c .before in rw (k .before .before .if1 .taken) (getD-past (k .before .before .before .before .before .before .before .args .before .now) _ _ (k .rank .ensures) (c .if2 .left)))
+    (λ c. let k = c .before in rw (k .before .before .if1 .taken) (getD-past (k .before .before .before .before .before .before .before .before .args .before .now) _ _ (k .rank .ensures) (c .if2 .left)))
     (λ c. rw (c .if1 .left)))

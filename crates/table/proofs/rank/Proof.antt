@@ -3,21 +3,21 @@ use native.Mathlib.Omega.{arith}
 use lib.ListN.{length}
 use borrow.Author.Needs.{needs}
 use Rattle.prelude.specs.Search.{rank}
-use Rattle.table.proofs.Quarters.{Between, within, between-from, quartered, shortened, at-last}
+use Rattle.table.proofs.Quarters.{Between, between-of, quartered, shortened, at-last}
 use Rattle.table.proofs.rank.Statement.{statement}
 use Rattle.table.proofs.rank.Tie as tie
 
 abbrev Inv-loop : tie.InvT-loop
-Inv-loop t x lo₀ size₀ lo size = Between (rank x t) (length t) lo size
+Inv-loop t blocks x lo₀ size₀ lo size = Between (rank x t) (length t) lo size
 
 abbrev μ-loop : tie.MeasureT-loop
-μ-loop t x lo₀ size₀ lo size = size
+μ-loop t blocks x lo₀ size₀ lo size = size
 
 abbrev Inv-loop2 : tie.InvT-loop2
-Inv-loop2 t x lo₀ size₀ lo size = Between (rank x t) (length t) lo size
+Inv-loop2 t blocks x lo₀ size₀ lo size = Between (rank x t) (length t) lo size
 
 abbrev μ-loop2 : tie.MeasureT-loop2
-μ-loop2 t x lo₀ size₀ lo size = size
+μ-loop2 t blocks x lo₀ size₀ lo size = size
 
 next : tie.Need-loop-again Inv-loop μ-loop Inv-loop2 μ-loop2
 next c = let l = c .before .before .before in
@@ -32,8 +32,9 @@ rank-spec =
     Inv-loop2
     μ-loop2
     (λ c κs. search needs)
-    (λ c. within _ _ _ (c .near .ensures))
-    (λ c. between-from _ _ _ (c .near .ensures))
+    (λ c κs. search needs)
+    (λ c. search needs)
+    (λ c. between-of _ _ _ _ (c .before .low .ensures) (c .high .ensures .0) (c .high .ensures .1))
     (λ c. search needs)
     (λ c κs. search needs)
     (λ c. search needs)
