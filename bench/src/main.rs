@@ -1,0 +1,178 @@
+//! Times libtwine.a, through its C interface, and the second program in `../reference`, in one process and by turns, and prints
+//! tables in Markdown.
+
+#![deny(unsafe_code)]
+
+#[allow(unsafe_code, reason = "the calls of libtwine.a")]
+#[allow(dead_code, reason = "not every function is timed")]
+#[path = "../../differential/src/ffi.rs"]
+mod ffi;
+mod plans;
+mod rows;
+mod timing;
+
+use std::io::{self, Write};
+
+use plans::Shape;
+use rows::Row;
+use timing::Clock;
+
+/// The lengths of the files.
+const LENGTHS: [(usize, &str); 4] = [
+    (16 << 10, "16 KB"),
+    (256 << 10, "256 KB"),
+    (4 << 20, "4 MB"),
+    (16 << 20, "16 MB"),
+];
+
+/// As many files of 16 KB are 16 MB.
+const FILES: usize = 1024;
+
+fn main() -> io::Result<()> {
+    let mut page = Page {
+        clock: Clock::new(),
+        out: io::stdout().lock(),
+    };
+    page.check()?;
+    page.depths()?;
+    page.queries()?;
+    page.writer()?;
+    let waited = 100.0 * page.clock.waited();
+    writeln!(
+        page.out,
+        "\nAnother process had the processor for {waited:.0} % of the time; where that is more than a few, the figures are too high."
+    )
+}
+
+/// The tables, each printed as it is measured.
+struct Page<W> {
+    clock: Clock,
+    out: W,
+}
+
+impl<W: Write> Page<W> {
+    /// The table of check, and how its time for a byte grows.
+    fn check(&mut self) -> io::Result<()> {
+        self.title("Check", "A file, and a table of as many words as it has values. A value is one of the row, with its items.")?;
+        self.head("values", "value", true)?;
+        let mut grown = Vec::new();
+        for shape in Shape::ALL {
+            let files = rows::files(shape, FILES);
+            let one = rows::check(&self.clock, &files[..1]);
+            self.row(&format!("{}, 16 KB, one file", shape.name()), &one)?;
+            let short = rows::check(&self.clock, &files);
+            self.row(&format!("{}, 16 KB, 1,024 files", shape.name()), &short)?;
+            let mut long = short;
+            for (length, name) in &LENGTHS[1..] {
+                long = rows::check(&self.clock, &[plans::make(shape, *length, 1)]);
+                self.row(&format!("{}, {name}", shape.name()), &long)?;
+            }
+            grown.push((shape, short, long));
+        }
+        writeln!(
+            self.out,
+            "\nThe time for a byte in a file of 16 MB, over that in 1,024 files of 16 KB:\n"
+        )?;
+        writeln!(self.out, "| files | libtwine.a | second |\n|---|--:|--:|")?;
+        for (shape, short, long) in grown {
+            let growth = |program| long.per_byte(program) / short.per_byte(program);
+            let [product, second] = [0, 1].map(growth);
+            writeln!(
+                self.out,
+                "| {} | {product:.2} | {second:.2} |",
+                shape.name()
+            )?;
+        }
+        Ok(())
+    }
+
+    /// The table of depths.
+    fn depths(&mut self) -> io::Result<()> {
+        self.title("Depths", "The same with a second table of as many words.")?;
+        self.head("values", "value", true)?;
+        for shape in [Shape::Plan, Shape::Pointer] {
+            let row = rows::depths(&self.clock, &rows::files(shape, FILES));
+            self.row(&format!("{}, 16 KB, 1,024 files", shape.name()), &row)?;
+            for (length, name) in &LENGTHS[1..] {
+                let row = rows::depths(&self.clock, &[plans::make(shape, *length, 1)]);
+                self.row(&format!("{}, {name}", shape.name()), &row)?;
+            }
+        }
+        Ok(())
+    }
+
+    /// The table of queries.
+    fn queries(&mut self) -> io::Result<()> {
+        self.title(
+            "Item and lookup",
+            "In the plan-like file of 256 KB: `item` of each item of each value; `lookup` of each key of each map, and as often of a key that \
+             is in none. In an array of 100,000 integers: `item` of the last, the time for each item that is passed.",
+        )?;
+        self.head("queries or items", "one", false)?;
+        let plan = plans::make(Shape::Plan, 256 << 10, 1);
+        let row = rows::items(&self.clock, &plan);
+        self.row("item", &row)?;
+        let row = rows::lookups(&self.clock, &plan, true);
+        self.row("lookup of a key", &row)?;
+        let row = rows::lookups(&self.clock, &plan, false);
+        self.row("lookup of no key", &row)?;
+        let row = rows::last_item(&self.clock, 100_000);
+        self.row("item 99,999", &row)
+    }
+
+    /// The table of the writer.
+    fn writer(&mut self) -> io::Result<()> {
+        self.title(
+            "Writer",
+            "The calls that write a file, the close among them, one by one: a function of the C interface for each, and `Writer::step`, which \
+             the compiler puts into the loop.",
+        )?;
+        self.head("calls", "call", true)?;
+        for shape in Shape::ALL {
+            let row = rows::writes(&self.clock, &rows::files(shape, FILES / 8));
+            self.row(&format!("{}, 16 KB, 128 files", shape.name()), &row)?;
+            for (length, name) in &LENGTHS[1..] {
+                let row = rows::writes(&self.clock, &[plans::make(shape, *length, 1)]);
+                self.row(&format!("{}, {name}", shape.name()), &row)?;
+            }
+        }
+        Ok(())
+    }
+
+    fn title(&mut self, title: &str, about: &str) -> io::Result<()> {
+        writeln!(self.out, "\n## {title}\n\n{about}\n")
+    }
+
+    /// The head of a table: what is counted, one of them, and whether bytes count too.
+    fn head(&mut self, units: &str, unit: &str, has_bytes: bool) -> io::Result<()> {
+        write!(
+            self.out,
+            "| | {units} | libtwine.a, ns/{unit} | second, ns/{unit} | ratio |"
+        )?;
+        if has_bytes {
+            write!(self.out, " libtwine.a, ns/byte | second, ns/byte |")?;
+        }
+        write!(self.out, "\n|---|--:|--:|--:|--:|")?;
+        writeln!(self.out, "{}", if has_bytes { "--:|--:|" } else { "" })
+    }
+
+    fn row(&mut self, name: &str, row: &Row) -> io::Result<()> {
+        let [product, second] = row.nanoseconds.map(|time| time / row.units as f64);
+        let ratio = product / second;
+        write!(
+            self.out,
+            "| {name} | {} | {product:.1} | {second:.1} | {ratio:.2} |",
+            row.units
+        )?;
+        if row.bytes > 0 {
+            write!(
+                self.out,
+                " {:.2} | {:.2} |",
+                row.per_byte(0),
+                row.per_byte(1)
+            )?;
+        }
+        writeln!(self.out)?;
+        self.out.flush()
+    }
+}

@@ -1,0 +1,248 @@
+//! The rows of the tables: what is timed.
+
+use std::hint::black_box;
+
+use reference::{Value, Writer};
+
+use crate::ffi;
+use crate::plans::{self, Plan, Said, Shape};
+use crate::timing::Clock;
+
+/// What both programs take for the same work: libtwine.a first.
+#[derive(Clone, Copy, Debug)]
+pub struct Row {
+    /// The values, queries or calls.
+    pub units: usize,
+    /// The bytes gone over, if they count.
+    pub bytes: usize,
+    /// The nanoseconds of all units.
+    pub nanoseconds: [f64; 2],
+}
+
+impl Row {
+    /// The nanoseconds for a byte.
+    pub fn per_byte(&self, program: usize) -> f64 {
+        self.nanoseconds[program] / self.bytes as f64
+    }
+}
+
+/// Different files of 16 KB.
+pub fn files(shape: Shape, count: usize) -> Vec<Plan> {
+    (1..=count as u64)
+        .map(|seed| plans::make(shape, 16 << 10, seed))
+        .collect()
+}
+
+/// The values and the bytes of files.
+fn size(plans: &[Plan]) -> (usize, usize) {
+    let values = plans.iter().map(|plan| plan.starts.len()).sum();
+    let bytes = plans.iter().map(|plan| plan.file.len()).sum();
+    (values, bytes)
+}
+
+/// A table for the values of any of these files.
+fn table(plans: &[Plan]) -> Vec<u32> {
+    let most = plans.iter().map(|plan| plan.starts.len()).max();
+    vec![0; most.unwrap_or(0)]
+}
+
+/// Check of one file after the other.
+pub fn check(clock: &Clock, plans: &[Plan]) -> Row {
+    let (mut starts, mut starts2) = (table(plans), table(plans));
+    let nanoseconds = clock.race(
+        &mut || {
+            let mut out = [0; 2];
+            plans.iter().all(|plan| {
+                ffi::check(
+                    black_box(&plan.file),
+                    &mut starts[..plan.starts.len()],
+                    &mut out,
+                ) == 0
+            })
+        },
+        &mut || {
+            plans.iter().all(|plan| {
+                reference::check(black_box(&plan.file), &mut starts2[..plan.starts.len()]).is_ok()
+            })
+        },
+    );
+    assert_eq!(starts, starts2);
+    let (units, bytes) = size(plans);
+    Row {
+        units,
+        bytes,
+        nanoseconds,
+    }
+}
+
+/// Depths of one file after the other.
+pub fn depths(clock: &Clock, plans: &[Plan]) -> Row {
+    let (mut starts, mut depths) = (table(plans), table(plans));
+    let (mut starts2, mut depths2) = (table(plans), table(plans));
+    let nanoseconds = clock.race(
+        &mut || {
+            let mut out = [0; 2];
+            plans.iter().all(|plan| {
+                let count = plan.starts.len();
+                ffi::depths(
+                    black_box(&plan.file),
+                    &mut starts[..count],
+                    &mut depths[..count],
+                    &mut out,
+                ) == 0
+            })
+        },
+        &mut || {
+            plans.iter().all(|plan| {
+                let count = plan.starts.len();
+                reference::depths(
+                    black_box(&plan.file),
+                    &mut starts2[..count],
+                    &mut depths2[..count],
+                )
+                .is_ok()
+            })
+        },
+    );
+    assert_eq!((starts, depths), (starts2, depths2));
+    let (units, bytes) = size(plans);
+    Row {
+        units,
+        bytes,
+        nanoseconds,
+    }
+}
+
+/// Each item of each value.
+pub fn items(clock: &Clock, plan: &Plan) -> Row {
+    let file = &plan.file;
+    let questions: Vec<(usize, usize)> = plan
+        .starts
+        .iter()
+        .flat_map(|&start| {
+            let items = match reference::read(file, start.into()) {
+                Ok(Value::Array { items, .. }) => items,
+                Ok(Value::Map { pairs, .. }) => 2 * pairs,
+                Ok(Value::Tag { .. } | Value::Variant1 { .. }) => 1,
+                Ok(Value::VariantN { arguments, .. }) => arguments,
+                _ => 0,
+            };
+            (0..items as usize).map(move |index| (start as usize, index))
+        })
+        .collect();
+    items_of(clock, file, &questions)
+}
+
+/// The last of many integers in an array; the units are the items.
+pub fn last_item(clock: &Clock, items: usize) -> Row {
+    let mut calls = vec![reference::Call::Array(items as u64)];
+    calls.extend((0..items as i64).map(|n| reference::Call::Integer(n * n % 7919)));
+    calls.push(reference::Call::Close(0));
+    let mut file = vec![0; 4 * items];
+    let mut writer = Writer::new();
+    for call in calls {
+        (_, writer) = writer.step(call, &mut file, &mut [0; 2]);
+    }
+    file.truncate(writer.written as usize);
+    Row {
+        units: items,
+        ..items_of(clock, &file, &[(0, items - 1)])
+    }
+}
+
+fn items_of(clock: &Clock, file: &[u8], questions: &[(usize, usize)]) -> Row {
+    let nanoseconds = clock.race(
+        &mut || {
+            let mut out = [0; 2];
+            questions
+                .iter()
+                .all(|&(at, index)| ffi::item(black_box(file), at, index, &mut out) == 0)
+        },
+        &mut || {
+            questions.iter().all(|&(at, index)| {
+                reference::item(black_box(file), at as u64, index as u64).is_ok()
+            })
+        },
+    );
+    Row {
+        units: questions.len(),
+        bytes: 0,
+        nanoseconds,
+    }
+}
+
+/// Each key of each map, or a key that is in none for each of them.
+pub fn lookups(clock: &Clock, plan: &Plan, is_present: bool) -> Row {
+    let file = &plan.file;
+    let mut questions: Vec<(usize, &[u8])> = Vec::new();
+    for &start in &plan.starts {
+        let Ok(Value::Map { pairs, .. }) = reference::read(file, start.into()) else {
+            continue;
+        };
+        for pair in 0..pairs {
+            let key = reference::item(file, start.into(), 2 * pair).expect("a pair has a key");
+            let key = if is_present {
+                reference::body(file, key as u64)
+            } else {
+                b"nowhere"
+            };
+            questions.push((start as usize, key));
+        }
+    }
+    let nanoseconds = clock.race(
+        &mut || {
+            let mut out = [0; 2];
+            questions.iter().all(|&(at, key)| {
+                (ffi::lookup(black_box(file), at, key, &mut out) == 0) == is_present
+            })
+        },
+        &mut || {
+            questions.iter().all(|&(at, key)| {
+                reference::lookup(black_box(file), at as u64, key).is_ok() == is_present
+            })
+        },
+    );
+    Row {
+        units: questions.len(),
+        bytes: 0,
+        nanoseconds,
+    }
+}
+
+/// The calls of one file after the other.
+pub fn writes(clock: &Clock, plans: &[Plan]) -> Row {
+    let longest = plans.iter().map(|plan| plan.file.len()).max().unwrap_or(0);
+    let (mut out, mut starts) = (vec![0; longest], table(plans));
+    let (mut out2, mut starts2) = (vec![0; longest], table(plans));
+    let nanoseconds = clock.race(
+        &mut || {
+            plans.iter().all(|plan| {
+                let mut state = [0; ffi::STATE];
+                ffi::writer_new(&mut state);
+                black_box(&plan.calls)
+                    .iter()
+                    .all(|call| ffi::call(&mut state, call.as_call(), &mut out, &mut starts) == 0)
+            })
+        },
+        &mut || {
+            plans.iter().all(|plan| {
+                let mut writer = Writer::new();
+                black_box(&plan.calls)
+                    .iter()
+                    .map(Said::as_call)
+                    .all(|call| {
+                        let answer;
+                        (answer, writer) = writer.step(call, &mut out2, &mut starts2);
+                        answer.is_ok()
+                    })
+            })
+        },
+    );
+    assert_eq!((out, starts), (out2, starts2));
+    let (_, bytes) = size(plans);
+    Row {
+        units: plans.iter().map(|plan| plan.calls.len()).sum(),
+        bytes,
+        nanoseconds,
+    }
+}

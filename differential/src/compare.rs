@@ -1,0 +1,535 @@
+//! Asks both programs the same, and compares all that they answer and leave in what they are lent.
+
+use reference::query::{Body, Followed};
+use reference::{Call, Checked, Error, Value, Writer};
+
+use crate::difference::{self, Difference};
+use crate::ffi::{NAME, STATE};
+use crate::lent::Lent;
+use crate::make;
+use crate::product::Product;
+
+/// What tables hold before a call.
+const JUNK: u32 = 0xdead_beef;
+
+/// What an out array holds before a call.
+const JUNK_OUT: u64 = 0x5a5a_5a5a_a5a5_a5a5;
+
+/// The numbers of answers, OK among them.
+pub const ANSWERS: usize = 19;
+
+/// An answer's number and its out array.
+type Told<const N: usize> = (u32, [u64; N]);
+
+/// Puts questions to both programs.
+#[derive(Debug)]
+pub struct Comparer<P> {
+    product: P,
+    /// How often each answer was met.
+    pub met: [u64; ANSWERS],
+    file: Lent<u8>,
+    /// A key, or the bytes of a writer's call.
+    argument: Lent<u8>,
+    starts: Lent<u32>,
+    depths: Lent<u32>,
+    out: Lent<u64>,
+    expected_starts: Vec<u32>,
+    expected_depths: Vec<u32>,
+}
+
+impl<P: Product> Comparer<P> {
+    /// A comparer that has asked nothing.
+    pub fn new(product: P) -> Self {
+        Self {
+            product,
+            met: [0; ANSWERS],
+            file: Lent::new(0),
+            argument: Lent::new(0x41),
+            starts: Lent::new(0x0bad_cafe),
+            depths: Lent::new(0x0bad_f00d),
+            out: Lent::new(0x0bad_0bad_0bad_0bad),
+            expected_starts: Vec::new(),
+            expected_depths: Vec::new(),
+        }
+    }
+
+    /// Asks something of a file, and sees then that it is as it was. `guard` is the byte around the file, which must not
+    /// matter.
+    pub fn of_file(
+        &mut self,
+        file: &[u8],
+        guard: u8,
+        ask: impl FnOnce(&mut Self) -> Result<(), Difference>,
+    ) -> Result<(), Difference> {
+        self.file.guard_with(guard);
+        self.file.copy_from(file);
+        ask(self)?;
+        if self.file.is_guarded() && self.file.slice() == file {
+            Ok(())
+        } else {
+            Err(Difference {
+                question: format!("queries of {}", difference::hex(file)),
+                product: "the file, or a byte beside it, was written to".into(),
+                second: "left alone".into(),
+            })
+        }
+    }
+
+    /// `twine_check`, with a table of this length. Tells the count of an accepted file.
+    pub fn check(&mut self, words: usize) -> Result<Option<usize>, Difference> {
+        self.starts.fill(words, JUNK);
+        self.depths.fill(0, JUNK);
+        self.out.fill(2, JUNK_OUT);
+        refill(&mut self.expected_starts, words);
+        refill(&mut self.expected_depths, 0);
+        let out = array(self.out.slice_mut());
+        let number = self
+            .product
+            .check(self.file.slice(), self.starts.slice_mut(), out);
+        let expected = reference::check(self.file.slice(), &mut self.expected_starts);
+        let question = || format!("check with {words} words");
+        self.judge(number, checked(expected), self.are_tables_same(), question)?;
+        Ok(expected.ok().map(|checked| checked.count))
+    }
+
+    /// `twine_depths`, with tables of these lengths.
+    pub fn depths(&mut self, words: usize, words2: usize) -> Result<(), Difference> {
+        self.starts.fill(words, JUNK);
+        self.depths.fill(words2, JUNK);
+        self.out.fill(2, JUNK_OUT);
+        refill(&mut self.expected_starts, words);
+        refill(&mut self.expected_depths, words2);
+        let (starts, depths) = (self.starts.slice_mut(), self.depths.slice_mut());
+        let out = array(self.out.slice_mut());
+        let number = self.product.depths(self.file.slice(), starts, depths, out);
+        let (starts, depths) = (&mut self.expected_starts, &mut self.expected_depths);
+        let expected = reference::depths(self.file.slice(), starts, depths);
+        let question = || format!("depths with {words} and {words2} words");
+        self.judge(number, checked(expected), self.are_tables_same(), question)
+    }
+
+    /// `twine_read`. Tells the kind and the count of items of a value that can be read.
+    pub fn read(&mut self, at: u64) -> Result<Option<Read>, Difference> {
+        self.out.fill(4, JUNK_OUT);
+        let out = array(self.out.slice_mut());
+        let number = self.product.read(self.file.slice(), at as usize, out);
+        let file = self.file.slice();
+        let expected = reference::read(file, at);
+        let end = reference::skip(file, at);
+        self.judge(number, read(expected, at, end), true, || {
+            format!("read at {at}")
+        })?;
+        Ok(expected.ok().map(Read::of))
+    }
+
+    /// `twine_skip`.
+    pub fn skip(&mut self, at: u64) -> Result<(), Difference> {
+        self.out.fill(2, JUNK_OUT);
+        let out = array(self.out.slice_mut());
+        let number = self.product.skip(self.file.slice(), at as usize, out);
+        let expected = reference::skip(self.file.slice(), at);
+        self.judge(number, offset(expected), true, || format!("skip at {at}"))
+    }
+
+    /// `twine_item`.
+    pub fn item(&mut self, at: u64, index: u64) -> Result<(), Difference> {
+        self.out.fill(2, JUNK_OUT);
+        let out = array(self.out.slice_mut());
+        let number = self
+            .product
+            .item(self.file.slice(), at as usize, index as usize, out);
+        let expected = reference::item(self.file.slice(), at, index);
+        self.judge(number, offset(expected), true, || {
+            format!("item {index} at {at}")
+        })
+    }
+
+    /// `twine_follow`.
+    pub fn follow(&mut self, at: u64) -> Result<(), Difference> {
+        self.out.fill(2, JUNK_OUT);
+        let out = array(self.out.slice_mut());
+        let number = self.product.follow(self.file.slice(), at as usize, out);
+        let expected = reference::follow(self.file.slice(), at);
+        let told = told(expected, |Followed { offset, hops }| [offset as u64, hops]);
+        self.judge(number, told, true, || format!("follow at {at}"))
+    }
+
+    /// `twine_lookup`.
+    pub fn lookup(&mut self, at: u64, key: &[u8]) -> Result<(), Difference> {
+        self.out.fill(2, JUNK_OUT);
+        self.argument.copy_from(key);
+        let out = array(self.out.slice_mut());
+        let number =
+            self.product
+                .lookup(self.file.slice(), at as usize, self.argument.slice(), out);
+        let expected = reference::lookup(self.file.slice(), at, key);
+        let question = || format!("lookup at {at} of the key of {}", difference::hex(key));
+        if self.argument.slice() != key || !self.argument.is_guarded() {
+            return Err(self.touched("the key", question()));
+        }
+        self.judge(number, offset(expected), true, question)
+    }
+
+    /// `twine_body`. That the part of the file which it tells is the body follows from the two numbers.
+    pub fn body(&mut self, at: u64) -> Result<(), Difference> {
+        self.out.fill(2, JUNK_OUT);
+        let out = array(self.out.slice_mut());
+        let number = self.product.body(self.file.slice(), at as usize, out);
+        let expected = reference::query::body_place(self.file.slice(), at);
+        let told = told(expected, |Body { first, length }| {
+            [first as u64, length as u64]
+        });
+        self.judge(number, told, true, || format!("body at {at}"))
+    }
+
+    /// `twine_error_name`.
+    pub fn error_name(&mut self, number: u32) -> Result<(), Difference> {
+        let mut name = Lent::new(0x7e_u8);
+        name.fill(NAME, 0x7f);
+        self.product.error_name(number, array(name.slice_mut()));
+        let mut expected = [0; NAME];
+        if (1..=18).contains(&number) {
+            let letters = difference::name(number).as_bytes();
+            expected[..letters.len()].copy_from_slice(letters);
+        }
+        if name.slice() == expected && name.is_guarded() {
+            return Ok(());
+        }
+        Err(Difference {
+            question: format!("the name of error {number}"),
+            product: format!("{name:x?}"),
+            second: format!("{expected:x?} between guards"),
+        })
+    }
+
+    /// Compares an answer and its out array, and looks at the guards; the tables were compared before.
+    #[inline]
+    fn judge<const N: usize>(
+        &mut self,
+        number: u32,
+        (expected, out): Told<N>,
+        are_tables_same: bool,
+        question: impl FnOnce() -> String,
+    ) -> Result<(), Difference> {
+        self.met[expected as usize] += 1;
+        let is_same = number == expected && self.out.slice() == out && are_tables_same;
+        if is_same && self.out.is_guarded() && self.file.is_guarded() {
+            return Ok(());
+        }
+        Err(self.difference(number, expected, &out, question()))
+    }
+
+    /// Compares both tables and looks at their guards.
+    fn are_tables_same(&self) -> bool {
+        self.starts.slice() == self.expected_starts
+            && self.depths.slice() == self.expected_depths
+            && self.starts.is_guarded()
+            && self.depths.is_guarded()
+    }
+
+    #[cold]
+    fn difference(&self, number: u32, expected: u32, out: &[u64], question: String) -> Difference {
+        let mut product = difference::answer(number, self.out.slice());
+        let mut second = difference::answer(expected, out);
+        let tables = [
+            ("starts", self.starts.slice(), &self.expected_starts),
+            ("depths", self.depths.slice(), &self.expected_depths),
+        ];
+        for (table, words, expected) in tables {
+            if let Some((one, other)) = difference::first(table, words, expected) {
+                product += &format!(", {table} of {} words: {one}", words.len());
+                second += &format!(", {other}");
+            }
+        }
+        for (table, is_guarded) in [
+            ("the file", self.file.is_guarded()),
+            ("out", self.out.is_guarded()),
+            ("starts", self.starts.is_guarded()),
+            ("depths", self.depths.is_guarded()),
+        ] {
+            if !is_guarded {
+                product += &format!(", memory beside {table} was written to");
+            }
+        }
+        let question = format!(
+            "{question} of the file of {}",
+            difference::hex(self.file.slice())
+        );
+        Difference {
+            question,
+            product,
+            second,
+        }
+    }
+
+    #[cold]
+    fn touched(&self, what: &str, question: String) -> Difference {
+        Difference {
+            question: format!(
+                "{question} of the file of {}",
+                difference::hex(self.file.slice())
+            ),
+            product: format!("{what}, or memory beside it, was written to"),
+            second: "left alone".into(),
+        }
+    }
+
+    /// The state that `twine_writer_new` makes.
+    pub fn writer_new(&mut self) -> Result<[u64; STATE], Difference> {
+        let mut state = Lent::new(JUNK_OUT);
+        state.fill(STATE, 77);
+        let number = self.product.writer_new(array(state.slice_mut()));
+        if number == 0 && state.slice() == words(Writer::new()) && state.is_guarded() {
+            return Ok(words(Writer::new()));
+        }
+        Err(Difference {
+            question: "a new writer".into(),
+            product: format!("{}, {state:?}", difference::answer(number, &[])),
+            second: format!("{}, {:?}", difference::answer(0, &[]), words(Writer::new())),
+        })
+    }
+
+    /// A call of the writer. Both get the same state, output and table, and leave theirs in `lent`.
+    pub fn call(&mut self, lent: &mut Writing, call: Call<'_>) -> Result<u32, Difference> {
+        let before = *lent.state();
+        let (answer, next) = make::step(
+            writer(&before),
+            call,
+            &mut lent.second_out,
+            &mut lent.second_starts,
+        );
+        let expected = answer.map_or_else(|kind| kind.number().into(), |()| 0);
+        // A refused call hands back the very same words; an accepted one leaves 0 or 1 for whether it is closed.
+        let state = if expected == 0 { words(next) } else { before };
+
+        let bytes = match call {
+            Call::Text(bytes) | Call::Bytes(bytes) => bytes,
+            _ => &[],
+        };
+        self.argument.copy_from(bytes);
+        let argument = self.argument.slice();
+        let own = match call {
+            Call::Text(_) => Call::Text(argument),
+            Call::Bytes(_) => Call::Bytes(argument),
+            call => call,
+        };
+        let number =
+            lent.with_product(|state, out, starts| self.product.call(state, own, out, starts));
+        let is_guarded =
+            lent.is_guarded() && self.argument.is_guarded() && self.argument.slice() == bytes;
+        self.met[expected as usize] += 1;
+        if number == expected && *lent.state() == state && lent.is_same() && is_guarded {
+            return Ok(number);
+        }
+        let mut product = difference::answer(number, lent.state());
+        let mut second = difference::answer(expected, &state);
+        if let Some((one, other)) = difference::first("out", lent.out.slice(), &lent.second_out) {
+            product += &format!(", {one}");
+            second += &format!(", {other}");
+        }
+        if let Some((one, other)) =
+            difference::first("starts", lent.starts.slice(), &lent.second_starts)
+        {
+            product += &format!(", {one}");
+            second += &format!(", {other}");
+        }
+        if !is_guarded {
+            product += ", memory that is not to be written was written to";
+        }
+        let (length, words) = (lent.second_out.len(), lent.second_starts.len());
+        let first = &lent.second_starts[..words.min(64)];
+        Err(Difference {
+            question: format!(
+                "{call:?} in the state {before:?}, with an output of {length} bytes and a table of {words} words, \
+                 after the call {first:?}"
+            ),
+            product,
+            second,
+        })
+    }
+}
+
+/// What reading tells that other questions are made from.
+#[derive(Clone, Copy, Debug, PartialEq, Eq)]
+pub struct Read {
+    /// How many items the value has.
+    pub items: u64,
+    /// Whether it is a map.
+    pub is_map: bool,
+    /// The body of a text.
+    pub text: Option<Body>,
+}
+
+impl Read {
+    fn of(value: Value) -> Self {
+        let items = match value {
+            Value::Array { items, .. } => items,
+            // A count that was read is no more than half the bytes.
+            Value::Map { pairs, .. } => 2 * pairs,
+            Value::Tag { .. } | Value::Variant1 { .. } => 1,
+            Value::VariantN { arguments, .. } => arguments,
+            _ => 0,
+        };
+        let text = match value {
+            Value::Text(body) => Some(body),
+            _ => None,
+        };
+        Self {
+            items,
+            is_map: matches!(value, Value::Map { .. }),
+            text,
+        }
+    }
+}
+
+/// A writer's state, output and table, of which each program has its own.
+#[derive(Debug)]
+pub struct Writing {
+    state: Lent<u64>,
+    /// The product's output.
+    pub out: Lent<u8>,
+    /// The product's table.
+    pub starts: Lent<u32>,
+    second_out: Vec<u8>,
+    second_starts: Vec<u32>,
+}
+
+impl Writing {
+    /// A state with an output and a table.
+    pub fn new(state: [u64; STATE], out: &[u8], starts: &[u32]) -> Self {
+        let mut writing = Self {
+            state: Lent::new(JUNK_OUT),
+            out: Lent::new(0xc3),
+            starts: Lent::new(0x0bad_cafe),
+            second_out: out.to_vec(),
+            second_starts: starts.to_vec(),
+        };
+        writing.state.copy_from(&state);
+        writing.out.copy_from(out);
+        writing.starts.copy_from(starts);
+        writing
+    }
+
+    /// The state, which is the same for both.
+    pub fn state(&self) -> &[u64; STATE] {
+        self.state
+            .slice()
+            .first_chunk()
+            .expect("a state has five words")
+    }
+
+    /// Puts another state in.
+    pub fn set_state(&mut self, state: [u64; STATE]) {
+        self.state.copy_from(&state);
+    }
+
+    /// Lends an output and a table of other lengths from now on.
+    pub fn resize(&mut self, out: usize, words: usize, byte: u8, word: u32) {
+        self.out.resize(out, byte);
+        self.second_out.resize(out, byte);
+        self.starts.resize(words, word);
+        self.second_starts.resize(words, word);
+    }
+
+    fn with_product<T>(
+        &mut self,
+        call: impl FnOnce(&mut [u64; STATE], &mut [u8], &mut [u32]) -> T,
+    ) -> T {
+        call(
+            array(self.state.slice_mut()),
+            self.out.slice_mut(),
+            self.starts.slice_mut(),
+        )
+    }
+
+    fn is_same(&self) -> bool {
+        self.out.slice() == self.second_out && self.starts.slice() == self.second_starts
+    }
+
+    fn is_guarded(&self) -> bool {
+        self.state.is_guarded() && self.out.is_guarded() && self.starts.is_guarded()
+    }
+}
+
+/// A state of the product as the second program has it: any other word than 0 is closed.
+fn writer(&[written, count, pending, start, closed]: &[u64; STATE]) -> Writer {
+    Writer {
+        written,
+        count,
+        pending,
+        start,
+        closed: closed != 0,
+    }
+}
+
+/// A state of the second program as the product has it.
+fn words(writer: Writer) -> [u64; STATE] {
+    let Writer {
+        written,
+        count,
+        pending,
+        start,
+        closed,
+    } = writer;
+    [written, count, pending, start, closed.into()]
+}
+
+fn refill(table: &mut Vec<u32>, words: usize) {
+    table.clear();
+    table.resize(words, JUNK);
+}
+
+/// A slice that was made with this many elements.
+fn array<T, const N: usize>(slice: &mut [T]) -> &mut [T; N] {
+    slice
+        .first_chunk_mut()
+        .expect("the length that was filled in")
+}
+
+/// The number and the out array of an answer.
+fn told<T, const N: usize>(answer: Result<T, Error>, out: impl FnOnce(T) -> [u64; N]) -> Told<N> {
+    match answer {
+        Ok(value) => (0, out(value)),
+        Err(Error { kind, place }) => {
+            let mut out = [0; N];
+            out[0] = place;
+            (kind.number().into(), out)
+        }
+    }
+}
+
+fn checked(answer: Result<Checked, Error>) -> Told<2> {
+    told(answer, |Checked { count, entry }| {
+        [count as u64, entry as u64]
+    })
+}
+
+fn offset(answer: Result<usize, Error>) -> Told<2> {
+    told(answer, |offset| [offset as u64, 0])
+}
+
+/// What `twine_read` tells of a value that `skip` tells the end of: kind, number, offset behind the numbers, count.
+fn read(answer: Result<Value, Error>, at: u64, end: Result<usize, Error>) -> Told<4> {
+    // A value without body and items ends behind its numbers, and is skipped where it is read.
+    let end = end.map_or(u64::MAX, |end| end as u64);
+    told(answer, |value| match value {
+        Value::Scalar(scalar) => [0, scalar as u64, end, 0],
+        Value::Integer(integer) => [if integer < 0 { 2 } else { 1 }, integer as u64, end, 0],
+        Value::Float32(bits) => [3, bits.into(), at + 1, 4],
+        Value::Float64(bits) => [3, bits, at + 1, 8],
+        Value::Text(Body { first, length }) => [4, length as u64, first as u64, length as u64],
+        Value::Bytes(Body { first, length }) => [5, length as u64, first as u64, length as u64],
+        Value::Array { items, first } => [6, items, first as u64, items],
+        Value::Map { pairs, first } => [7, pairs, first as u64, 2 * pairs],
+        Value::Tag { tag, first } => [8, tag, first as u64, 1],
+        Value::Variant0 { index } => [10, index.into(), end, 0],
+        Value::Variant1 { index, first } => [11, index.into(), first as u64, 1],
+        Value::VariantN {
+            index,
+            arguments,
+            first,
+        } => [12, index.into(), first as u64, arguments],
+        Value::Reference { target } => [14, target as u64, end, 0],
+        Value::Pointer { target } => [15, target as u64, end, 0],
+    })
+}

@@ -1,0 +1,110 @@
+//! Memory that is lent to a call, with guards around it.
+
+use std::fmt::Debug;
+
+/// The elements of a guard.
+const GUARD: usize = 8;
+
+/// A slice of any length with guards before and behind it, which no call may touch.
+#[derive(Debug)]
+pub struct Lent<T> {
+    guard: T,
+    /// Guard, slice, guard.
+    elements: Vec<T>,
+}
+
+impl<T: Copy + PartialEq + Debug> Lent<T> {
+    /// No elements, between guards of this element.
+    pub fn new(guard: T) -> Self {
+        Self {
+            guard,
+            elements: vec![guard; 2 * GUARD],
+        }
+    }
+
+    /// Makes it `length` times this element.
+    pub fn fill(&mut self, length: usize, element: T) {
+        self.elements.clear();
+        self.elements.resize(GUARD, self.guard);
+        self.elements.resize(GUARD + length, element);
+        self.elements.resize(GUARD + length + GUARD, self.guard);
+    }
+
+    /// Makes it a copy of a slice.
+    pub fn copy_from(&mut self, slice: &[T]) {
+        self.elements.clear();
+        self.elements.resize(GUARD, self.guard);
+        self.elements.extend_from_slice(slice);
+        self.elements
+            .resize(GUARD + slice.len() + GUARD, self.guard);
+    }
+
+    /// Makes it shorter, or longer by this element.
+    pub fn resize(&mut self, length: usize, element: T) {
+        let kept = self.slice().len().min(length);
+        self.elements.truncate(GUARD + kept);
+        self.elements.resize(GUARD + length, element);
+        self.elements.resize(GUARD + length + GUARD, self.guard);
+    }
+
+    /// Puts another element into the guards.
+    pub fn guard_with(&mut self, guard: T) {
+        self.guard = guard;
+        let behind = self.elements.len() - GUARD;
+        self.elements[..GUARD].fill(guard);
+        self.elements[behind..].fill(guard);
+    }
+
+    /// The slice between the guards.
+    pub fn slice(&self) -> &[T] {
+        &self.elements[GUARD..self.elements.len() - GUARD]
+    }
+
+    /// The slice between the guards.
+    pub fn slice_mut(&mut self) -> &mut [T] {
+        let behind = self.elements.len() - GUARD;
+        &mut self.elements[GUARD..behind]
+    }
+
+    /// Whether no guard was touched.
+    pub fn is_guarded(&self) -> bool {
+        let (before, rest) = self.elements.split_at(GUARD);
+        let behind = &rest[rest.len() - GUARD..];
+        before
+            .iter()
+            .chain(behind)
+            .all(|element| *element == self.guard)
+    }
+}
+
+#[cfg(test)]
+mod tests {
+    use super::*;
+
+    #[test]
+    fn a_touched_guard_is_seen() {
+        for length in [0, 1, 5] {
+            let mut lent = Lent::new(7_u8);
+            lent.fill(length, 1);
+            lent.slice_mut().fill(2);
+            assert!(lent.is_guarded());
+            for place in [0, GUARD - 1, GUARD + length, 2 * GUARD + length - 1] {
+                lent.elements[place] ^= 1;
+                assert!(!lent.is_guarded(), "{place} of {length}");
+                lent.elements[place] ^= 1;
+            }
+        }
+    }
+
+    #[test]
+    fn lengths_and_elements() {
+        let mut lent = Lent::new(7_u32);
+        lent.copy_from(&[1, 2, 3]);
+        lent.resize(5, 9);
+        assert_eq!(lent.slice(), [1, 2, 3, 9, 9]);
+        lent.resize(2, 9);
+        lent.guard_with(8);
+        assert_eq!(lent.slice(), [1, 2]);
+        assert!(lent.is_guarded());
+    }
+}

@@ -1,0 +1,482 @@
+//! Made-up calls and files.
+
+use reference::{Call, ErrorKind, Scalar, Writer};
+
+use crate::random::Random;
+
+/// What texts are cut from; a cut within a character is none.
+const LETTERS: &str = "frames drives ä€😀 slot 0123456789 address \u{0}\u{7f}\u{80}\u{7ff}\u{800}\u{ffff}\u{10ffff} \
+    a text of more than fifteen bytes, äöüß, with a tail that goes on for a while so that lengths take two bytes: \
+    0123456789abcdefghijklmnopqrstuvwxyz";
+
+/// Texts that are none, or that only a rule stricter than document 01's refuses.
+const ODD_TEXTS: [&[u8]; 12] = [
+    &[0xff],
+    &[0xc0, 0x80],
+    &[0xc1, 0xbf],
+    &[0xc2],
+    &[b'a', 0xc2, 0x7f],
+    &[0xe0, 0x80, 0x80],
+    &[0xed, 0xa0, 0x80],
+    &[0xe2, 0x82],
+    &[0xf0, 0x80, 0x80, 0x80],
+    &[0xf4, 0xbf, 0xbf, 0xbf],
+    &[0xf5, 0x80, 0x80, 0x80],
+    &[
+        b'0', b'1', b'2', b'3', b'4', b'5', b'6', b'7', b'8', b'9', b'0', b'1', b'2', b'3', b'4',
+        b'5', 0x80,
+    ],
+];
+
+/// Byte strings are cut from these.
+static BYTES: [u8; 400] = {
+    let mut bytes = [0; 400];
+    let mut index = 0;
+    while index < bytes.len() {
+        bytes[index] = (index * 167 + index / 3) as u8;
+        index += 1;
+    }
+    bytes
+};
+
+/// The greatest LEB128 numbers that matter: around the bounds of kinds, of 32 and of 64 bits.
+const BOUNDS: [u64; 14] = [
+    0,
+    127,
+    128,
+    (1 << 14) - 1,
+    1 << 14,
+    u32::MAX as u64 - 15,
+    u32::MAX as u64 - 14,
+    (1 << 63) - 16,
+    (1 << 63) - 15,
+    (1 << 63) - 1,
+    1 << 63,
+    u64::MAX - 15,
+    u64::MAX - 14,
+    u64::MAX,
+];
+
+/// A text, seldom one that is none.
+pub fn text(random: &mut Random) -> &'static [u8] {
+    if random.one_in(8) {
+        return random.pick(&ODD_TEXTS);
+    }
+    let letters = LETTERS.as_bytes();
+    let most = random.pick(&[3, 14, 15, 16, 40, letters.len()]);
+    let length = random.index(most + 1);
+    let first = random.index(letters.len() - length + 1);
+    &letters[first..first + length]
+}
+
+/// A byte string.
+pub fn bytes(random: &mut Random) -> &'static [u8] {
+    let most = random.pick(&[2, 14, 16, 150, BYTES.len()]);
+    let length = random.index(most + 1);
+    let first = random.index(BYTES.len() - length + 1);
+    &BYTES[first..first + length]
+}
+
+/// A number of items: small, seldom any.
+fn items(random: &mut Random) -> u64 {
+    match random.below(16) {
+        0 => random.number(),
+        1 => random.pick(&[1 << 63, u64::MAX, u64::MAX / 2, u64::MAX - 9]),
+        _ => random.below(6),
+    }
+}
+
+/// One of the listed starts, seldom another offset.
+fn target(random: &mut Random, starts: &[u32]) -> u64 {
+    if starts.is_empty() || random.one_in(8) {
+        return random.number();
+    }
+    let start = u64::from(random.pick(starts));
+    match random.below(24) {
+        0 => start + (1 << 32),
+        1 => start + 1,
+        _ => start,
+    }
+}
+
+/// A call for a writer with these listed starts; with an open value seldom an opening or a close.
+pub fn call(random: &mut Random, starts: &[u32], is_open: bool) -> Call<'static> {
+    match random.below(if is_open { 18 } else { 28 }) {
+        0..=1 => Call::Scalar(random.pick(&[Scalar::False, Scalar::True, Scalar::Null])),
+        2..=3 => Call::Integer(random.number() as i64),
+        4 => Call::Integer(!(random.number() as i64)),
+        5 => Call::Float32(random.next() as u32),
+        6 => Call::Float64(random.next()),
+        7..=9 => Call::Text(text(random)),
+        10 => Call::Bytes(bytes(random)),
+        11 => Call::Variant0(random.number() as u32),
+        12..=13 => Call::Reference(target(random, starts)),
+        14..=16 => Call::Pointer(target(random, starts)),
+        _ => match random.below(17) {
+            0..=4 => Call::Array(items(random)),
+            5..=8 => Call::Map(items(random)),
+            9..=10 => Call::Tag(random.number()),
+            11..=12 => Call::Variant1(random.number() as u32),
+            13..=14 => Call::VariantN(random.number() as u32, items(random)),
+            _ => Call::Close(target(random, starts)),
+        },
+    }
+}
+
+/// A call of the second program's writer, which would be compiled anew, and slowly, at each place where it is made.
+#[inline(never)]
+pub fn step(
+    writer: Writer,
+    call: Call<'_>,
+    out: &mut [u8],
+    starts: &mut [u32],
+) -> (Result<(), ErrorKind>, Writer) {
+    writer.step(call, out, starts)
+}
+
+/// The most bytes of a pointer and a delta.
+const CLOSE: usize = 6;
+
+/// A well-formed file of at most `longest` bytes and those of a close, by the second program's writer.
+pub fn written(random: &mut Random, longest: usize) -> Vec<u8> {
+    let longest = longest.max(2);
+    let mut out = vec![0; longest + CLOSE];
+    let mut starts = vec![0; longest + CLOSE];
+    let mut writer = Writer::new();
+    for _ in 0..random.index(longest) {
+        let call = match call(random, &starts[..writer.count as usize], writer.pending > 0) {
+            Call::Close(at) => Call::Pointer(at),
+            call => call,
+        };
+        writer = step(writer, call, &mut out[..longest], &mut starts).1;
+    }
+    while writer.pending > 0 || writer.count == 0 {
+        let null = Call::Scalar(Scalar::Null);
+        writer = step(writer, null, &mut out[..longest], &mut starts).1;
+    }
+    // A far entry is one by a pointer.
+    let entry = starts[random.index(writer.count as usize)];
+    writer = step(writer, Call::Close(entry.into()), &mut out, &mut starts).1;
+    out.truncate(writer.written as usize);
+    out
+}
+
+/// Appends a LEB128 number.
+pub fn number(bytes: &mut Vec<u8>, n: u64) {
+    let mut rest = n;
+    while rest > 0x7f {
+        bytes.push(rest as u8 | 0x80);
+        rest >>= 7;
+    }
+    bytes.push(rest as u8);
+}
+
+/// A file that is built byte by byte, without a writer.
+#[derive(Debug)]
+struct Builder<'r> {
+    random: &'r mut Random,
+    bytes: Vec<u8>,
+    starts: Vec<usize>,
+    /// One in so many tokens is made odd; none if it is 0.
+    odd: u64,
+}
+
+/// A file of about `length` bytes, built byte by byte. One in `odd` tokens is odd, most of them not well-formed; none if `odd`
+/// is 0.
+pub fn built(random: &mut Random, length: usize, odd: u64) -> Vec<u8> {
+    let mut builder = Builder {
+        random,
+        bytes: Vec::new(),
+        starts: Vec::new(),
+        odd,
+    };
+    while builder.bytes.len() < length.max(1) {
+        builder.value();
+    }
+    builder.finish()
+}
+
+impl Builder<'_> {
+    fn is_odd(&mut self) -> bool {
+        self.odd > 0 && self.random.one_in(self.odd)
+    }
+
+    /// A header and its number.
+    fn head(&mut self, kind: u8, n: u64) {
+        if n < 15 {
+            self.bytes.push(kind << 4 | n as u8);
+        } else {
+            self.bytes.push(kind << 4 | 15);
+            self.number(n - 15);
+        }
+    }
+
+    /// A LEB128 number; an odd one is padded, too long or too large.
+    fn number(&mut self, n: u64) {
+        if !self.is_odd() {
+            return number(&mut self.bytes, n);
+        }
+        match self.random.below(4) {
+            0 => {
+                number(&mut self.bytes, n);
+                if let Some(last) = self.bytes.last_mut() {
+                    *last |= 0x80;
+                }
+                let more = self.random.below(4);
+                self.bytes.extend((0..more).map(|_| 0x80));
+                self.bytes.push(0);
+            }
+            1 => {
+                let long = self.random.index(12);
+                let last = self.random.pick(&[0, 1, 2, 0x7f, 0x80, 0x81]);
+                self.bytes.extend(std::iter::repeat_n(0xff, long));
+                self.bytes.push(last);
+            }
+            _ => {
+                let bound = self.random.pick(&BOUNDS);
+                number(&mut self.bytes, bound);
+            }
+        }
+    }
+
+    fn value(&mut self) {
+        let start = self.bytes.len();
+        let kind = self
+            .random
+            .pick(&[0, 1, 2, 3, 4, 5, 6, 6, 7, 7, 8, 10, 11, 12, 14, 15]);
+        match kind {
+            6 => {
+                let items = self.random.below(20);
+                self.head(6, items);
+                self.items(items);
+            }
+            7 => {
+                let pairs = self.random.below(8);
+                self.head(7, pairs);
+                for _ in 0..pairs {
+                    let kind = self.random.pick(&[4, 4, 4, 15, 1]);
+                    self.immediate(kind);
+                    self.item();
+                }
+            }
+            8 => {
+                let tag = self.random.number();
+                self.head(8, tag);
+                self.items(1);
+            }
+            11 => {
+                let index = self.random.number() as u32;
+                self.head(11, index.into());
+                self.items(1);
+            }
+            12 => {
+                let index = self.random.number() as u32;
+                let items = self.random.below(20);
+                self.head(12, index.into());
+                self.number(items);
+                self.items(items);
+            }
+            kind => self.immediate(kind),
+        }
+        self.starts.push(start);
+    }
+
+    fn items(&mut self, count: u64) {
+        let count = if self.is_odd() {
+            self.random.below(count + 2)
+        } else {
+            count
+        };
+        for _ in 0..count {
+            self.item();
+        }
+    }
+
+    fn item(&mut self) {
+        if self.is_odd() {
+            let header = self.random.next() as u8;
+            return self.bytes.push(header);
+        }
+        let kind = self.random.pick(&[0, 1, 2, 3, 4, 5, 10, 14, 15, 15]);
+        self.immediate(kind);
+    }
+
+    fn immediate(&mut self, kind: u8) {
+        if self.is_odd() {
+            let header = self
+                .random
+                .pick(&[0x03, 0x0f, 0x32, 0x3f, 0x90, 0x9f, 0xd0, 0xdf]);
+            return self.bytes.push(header);
+        }
+        match kind {
+            0 => {
+                let low = self.random.below(3) as u8;
+                self.bytes.push(low);
+            }
+            1 | 2 => {
+                let n = self.random.number() >> 1;
+                self.head(kind, n);
+            }
+            3 => {
+                let low = self.random.below(2) as u8;
+                self.bytes.push(0x30 | low);
+                let bits = self.random.next().to_le_bytes();
+                self.bytes.extend(&bits[..4 + 4 * usize::from(low)]);
+            }
+            4 | 5 => {
+                let body = if kind == 5 {
+                    bytes(self.random)
+                } else {
+                    text(self.random)
+                };
+                let is_well_formed = kind == 5 || std::str::from_utf8(body).is_ok();
+                let body = if is_well_formed || self.odd > 0 {
+                    body
+                } else {
+                    b"key"
+                };
+                self.head(kind, body.len() as u64);
+                self.bytes.extend(body);
+            }
+            10 => {
+                let index = self.random.number() as u32;
+                self.head(10, index.into());
+            }
+            14 | 15 if !self.starts.is_empty() => {
+                let near = self.starts.len().min(self.random.pick(&[2, 9, usize::MAX]));
+                let start = self.starts[self.starts.len() - 1 - self.random.index(near)];
+                let distance = (self.bytes.len() - start - 1) as u64;
+                let distance = if self.is_odd() {
+                    self.random.number()
+                } else {
+                    distance
+                };
+                self.head(kind, distance);
+            }
+            _ => self.bytes.push(0x10),
+        }
+    }
+
+    /// The delta byte, of a value that it reaches.
+    fn finish(mut self) -> Vec<u8> {
+        let end = self.bytes.len();
+        let reached = self
+            .starts
+            .iter()
+            .filter(|start| end - **start <= 256)
+            .count();
+        let delta = if reached == 0 {
+            self.random.next() as u8
+        } else {
+            let entry = self.starts[self.starts.len() - 1 - self.random.index(reached)];
+            (end - entry - 1) as u8
+        };
+        self.bytes.push(delta);
+        self.bytes
+    }
+}
+
+/// A file with a few damages.
+pub fn damaged(random: &mut Random, file: &[u8]) -> Vec<u8> {
+    let mut file = file.to_vec();
+    for _ in 0..=random.below(3) {
+        damage(random, &mut file);
+    }
+    file
+}
+
+fn damage(random: &mut Random, file: &mut Vec<u8>) {
+    if file.is_empty() {
+        return file.push(random.next() as u8);
+    }
+    let last = file.len() - 1;
+    let place = random.index(file.len());
+    match random.below(12) {
+        0..=1 => file[place] ^= 1 << random.below(8),
+        2 => file[place] = random.next() as u8,
+        3 => file[place] = random.pick(&[0x00, 0x0f, 0x1f, 0x6f, 0x7f, 0x80, 0x90, 0xcf, 0xff]),
+        4 => file.truncate(place),
+        5 => file.insert(place, random.next() as u8),
+        6 => {
+            file.remove(place);
+        }
+        7 => {
+            let to = place + random.index(file.len() - place + 1).min(9);
+            let part = file[place..to].to_vec();
+            let at = random.index(file.len() + 1);
+            file.splice(at..at, part);
+        }
+        8 => {
+            file[last] = random.pick(&[
+                0,
+                1,
+                file[last].wrapping_add(1),
+                file[last].wrapping_sub(1),
+                0xff,
+            ])
+        }
+        9 => {
+            // A number behind a header of low 15 is padded.
+            let header = file.iter().skip(place).position(|byte| byte & 15 == 15);
+            let number = place + header.unwrap_or(0) + 1;
+            let length = file.iter().skip(number).position(|byte| *byte < 0x80);
+            if let Some(length) = length {
+                file[number + length] |= 0x80;
+                file.insert(number + length + 1, 0);
+            }
+        }
+        10 => {
+            // A value's number becomes one of the great ones.
+            file[place] |= 15;
+            let mut bound = Vec::new();
+            number(&mut bound, random.pick(&BOUNDS));
+            file.splice(place + 1..place + 1, bound);
+        }
+        _ => {
+            file[place] = random.pick(&[0x90, 0x9f, 0xd0, 0xdf, 0x03, 0x0e, 0x32, 0x3f]);
+        }
+    }
+}
+
+#[cfg(test)]
+mod tests {
+    use super::*;
+
+    fn is_accepted(file: &[u8]) -> bool {
+        reference::check(file, &mut vec![0; file.len()]).is_ok()
+    }
+
+    #[test]
+    fn files_are_well_formed() {
+        for case in 0..2000 {
+            let mut random = Random::new(1, "make", case);
+            let length = random.pick(&[1, 2, 9, 40, 300, 700]);
+            assert!(is_accepted(&written(&mut random, length)), "written {case}");
+            // A last value of more than 256 bytes is out of a delta's reach.
+            let file = built(&mut random, length.min(40), 0);
+            let answer = reference::check(&file, &mut vec![0; file.len()]);
+            let kind = answer.map_err(|error| error.kind);
+            assert!(
+                matches!(kind, Ok(_) | Err(reference::ErrorKind::BadEntry)),
+                "built {case}: {kind:?}"
+            );
+        }
+    }
+
+    #[test]
+    fn damages_and_odd_tokens_are_mostly_refused() {
+        let mut accepted = [0, 0];
+        for case in 0..2000 {
+            let mut random = Random::new(1, "make", case);
+            let file = written(&mut random, 60);
+            accepted[0] += u32::from(is_accepted(&damaged(&mut random, &file)));
+            accepted[1] += u32::from(is_accepted(&built(&mut random, 60, 20)));
+        }
+        assert!(
+            accepted
+                .iter()
+                .all(|accepted| (20..1500).contains(accepted)),
+            "{accepted:?}"
+        );
+    }
+}

@@ -1,0 +1,550 @@
+//! The sections: what a case of each is.
+
+use reference::model::Book;
+use reference::{Call, Scalar, MAX_LEN};
+
+use crate::compare::{Comparer, Writing};
+use crate::difference::{self, Difference};
+use crate::ffi::STATE;
+use crate::make;
+use crate::product::Product;
+use crate::random::Random;
+
+/// A section of the comparison.
+#[derive(Debug)]
+pub struct Section<P> {
+    /// Its name, for `--only`.
+    pub name: &'static str,
+    /// How many cases there are, if they come to an end.
+    pub cases: Option<u64>,
+    /// Its part of the time, beside the parts of the others.
+    pub share: u32,
+    /// Between so many cases the clock is looked at.
+    pub stride: u64,
+    /// Compares a case.
+    pub run: fn(&mut Comparer<P>, Case) -> Result<(), Difference>,
+}
+
+/// A case of a section.
+#[derive(Clone, Debug)]
+pub struct Case {
+    /// Its number.
+    pub number: u64,
+    /// Its made-up numbers.
+    pub random: Random,
+}
+
+/// The files of no to three bytes.
+const SHORT: u64 = 1 + (1 << 8) + (1 << 16) + (1 << 24);
+
+/// All sections in their order.
+pub fn all<P: Product>() -> [Section<P>; 9] {
+    let section = |name, share, run| Section {
+        name,
+        cases: None,
+        share,
+        stride: 1,
+        run,
+    };
+    [
+        Section {
+            cases: Some(40),
+            ..section("names", 1, names)
+        },
+        Section {
+            cases: Some(SHORT),
+            stride: 1 << 12,
+            ..section("short", 60, short)
+        },
+        section("written", 15, written),
+        section("built", 15, built),
+        section("damaged", 20, damaged),
+        section("calls", 12, calls),
+        section("states", 12, states),
+        section("edge", 6, edge),
+        section("long", 20, long),
+    ]
+}
+
+/// The names of errors, also of numbers that none has.
+fn names<P: Product>(comparer: &mut Comparer<P>, case: Case) -> Result<(), Difference> {
+    let number = case.number as u32;
+    comparer.error_name(number)?;
+    comparer.error_name(number << 8)?;
+    comparer.error_name(number.wrapping_neg())
+}
+
+/// Every file of no to three bytes: check with every table, depths, and every query at every offset. Queries do not read the
+/// delta byte; of files of three bytes they are asked with five of the 256.
+fn short<P: Product>(comparer: &mut Comparer<P>, case: Case) -> Result<(), Difference> {
+    let mut rest = case.number % SHORT;
+    let mut length = 0;
+    while rest >= 1 << (8 * length) {
+        rest -= 1 << (8 * length);
+        length += 1;
+    }
+    let bytes = (rest as u32).to_be_bytes();
+    let file = &bytes[4 - length..];
+    let guard = [0x10, 0x00, 0x80, 0xff, 0x41][rest as usize % 5];
+    comparer.of_file(file, guard, |comparer| {
+        let most = length.saturating_sub(1);
+        for words in 0..=most + 1 {
+            comparer.check(words)?;
+        }
+        comparer.depths(most, most + 1)?;
+        comparer.depths(most, most.saturating_sub(1))?;
+        if length == 3 && !matches!(bytes[3], 0 | 1 | 0x41 | 0x80 | 0xff) {
+            return Ok(());
+        }
+        let keys = [&b""[..], &file[length.min(1)..], &file[..length.min(1)]];
+        for at in (0..=length as u64 + 1).chain([u64::MAX]) {
+            queries(comparer, at, &keys)?;
+        }
+        Ok(())
+    })
+}
+
+/// Well-formed files that the second program's writer wrote.
+fn written<P: Product>(comparer: &mut Comparer<P>, mut case: Case) -> Result<(), Difference> {
+    let random = &mut case.random;
+    let file = small_or_not(random, make::written);
+    whole(comparer, random, &file)
+}
+
+/// Files that are built byte by byte, well-formed and odd ones.
+fn built<P: Product>(comparer: &mut Comparer<P>, mut case: Case) -> Result<(), Difference> {
+    let random = &mut case.random;
+    let odd = random.pick(&[0, 60, 20, 6]);
+    let file = small_or_not(random, |random, length| make::built(random, length, odd));
+    whole(comparer, random, &file)
+}
+
+/// Damaged files.
+fn damaged<P: Product>(comparer: &mut Comparer<P>, mut case: Case) -> Result<(), Difference> {
+    let random = &mut case.random;
+    let file = if random.one_in(2) {
+        small_or_not(random, make::written)
+    } else {
+        small_or_not(random, |random, length| make::built(random, length, 0))
+    };
+    let file = make::damaged(random, &file);
+    whole(comparer, random, &file)
+}
+
+/// A file, of a length for all queries most often.
+fn small_or_not(random: &mut Random, make: impl FnOnce(&mut Random, usize) -> Vec<u8>) -> Vec<u8> {
+    let length = match random.below(64) {
+        0 => random.index(20_000),
+        1..=5 => random.index(1_500),
+        6..=20 => random.index(250),
+        _ => random.index(50),
+    };
+    make(random, length)
+}
+
+/// Check and depths with tables of many lengths, and queries at many offsets: all of them, if the file is small.
+fn whole<P: Product>(
+    comparer: &mut Comparer<P>,
+    random: &mut Random,
+    file: &[u8],
+) -> Result<(), Difference> {
+    let guard = random.pick(&[0x00, 0x10, 0x41, 0x80, 0xf0, 0xff]);
+    comparer.of_file(file, guard, |comparer| {
+        let count = comparer.check(file.len())?;
+        tables(comparer, random, count.unwrap_or(file.len() / 2))?;
+        offsets(comparer, random, file, 40)
+    })
+}
+
+/// Check and depths with tables from no words to two more than `count`; where those are many, with some of them.
+fn tables<P: Product>(
+    comparer: &mut Comparer<P>,
+    random: &mut Random,
+    count: usize,
+) -> Result<(), Difference> {
+    if count <= 8 {
+        for words in 0..=count + 2 {
+            comparer.check(words)?;
+            comparer.depths(count + 1, words)?;
+            comparer.depths(words, count)?;
+        }
+        return Ok(());
+    }
+    for words in [
+        0,
+        random.index(count),
+        count - 1,
+        count,
+        count + 1,
+        count + 2,
+    ] {
+        comparer.check(words)?;
+    }
+    for [words, words2] in [
+        [count, count],
+        [count, count - 1],
+        [count - 1, count],
+        [count + 9, count + 2],
+    ] {
+        comparer.depths(words, words2)?;
+    }
+    comparer.depths(random.index(count + 2), random.index(count + 2))?;
+    comparer.depths(count, random.index(count))
+}
+
+/// The queries at offsets of a file: at all of them and behind them if it is small, else at some.
+fn offsets<P: Product>(
+    comparer: &mut Comparer<P>,
+    random: &mut Random,
+    file: &[u8],
+    some: usize,
+) -> Result<(), Difference> {
+    let length = file.len() as u64;
+    let mut offsets: Vec<u64> = if length <= 100 {
+        (0..=length + 1).collect()
+    } else {
+        (0..some)
+            .map(|_| random.below(length))
+            .chain([0, length - 2, length - 1, length])
+            .collect()
+    };
+    let any = random.number();
+    offsets.extend([
+        u64::MAX,
+        1 << 63,
+        1 << 32,
+        (1 << 32) + random.below(length + 1),
+        any,
+    ]);
+
+    let mut texts: Vec<&[u8]> = Vec::new();
+    for &at in &offsets {
+        let text = comparer.read(at)?.and_then(|read| read.text);
+        if let Some(body) = text {
+            let text = &file[body.first..body.first + body.length];
+            if texts.len() < 6 && text.len() <= 40 && !texts.contains(&text) {
+                texts.push(text);
+            }
+        }
+    }
+    if let Some(text) = texts.first().filter(|text| text.len() > 1) {
+        texts.push(&text[..text.len() - 1]);
+    }
+    texts.extend([&b""[..], b"absent"]);
+    offsets
+        .into_iter()
+        .try_for_each(|at| queries(comparer, at, &texts))
+}
+
+/// All queries at an offset; a lookup for each of the keys if there is a map.
+fn queries<P: Product>(
+    comparer: &mut Comparer<P>,
+    at: u64,
+    keys: &[&[u8]],
+) -> Result<(), Difference> {
+    let read = comparer.read(at)?;
+    comparer.skip(at)?;
+    comparer.follow(at)?;
+    comparer.body(at)?;
+    let items = read.map_or(0, |read| read.items);
+    if items <= 16 {
+        for index in 0..=items + 1 {
+            comparer.item(at, index)?;
+        }
+    } else {
+        for index in [0, 1, items / 2, items - 1, items, items + 1] {
+            comparer.item(at, index)?;
+        }
+    }
+    for index in [u64::MAX, 1 << 63, 1 << 32] {
+        comparer.item(at, index)?;
+    }
+    let is_map = read.is_some_and(|read| read.is_map);
+    let asked = if is_map { keys.len() } else { 1 };
+    keys.iter()
+        .take(asked)
+        .try_for_each(|key| comparer.lookup(at, key))
+}
+
+/// Files of up to 16,777,217 bytes.
+fn long<P: Product>(comparer: &mut Comparer<P>, mut case: Case) -> Result<(), Difference> {
+    let random = &mut case.random;
+    // The first cases are of the greatest length, the one over it among them.
+    let length = match case.number {
+        0 => MAX_LEN,
+        1 => MAX_LEN + 1,
+        2 => MAX_LEN - 1,
+        _ if random.one_in(16) => MAX_LEN - random.index(1 << 23),
+        _ => 70_000 + random.index(1 << 20),
+    };
+    let file = long_file(random, length);
+    comparer.of_file(&file, 0x10, |comparer| {
+        let count = comparer.check(file.len())?;
+        let count = count.unwrap_or(file.len() / 2);
+        for words in [count, count - 1] {
+            comparer.check(words)?;
+        }
+        comparer.depths(count, count)?;
+        comparer.depths(count, random.index(count))?;
+        // Each may go over the whole file.
+        let some = if length > 1 << 21 { 6 } else { 30 };
+        offsets(comparer, random, &file, some)
+    })
+}
+
+/// A file of exactly `length` bytes.
+fn long_file(random: &mut Random, length: usize) -> Vec<u8> {
+    // Two bytes behind the long part: a value, and the delta.
+    let (region, part) = (length - 2, length - 40);
+    let mut file = Vec::with_capacity(length);
+    let head = |file: &mut Vec<u8>, kind: u8, n: usize| {
+        file.push(kind << 4 | 15);
+        make::number(file, n as u64 - 15);
+    };
+    match random.below(7) {
+        0 => {
+            // Pointers one after the other.
+            file.push(0x10);
+            file.resize(part, 0xf0);
+        }
+        1 => {
+            head(&mut file, 6, part / 2);
+            file.resize(region, 0x11);
+        }
+        2 => {
+            // A map whose keys are pointers to the one text before it.
+            file.extend(b"\x43key");
+            let pairs = part / 16;
+            head(&mut file, 7, pairs);
+            for _ in 0..pairs {
+                let distance = file.len() - 1;
+                if distance < 15 {
+                    file.push(0xf0 | distance as u8);
+                } else {
+                    head(&mut file, 15, distance);
+                }
+                file.push(0x02);
+            }
+        }
+        3 => {
+            head(&mut file, 4, part);
+            while file.len() + 8 < part {
+                file.extend("ä€😀a".as_bytes());
+            }
+            let end = file.len() + part;
+            file.resize(end.min(region), b' ');
+            if random.one_in(2) {
+                let place = random.index(file.len());
+                file[place] ^= 0x80;
+            }
+        }
+        kind => {
+            let odd = if kind == 4 { 100_000 } else { 0 };
+            file = make::built(random, part - 1000, odd);
+            file.pop();
+        }
+    }
+    file.truncate(region);
+    file.resize(length - 1, 0x10);
+    file.push(0);
+    if random.one_in(3) {
+        let place = random.index(length);
+        file[place] ^= 1 << random.below(8);
+    }
+    file
+}
+
+/// Runs of calls from a new writer with an output and a table of fixed lengths, also against the book.
+fn calls<P: Product>(comparer: &mut Comparer<P>, mut case: Case) -> Result<(), Difference> {
+    let random = &mut case.random;
+    let length = random.pick(&[0, 1, 2, 3, 9, 40, 300, 600, 900]);
+    let length = length + random.index(1 + length / 2);
+    let words = random.pick(&[0, 1, 2, 9, length, length]) + random.index(3);
+    let mut lent = Writing::new(
+        comparer.writer_new()?,
+        &junk(random, length),
+        &listed(random, length, words),
+    );
+    let mut book = Book::new(length, words);
+    let number = random.index(60);
+    for index in 0..number + 8 {
+        let &[_, count, pending, ..] = lent.state();
+        let starts = &lent.starts.slice()[..count as usize];
+        // The last calls finish the open value, close the file and find it closed.
+        let call = match (index < number, starts.last()) {
+            (true, _) => match make::call(random, starts, pending > 0) {
+                Call::Close(at) if !random.one_in(8) => Call::Pointer(at),
+                call => call,
+            },
+            (false, Some(_)) if pending == 0 => Call::Close(random.pick(starts).into()),
+            (false, _) => Call::Scalar(Scalar::Null),
+        };
+        let answer = comparer.call(&mut lent, call)?;
+        let told = book
+            .call(call)
+            .map_or_else(|kind| kind.number().into(), |()| 0_u32);
+        let is_last = index + 1 == number + 8;
+        if answer != told || ((is_last || random.one_in(8)) && !is_in(&book, &lent)) {
+            let product = format!(
+                "{} {:?}",
+                difference::answer(answer, lent.state()),
+                lent.out.slice()
+            );
+            let question = format!(
+                "{call:?}, call {index} of a new writer with {length} bytes and {words} words"
+            );
+            let second = format!("{} {book:?}", difference::answer(told, &[]));
+            return Err(Difference {
+                question,
+                product,
+                second,
+            });
+        }
+    }
+    let &[written, count, _, _, closed] = lent.state();
+    if closed == 0 {
+        return Ok(());
+    }
+    let file = &lent.out.slice()[..written as usize];
+    comparer.of_file(file, 0xff, |comparer| {
+        let checked = comparer.check(words)?;
+        if checked == Some(count as usize) {
+            return Ok(());
+        }
+        Err(Difference {
+            question: format!("check of the closed file of {}", difference::hex(file)),
+            product: format!("{checked:?} values"),
+            second: format!("{count} values written"),
+        })
+    })
+}
+
+/// Whether a book has what a writer has left.
+fn is_in(book: &Book, lent: &Writing) -> bool {
+    let &[written, count, pending, _, closed] = lent.state();
+    let starts = lent.starts.slice()[..count as usize]
+        .iter()
+        .map(|start| u64::from(*start));
+    book.bytes() == lent.out.slice()[..written as usize]
+        && book.starts().into_iter().eq(starts)
+        && book.owed() == u128::from(pending)
+        && book.is_closed() == (closed != 0)
+}
+
+/// Calls in any states, with any tables, whose lengths change from call to call.
+fn states<P: Product>(comparer: &mut Comparer<P>, mut case: Case) -> Result<(), Difference> {
+    let random = &mut case.random;
+    let most = random.pick(&[0, 1, 2, 9, 40, 300, 700]);
+    let length = most + random.index(1 + most / 8);
+    let words = if random.one_in(40) { 4000 } else { 12 };
+    let words = random.index(words);
+    let first = state(random, length, words);
+    let mut lent = Writing::new(first, &junk(random, length), &listed(random, length, words));
+    for _ in 0..1 + random.index(8) {
+        if random.one_in(4) {
+            let length = nearly(random, lent.out.slice().len());
+            let words = nearly(random, lent.starts.slice().len());
+            let word = random.below(length as u64 + 2) as u32;
+            lent.resize(length, words, random.next() as u8, word);
+        }
+        if random.one_in(4) {
+            let (length, words) = (lent.out.slice().len(), lent.starts.slice().len());
+            lent.set_state(state(random, length, words));
+        }
+        let is_open = lent.state()[2] > 0;
+        let call = make::call(random, lent.starts.slice(), is_open);
+        comparer.call(&mut lent, call)?;
+    }
+    Ok(())
+}
+
+/// A length that is longer most often, or shorter by a few, or none.
+fn nearly(random: &mut Random, length: usize) -> usize {
+    match random.below(12) {
+        0 => 0,
+        1..=3 => length.saturating_sub(random.index(4)),
+        _ => length + random.index(20),
+    }
+}
+
+/// Calls in states around 16,777,216 bytes.
+fn edge<P: Product>(comparer: &mut Comparer<P>, mut case: Case) -> Result<(), Difference> {
+    let random = &mut case.random;
+    let length = MAX_LEN + random.pick(&[0, 0, 1, 20]) - random.pick(&[0, 0, 1, 2]);
+    let byte = random.next() as u8;
+    let mut lent = Writing::new([0; STATE], &vec![byte; length], &[0; 4]);
+    for _ in 0..12 {
+        let back = random.pick(&[0, 1, 2, 3, 4, 5, 6, 7, 8, 9, 12, 15, 20, 30, 300, 400]);
+        let written = MAX_LEN as u64 + 1 - back;
+        let near = written as u32 - random.pick(&[1, 2, 9, 255, 256, 257, 258]);
+        let starts = [random.next() as u32 >> 8, near, written as u32, near - 1];
+        lent.resize(length, 0, byte, 0);
+        for (index, start) in starts.iter().enumerate() {
+            lent.resize(length, index + 1, byte, *start);
+        }
+        let pending = random.pick(&[0, 0, 0, 1, 2, 3, u64::MAX]);
+        let start = written - random.pick(&[0, 1, 1, 1, 2, 3]);
+        lent.set_state([
+            written,
+            random.below(5),
+            pending,
+            start,
+            random.pick(&[0, 0, 0, 0, 0, 7]),
+        ]);
+        let call = make::call(random, &starts, pending > 0);
+        comparer.call(&mut lent, call)?;
+    }
+    Ok(())
+}
+
+/// A state that fits an output and a table, or nearly fits them, or any state.
+fn state(random: &mut Random, length: usize, words: usize) -> [u64; STATE] {
+    let mut near = |bound: usize| match random.below(16) {
+        0 if random.one_in(3) => random.number(),
+        0 => bound as u64 + 1,
+        1 => bound as u64,
+        2 => (bound as u64).saturating_sub(1),
+        _ => random.below(bound as u64 + 1),
+    };
+    let [written, count] = [near(length), near(words)];
+    let start = near(written.clamp(1, 1 << 30) as usize - 1);
+    let pending = match random.below(8) {
+        0..=3 => 0,
+        4..=5 => 1,
+        6 => random.below(9),
+        _ => random.number(),
+    };
+    let closed = match random.below(24) {
+        0 => 1,
+        1 => random.pick(&[2, 256, 1 << 32, 1 << 63, u64::MAX]),
+        _ => 0,
+    };
+    [written, count, pending, start, closed]
+}
+
+/// Any bytes.
+fn junk(random: &mut Random, length: usize) -> Vec<u8> {
+    let mut bytes = Vec::with_capacity(length + 8);
+    while bytes.len() < length {
+        bytes.extend(random.next().to_le_bytes());
+    }
+    bytes.truncate(length);
+    bytes
+}
+
+/// A table of offsets: in rising order, in any order, with some repeated, or of any words.
+fn listed(random: &mut Random, length: usize, words: usize) -> Vec<u32> {
+    let order = random.below(5);
+    let bound = if order == 0 {
+        length as u64 / 8 + 1
+    } else {
+        length as u64 + 2
+    };
+    let mut starts: Vec<u32> = (0..words).map(|_| random.below(bound) as u32).collect();
+    match order {
+        1 | 2 => starts.sort_unstable(),
+        3 => starts.fill_with(|| random.number() as u32),
+        _ => {}
+    }
+    starts
+}
