@@ -23,12 +23,10 @@ struct file {
 
 /* Tells whether there is no error, and prints the one that there is, with the place that the call left in out[0]. */
 static bool ok(const char *what, uint32_t error, const uint64_t *out) {
-    char name[TWINE_NAME] = {0};
     if (error == TWINE_OK) {
         return true;
     }
-    twine_error_name(error, name);
-    fprintf(stderr, "plan: %s: %s %" PRIu64 "\n", what, name, out[0]);
+    fprintf(stderr, "plan: %s: %s %" PRIu64 "\n", what, twine_error_name(error), out[0]);
     return false;
 }
 
@@ -214,9 +212,7 @@ static bool written_plan(void) {
     write_plan(&w);
     if (w.error != TWINE_OK) {
         /* an error of the writer has no place */
-        char name[TWINE_NAME] = {0};
-        twine_error_name(w.error, name);
-        fprintf(stderr, "plan: writer: %s\n", name);
+        fprintf(stderr, "plan: writer: %s\n", twine_error_name(w.error));
         return false;
     }
     struct file f = {"written", w.out, here(&w)};

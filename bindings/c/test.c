@@ -451,8 +451,7 @@ static void names(void) {
     for (uint32_t n = 0; n < sizeof want / sizeof want[0]; n++) {
         char name[TWINE_NAME];
         memset(name, 'x', sizeof name);
-        twine_error_name(n, name);
-        if (strcmp(name, want[n]) != 0) {
+        if (twine_spell_error(n, name) != TWINE_OK || strcmp(name, want[n]) != 0 || strcmp(twine_error_name(n), want[n]) != 0) {
             printf("test.c: the name of %u is %s, and not %s\n", (unsigned)n, name, want[n]);
             failures++;
         }

@@ -16,7 +16,7 @@
  *   - memory that a call writes (starts, depths, out, state, name) overlaps no other that the call is handed;
  *   - nobody else writes any of it during the call.
  *
- * Each function but twine_error_name answers an error's number, TWINE_OK for none.
+ * Each function of the archive answers an error's number, TWINE_OK for none.
  */
 #ifndef TWINE_H
 #define TWINE_H
@@ -99,9 +99,18 @@ enum twine_kind {
     TWINE_KIND_POINTER = 15
 };
 
-/* The name of an error, as "BAD_TARGET", with 0 in every byte behind it; no letters for a number that no error
-   has. */
-void twine_error_name(uint32_t number, char name[TWINE_NAME]);
+/* The name of an error, as "BAD_TARGET"; no letters for a number that no error has. */
+static inline const char *twine_error_name(uint32_t number) {
+    static const char *const names[] = {
+        "",           "EMPTY", "TOO_LONG",  "TRUNC",   "RESERVED", "OVERLONG",   "RANGE",   "NESTED", "BAD_TEXT",
+        "BAD_TARGET", "FULL",  "BAD_ENTRY", "OUTSIDE", "NO_ITEM",  "WRONG_KIND", "NO_ROOM", "OWED",   "CLOSED",
+        "BAD_STATE",
+    };
+    return number < sizeof names / sizeof names[0] ? names[number] : "";
+}
+
+/* The same from the archive, where it is proved: the name, and 0 in every byte behind it. TWINE_OK. */
+uint32_t twine_spell_error(uint32_t number, char name[TWINE_NAME]);
 
 /* ---- check and depths */
 

@@ -182,7 +182,7 @@ impl<P: Product> Comparer<P> {
         self.judge(number, told, true, || format!("body at {at}"))
     }
 
-    /// `twine_error_name`.
+    /// `twine_spell_error`.
     pub fn error_name(&mut self, number: u32) -> Result<(), Difference> {
         let mut name = Lent::new(0x7e_u8);
         name.fill(NAME, 0x7f);

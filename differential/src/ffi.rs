@@ -10,7 +10,7 @@ pub const NAME: usize = 11;
 
 mod c {
     unsafe extern "C" {
-        pub fn twine_error_name(number: u32, name: *mut u8);
+        pub fn twine_spell_error(number: u32, name: *mut u8) -> u32;
 
         pub fn twine_check(
             file: *const u8,
@@ -95,7 +95,7 @@ mod c {
 /// The name of an error, with 0 behind it.
 pub fn error_name(number: u32, name: &mut [u8; NAME]) {
     // SAFETY: see above.
-    unsafe { c::twine_error_name(number, name.as_mut_ptr()) }
+    unsafe { c::twine_spell_error(number, name.as_mut_ptr()) };
 }
 
 /// Checks a file.

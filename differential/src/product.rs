@@ -5,7 +5,7 @@ use reference::Call;
 
 /// The functions of twine.h. A test puts faults between these and the archive.
 pub trait Product {
-    /// `twine_error_name`.
+    /// `twine_spell_error`.
     fn error_name(&self, number: u32, name: &mut [u8; NAME]) {
         ffi::error_name(number, name);
     }

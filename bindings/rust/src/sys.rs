@@ -16,7 +16,7 @@ pub(crate) type State = [u64; 5];
 #[rustfmt::skip]
 extern "C" {
     #[cfg(test)]
-    fn twine_error_name(number: u32, name: *mut u8);
+    fn twine_spell_error(number: u32, name: *mut u8) -> u32;
 
     fn twine_check(file: *const u8, len: usize, starts: *mut u32, words: usize, out: *mut u64) -> u32;
     fn twine_depths(
@@ -75,7 +75,7 @@ fn answer<const N: usize>(number: u32, out: [u64; N]) -> Result<[u64; N], Error>
 pub(crate) fn error_name(number: u32) -> [u8; 11] {
     let mut name = [0; 11];
     // SAFETY: slices; the name has TWINE_NAME bytes
-    unsafe { twine_error_name(number, name.as_mut_ptr()) };
+    unsafe { twine_spell_error(number, name.as_mut_ptr()) };
     name
 }
 

@@ -53,15 +53,16 @@ const NAMES: [[u8; 11]; 19] = [
 
 // `error::name`: the name, and zeros behind it; zeros alone for a number that no error has.
 #[no_mangle]
-pub extern "C" fn twine_error_name(number: u32, name: &mut [u8; 11])
-    ensures { λ _. ⌜ now (name .exit) ≡ nameC number ⌝ }
+pub extern "C" fn twine_spell_error(number: u32, name: &mut [u8; 11]) -> u32
+    ensures { λ r. ⌜ reply r (now (name .exit)) ≡ reply 0 (nameC number) ⌝ }
 {
     let i = number as usize;
     if i < 19 {
         *name = NAMES[i];
-        return;
+        return 0;
     }
     *name = NAMES[0];
+    0
 }
 
 // ---- answers as numbers
