@@ -21,7 +21,7 @@ use Rattle.prelude.proofs.Tests.{pick-elim, split, facts}
 use Rattle.float.specs.Bits.{little, value}
 use Rattle.float.proofs.Laws.{little-value, value-lt}
 use Rattle.kind.specs.Kind.{rule, size}
-use Rattle.kind.proofs.Laws.{rule-past, most-fits}
+use Rattle.kind.proofs.Laws.{most-fits}
 use Rattle.token.specs.Token.{Token, emit, Allowed}
 use Rattle.values.specs.Values.{Value, tokens, bytes, Aimed, Back, WellFormed}
 use Rattle.writer.specs.Step.{Call, scalar, float32, float64, text, bytes as byteString}
@@ -30,6 +30,7 @@ use Rattle.writer.specs.Given.{Given}
 use Rattle.reader.specs.declared.Value.the-variants.{False as TellsFalse, True as TellsTrue, Null as TellsNull, Float32, Float64}
 use Rattle.reader.specs.Read.{readOf}
 use Rattle.reader.specs.Query.{bodyBytes}
+use Rattle.reader.proofs.Laws.{used-lt}
 use Rattle.guarantees.specs.Tells.{tells, tellOf}
 use Rattle.guarantees.specs.Places.{Stands}
 use Rattle.guarantees.specs.Model.{Part, part, Plain, plain, formOf, formsOf, valueAt, valuesAt, adds, lineOf}
@@ -99,7 +100,7 @@ scalar-line (suc (suc (suc n))) h = absurd (omega arith)
 
 module _ (q : ℕ) (t : Token) (f : Allowed t) where
   kind-lt : t .kind < 16
-  kind-lt = split (t .kind) 16 (λ l. l) (λ l. absurd (omega (arith, f .low, ap (λ r. r .lows) (rule-past (t .kind) l))))
+  kind-lt = used-lt (t .kind) (omega (arith, f .low))
 
   row-of : (P : Call → Type 0) → Rows (λ k c. t .kind ≡ k → P c) 0 (rows q t) → P (callOf q t)
   unfolding callOf

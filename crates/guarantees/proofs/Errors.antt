@@ -95,11 +95,11 @@ never-reserved c s out table =
 allowed : (k n : ℕ) (b : List ℕ) → min n 15 < rule k .lows → n ≤ rule k .most → length b ≡ size (rule k) n → Allowed (token k n 0 b)
 allowed k n b low most sized = record { low = low; most = most; alone = λ _. refl; count = omega arith; sized = sized }
 
-abbrev AllowedMove : Move → Type 0
+abbrev pub AllowedMove : Move → Type 0
 AllowedMove (puts t target) = Allowed t
 AllowedMove (closes x) = Unit {0}
 
-allowed-move : (c : Call) (w : ℕ) → Given c → w < 2 ^ 64 → AllowedMove (moveOf c w)
+pub allowed-move : (c : Call) (w : ℕ) → Given c → w < 2 ^ 64 → AllowedMove (moveOf c w)
 unfolding rule
 allowed-move (scalar False) w g h = allowed 0 0 [] (omega arith) (omega arith) refl
 allowed-move (scalar True) w g h = allowed 0 1 [] (omega arith) (omega arith) refl

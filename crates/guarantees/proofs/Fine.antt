@@ -5,75 +5,54 @@
 -- In order: the part of such a call is fine (`fine-given`), so that the model keeps that (`kept-given`); a fine part is allowed at each place, has
 -- as many items there, and names the offset that was handed in; the items of a value, a value, and values (`kept-values`).
 use mathlib.Core.Path.{_≡_, ap, _∙_, subst}
-use mathlib.Core.Bool.{true, true≢false}
+use mathlib.Core.Bool.{true}
 use mathlib.Core.List.{List, [], _∷_, _++_}
 use Prim.Native.Nat.{ℕ, _+_, _-_, _≤_, _<_}
 use native.Mathlib.Omega.{arith}
-use lib.IntN.{pos, negsuc}
 use lib.ListN.{length, length-append}
 use borrow.Author.Tests.{le-leb, lt-leb}
 use Rattle.prelude.proofs.Tests.{split}
 use Rattle.error.specs.Error.{LIMIT}
 use Rattle.utf8.proofs.Laws.{isText-text}
-use Rattle.float.proofs.Laws.{length-little}
 use Rattle.kind.specs.Kind.{rule, immediate}
-use Rattle.kind.proofs.Laws.{rule-past}
 use Rattle.token.specs.Token.{emit, Allowed}
 use Rattle.values.specs.Values.{tokens, bytes, region, starts, Each, Sound, Item, Formed, Reaches, Aimed, Back, Values}
 use Rattle.values.proofs.Members.{each-imp}
-use Rattle.writer.specs.Step.{Call, scalar, integer, float32, float64, text, bytes as byteString, variant, reference, pointer, openArray, openMap, openTag, openVariant1, openVariantN, close}
+use Rattle.writer.specs.Step.{Call}
 use Rattle.writer.specs.Given.{Given}
-use Rattle.writer.specs.declared.Scalar.the-variants.{False, True, Null}
-use Rattle.guarantees.specs.Model.{Part, lineOf, Plain, formOf, formsOf, valueAt, valuesAt, Model, model, blank, owes}
+use Rattle.reader.proofs.Laws.{used-lt}
+use Rattle.guarantees.specs.Model.{Part, lineOf, Plain, formOf, formsOf, valueAt, valuesAt, Model, model, blank, owes, Line, adds, ends}
 use Rattle.guarantees.specs.History.{notes}
 use Rattle.guarantees.specs.ReadsBack.{endOf}
 use Rattle.guarantees.proofs.Models.{pending-form, length-forms, region-snoc, starts-snoc, start-lt, end-le}
-use Rattle.guarantees.proofs.Kept.{Fit, Good, Finished, Kept, Clear, partOf, kept-notes}
+use Rattle.guarantees.proofs.Kept.{Fit, Good, Finished, Kept, Clear, addedBy, kept-notes}
+use Rattle.guarantees.proofs.History.{moveAs, move-line}
+use Rattle.guarantees.proofs.Errors.{AllowedMove, allowed-move}
 
 abbrev pub Fine : Part → Type 0
 Fine p = Sound (formOf 0 p)
 
 -- ---- the parts of calls
 
-allowed-given : (c : Call) → Given c → Allowed (formOf 0 (partOf (lineOf c)))
+allowed-line : (l : Line) → AllowedMove (moveAs 0 l) → Allowed (formOf 0 (addedBy l))
 unfolding formOf rule
-allowed-given (scalar False) g = search arith
-allowed-given (scalar True) g = search arith
-allowed-given (scalar Null) g = search arith
-allowed-given (integer (pos n)) g = search arith
-allowed-given (integer (negsuc n)) g = search arith
-allowed-given (float32 b) g = search (arith, length-little)
-allowed-given (float64 b) g = search (arith, length-little)
-allowed-given (text s) g = search arith
-allowed-given (byteString s) g = search arith
-allowed-given (openArray n) g = search arith
-allowed-given (openMap n) g = search arith
-allowed-given (openTag n) g = search arith
-allowed-given (variant i) g = search arith
-allowed-given (openVariant1 i) g = search arith
-allowed-given (openVariantN i n) g =
-    record { low = omega arith; most = omega arith; alone = λ none. absurd (true≢false none); count = g .1; sized = omega arith }
-allowed-given (reference x) g = search arith
-allowed-given (pointer x) g = search arith
-allowed-given (close e) g = search arith
+allowed-line (adds p) a = a
+allowed-line (ends e) a = search arith
 
-pub fine-given : (c : Call) → Given c → Clear (partOf (lineOf c)) → Fine (partOf (lineOf c))
+pub fine-given : (c : Call) → Given c → Clear (addedBy (lineOf c)) → Fine (addedBy (lineOf c))
 unfolding formOf
-fine-given c g clear = record { allowed = allowed-given c g; text = λ four. isText-text _ (clear four) }
+fine-given c g clear = record { allowed = allowed-line (lineOf c) (rw (move-line c 0) at (allowed-move c 0 g (omega arith))); text = λ four. isText-text _ (clear four) }
 
 pub kept-given : (cs : List Call) → Each Given cs → (n m : ℕ) → Kept Fine (notes cs blank n m .model)
 kept-given cs g n m = kept-notes Fine cs (each-imp Given _ fine-given cs g) n m
 
 -- ---- a part where it stands
 
-pub kind-le : (k : ℕ) → 0 < rule k .lows → k ≤ 15
-kind-le k used = split 15 k (λ past. absurd (omega (arith, ap (λ r. r .lows) (rule-past k past)))) (λ h. h)
-
 -- references and pointers have one rule
 rule-far : (k : ℕ) → 14 ≤ k → 0 < rule k .lows → rule k ≡ rule 15
 unfolding rule
 rule-far k far used =
-    let most = kind-le k used in
+    let most = used-lt k used in
     split k 15 (λ l. let e : k ≡ 14 = omega arith in rw e) (λ l. let e : k ≡ 15 = omega arith in rw e)
 
 module _ (q : ℕ) (p : Part) where

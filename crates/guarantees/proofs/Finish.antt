@@ -20,6 +20,7 @@ use Rattle.writer.specs.declared.Writer.{Writer}
 use Rattle.writer.specs.declared.Scalar.{Scalar}
 use Rattle.writer.specs.declared.Scalar.the-variants.{False, True, Null}
 use Rattle.writer.proofs.Judged.{new-start, Accepted, judge-ok}
+use Rattle.values.specs.Values.{Each}
 use Rattle.guarantees.proofs.Calls.{put-by}
 use Rattle.guarantees.proofs.Results.{FinishesNone, Finishes, write-more, write-last, Open, write-open}
 
@@ -104,10 +105,6 @@ pub record OneByte (c : Call) : Type 0 where
   pub aim : item .kind < 14
   pub byte : length (emit item) ≡ 1
 
-abbrev pub OneBytes : List Call → Type 0
-OneBytes [] = Unit {0}
-OneBytes (c ∷ cs) = OneByte c × OneBytes cs
-
 pub scalar-one : (x : Scalar) → OneByte (scalar x)
 unfolding emit putIf rule
 scalar-one x = record {
@@ -151,7 +148,7 @@ pub record FinishedBy (cs : List Call) (x w : ℕ) (s : Writer) (table : List �
   pub written : run cs r .writer .written ≡ w
 
 -- an open value is finished by calls of one byte, as many as it has items pending
-pub finishable : (cs : List Call) (r : Result) → 0 < length cs → Open (length cs) (r .writer) (r .out) (r .table) → OneBytes cs
+pub finishable : (cs : List Call) (r : Result) → 0 < length cs → Open (length cs) (r .writer) (r .out) (r .table) → Each OneByte cs
     → FinishedBy cs (r .writer .start) (r .writer .written + length cs) (r .writer) (r .table) r
 finishable [] r h o b = absurd (omega arith)
 finishable (c ∷ []) r h o b =
@@ -167,7 +164,7 @@ finishable (c ∷ d ∷ cs) r h o b =
     }
 
 opened : (t : Token) (target : ℕ) (s : Writer) (out table : List ℕ) → Accepted true t target s out table
-    → (cs : List Call) → length cs ≡ write t s out table .writer .pending → OneBytes cs
+    → (cs : List Call) → length cs ≡ write t s out table .writer .pending → Each OneByte cs
     → FinishedBy cs (s .written) (s .written + length (emit t) + length cs) s table (write t s out table)
 unfolding write
 opened t target s out table a [] l b = record {
@@ -188,10 +185,10 @@ opened t target s out table a (c ∷ cs) l b =
 -- so is a value from its opening t on: where the opening was written, its start is listed
 pub opening-finishable : (c : Call) (t : Token) (target : ℕ) (s : Writer) (out table : List ℕ) → moveOf c (s .written) ≡ puts t target
     → opens t ≡ true → step c s out table .answer ≡ ok tt
-    → (cs : List Call) → length cs ≡ step c s out table .writer .pending → OneBytes cs
+    → (cs : List Call) → length cs ≡ step c s out table .writer .pending → Each OneByte cs
     → FinishedBy cs (s .written) (s .written + length (emit t) + length cs) s table (step c s out table)
 opening-finishable c t target s out table e z =
     rw e (put-by s out table
-    (λ r. (cs : List Call) → length cs ≡ r .writer .pending → OneBytes cs
+    (λ r. (cs : List Call) → length cs ≡ r .writer .pending → Each OneByte cs
     → FinishedBy cs (s .written) (s .written + length (emit t) + length cs) s table r)
     t target (λ a. opened t target s out table (subst (λ b. Accepted b t target s out table) z a)))

@@ -35,11 +35,11 @@ use Rattle.guarantees.proofs.Models.{pending-form, length-startsOf, sta
 
 -- ---- a call of the writer is a line of the model
 
-abbrev moveAs : ℕ → Line → Move
+abbrev pub moveAs : ℕ → Line → Move
 moveAs w (adds p) = puts (formOf w p) (pick (leb 14 (p .kind)) (p .number) 0)
 moveAs w (ends e) = closes e
 
-move-line : (c : Call) (w : ℕ) → moveOf c w ≡ moveAs w (lineOf c)
+pub move-line : (c : Call) (w : ℕ) → moveOf c w ≡ moveAs w (lineOf c)
 unfolding formOf
 move-line (scalar False) w = refl
 move-line (scalar True) w = refl

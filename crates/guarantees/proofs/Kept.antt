@@ -69,9 +69,9 @@ pub record Closes (P : Part → Type 0) (vs : List Plain) (d entry : ℕ) : Type
   pub named : entry + d + 1 ≡ endOf vs
 
 -- the part that a line adds, or may add
-abbrev pub partOf : Line → Part
-partOf (adds p) = p
-partOf (ends e) = part 15 e 0 []
+abbrev pub addedBy : Line → Part
+addedBy (adds p) = p
+addedBy (ends e) = part 15 e 0 []
 
 -- a text passes the test
 abbrev pub Clear : Part → Type 0
@@ -236,7 +236,7 @@ module _ (P : Part → Type 0) (b : Model) (n m : ℕ) (k : Kept P b) where
     kept-ends own =
         pick-elim (Kept P) (ltb 255 (backTo e b)) (λ far. closes-far own (ltb-true _ _ far) .kept) (λ near. closes-near (ltb-false _ _ near) .kept)
 
-  kept-line : (l : Line) → (Clear (partOf l) → P (partOf l)) → judgeOf l b n m ≡ ok tt → Kept P (takenOf l b)
+  kept-line : (l : Line) → (Clear (addedBy l) → P (addedBy l)) → judgeOf l b n m ≡ ok tt → Kept P (takenOf l b)
   kept-line (adds p) own q = kept-adds p own q
   kept-line (ends e) own q = kept-ends e q (own (λ four. absurd (omega arith)))
 
@@ -246,14 +246,14 @@ kept-kept : (P : Part → Type 0) (v : Verdict) (b next : Model) → (v ≡ ok t
 kept-kept P (ok u) b next f k = f refl
 kept-kept P (error e) b next f k = k
 
-kept-from : (P : Part → Type 0) (cs : List Call) → Each (λ c. Clear (partOf (lineOf c)) → P (partOf (lineOf c))) cs → (b : Model) (n m : ℕ)
+kept-from : (P : Part → Type 0) (cs : List Call) → Each (λ c. Clear (addedBy (lineOf c)) → P (addedBy (lineOf c))) cs → (b : Model) (n m : ℕ)
     → Kept P b → Kept P (notes cs b n m .model)
 unfolding notes
 kept-from P [] own b n m k = k
 kept-from P (c ∷ cs) own b n m k =
     kept-from P cs (own .1) _ n m (kept-kept P (judgeOf (lineOf c) b n m) b _ (kept-line P b n m k (lineOf c) (own .0)) k)
 
-pub kept-notes : (P : Part → Type 0) (cs : List Call) → Each (λ c. Clear (partOf (lineOf c)) → P (partOf (lineOf c))) cs → (n m : ℕ)
+pub kept-notes : (P : Part → Type 0) (cs : List Call) → Each (λ c. Clear (addedBy (lineOf c)) → P (addedBy (lineOf c))) cs → (n m : ℕ)
     → Kept P (notes cs blank n m .model)
 unfolding bytesOf region valuesAt
 kept-notes P cs own n m = kept-from P cs own blank n m (record { finished = tt; stage = tt; short = omega arith })

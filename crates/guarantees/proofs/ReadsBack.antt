@@ -21,6 +21,7 @@ use Rattle.values.specs.Values.{tokens, bytes, starts, Each, WellFormed}
 use Rattle.reader.specs.Read.{readOf}
 use Rattle.reader.specs.Query.{itemOf, bodyOf, bodyBytes}
 use Rattle.reader.specs.declared.Value.the-variants.{Reference, Pointer}
+use Rattle.reader.proofs.Laws.{used-lt}
 use Rattle.writer.specs.Step.{Call, close}
 use Rattle.writer.specs.Given.{Given}
 use Rattle.checker.specs.Check.{checked, filled, checkOf}
@@ -33,7 +34,7 @@ use Rattle.guarantees.proofs.Accepts.{accepts}
 use Rattle.guarantees.proofs.Tells.{tells-token, tells-body, tells-end, tells-item, tells-none, tells-leaf}
 use Rattle.guarantees.proofs.Models.{forms-append, length-forms, values-append, length-values, start-lt, bytes-closed}
 use Rattle.guarantees.proofs.Kept.{Finished, Staged, Kept, holds-fit, closes-near, closes-far}
-use Rattle.guarantees.proofs.Fine.{Fine, fine-given, kept-given, kind-le, target-form, kept-values}
+use Rattle.guarantees.proofs.Fine.{Fine, fine-given, kept-given, target-form, kept-values}
 
 -- ---- parts as tokens
 
@@ -75,7 +76,7 @@ module _ (vs : List Plain) (j q : ℕ) (p : Part) (h : Holds vs j q p) where
       let own = holds-fit Fine vs f j q p h in
       split (p .kind) 14 (λ near. rw (lt-leb 14 (p .kind) near))
       (λ far. let target = target-form q p far (omega (arith, start-lt (h .before) (p .number) (own .names far), h .place)) .1 in
-      let most = kind-le (p .kind) (omega (arith, own .own .allowed .low)) in
+      let most = used-lt (p .kind) (omega (arith, own .own .allowed .low)) in
       split (p .kind) 15
       (λ l. let e : p .kind ≡ 14 = omega arith in tell-reference q (formOf q p) e ∙ ap Reference target ∙ rw e)
       (λ l. let e : p .kind ≡ 15 = omega arith in tell-pointer q (formOf q p) e ∙ ap Pointer target ∙ rw e))

@@ -15,13 +15,13 @@ use Rattle.guarantees.specs.Tells.{behind, tellOf}
 use Rattle.guarantees.specs.Model.{Part, adds, lineOf, formOf}
 use Rattle.guarantees.specs.ReadsBack.{toldOf}
 use Rattle.guarantees.specs.Said.{first, said}
-use Rattle.guarantees.proofs.Kept.{partOf}
+use Rattle.guarantees.proofs.Kept.{addedBy}
 
 -- where the body starts
 body-first : (q k n a : ℕ) (b : List ℕ) → behind q (token k n a b) - length b ≡ first q k n a
 body-first q k n a b = omega (arith, length-emit k n a b, length-emit k n a [])
 
-told-said : (c : Call) → Given c → (q : ℕ) → toldOf q (partOf (lineOf c)) ≡ said q c
+told-said : (c : Call) → Given c → (q : ℕ) → toldOf q (addedBy (lineOf c)) ≡ said q c
 unfolding toldOf tellOf formOf
 told-said (scalar False) g q = refl
 told-said (scalar True) g q = refl
@@ -43,4 +43,4 @@ told-said (pointer x) g q = refl
 told-said (close e) g q = refl
 
 pub said-told : (c : Call) → Given c → (q : ℕ) (p : Part) → lineOf c ≡ adds p → toldOf q p ≡ said q c
-said-told c g q p e = ap (λ l. toldOf q (partOf l)) (sym e) ∙ told-said c g q
+said-told c g q p e = ap (λ l. toldOf q (addedBy l)) (sym e) ∙ told-said c g q
