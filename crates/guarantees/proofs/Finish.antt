@@ -1,6 +1,6 @@
 -- An open value can always be finished.
 --
--- In order: the open value takes an immediate that has room (`item-taken`); calls one after the other; immediates of one byte, which finish
+-- In order: the open value takes an immediate that has room (`item-taken`); immediates of one byte, which finish
 -- a value from any point on (`finishable`), and from its opening on (`opening-finishable`).
 use mathlib.Core.Path.{_≡_, refl, sym, _∙_, subst}
 use mathlib.Core.Bool.{true, false}
@@ -15,12 +15,14 @@ use Rattle.prelude.proofs.Tests.{unless}
 use Rattle.kind.specs.Kind.{rule}
 use Rattle.utf8.specs.Text.{isText}
 use Rattle.token.specs.Token.{Token, token, putIf, emit}
-use Rattle.writer.specs.Step.{Call, scalar, scalarOf, puts, moveOf, opens, isListed, room, pendingOf, due, Result, startOf, write, put, step}
+use Rattle.writer.specs.Step.{Call, scalar, scalarOf, puts, moveOf, opens, isListed, room, pendingOf, due, Result, result, startOf, write, put, step}
 use Rattle.writer.specs.declared.Writer.{Writer}
 use Rattle.writer.specs.declared.Scalar.{Scalar}
 use Rattle.writer.specs.declared.Scalar.the-variants.{False, True, Null}
 use Rattle.writer.proofs.Judged.{new-start, Accepted, judge-ok}
 use Rattle.values.specs.Values.{Each}
+use Rattle.guarantees.specs.History.{runs}
+use Rattle.guarantees.specs.Rewrites.{AllOk}
 use Rattle.guarantees.proofs.Calls.{put-by}
 use Rattle.guarantees.proofs.Results.{FinishesNone, Finishes, write-more, write-last, Open, write-open}
 
@@ -80,20 +82,6 @@ item-taken k c t target s out table o e i =
       last = λ z. subst (λ x. Finishes x s table r) start (write-last _ t target s out table a (left ∙ z));
     })
 
--- ---- calls one after the other
-
-abbrev pub next : Call → Result → Result
-next c r = step c (r .writer) (r .out) (r .table)
-
--- what calls leave, each given what the one before left, and the first what r has
-abbrev pub run : List Call → Result → Result
-run [] r = r
-run (c ∷ cs) r = run cs (next c r)
-
-abbrev pub AllAccepted : List Call → Result → Type 0
-AllAccepted [] r = Unit {0}
-AllAccepted (c ∷ cs) r = (next c r .answer ≡ ok tt) × AllAccepted cs (next c r)
-
 -- ---- items of one byte
 
 -- wherever it is written, the call puts an immediate of one byte, which names no target and is no bad text
@@ -141,22 +129,32 @@ finishes-then x s table r q n e f = record {
   listed = rw (n .count, e) at (f .listed);
 }
 
+-- what the calls cs leave behind r
+abbrev left : List Call → Result → Result
+left cs r = let q = runs cs (r .writer) (r .out) (r .table) in result (ok tt) (q .writer) (q .out) (q .table)
+
 -- the calls cs behind r are all accepted; the value that starts at x is then finished, with w bytes written
 pub record FinishedBy (cs : List Call) (x w : ℕ) (s : Writer) (table : List ℕ) (r : Result) : Type 0 where
-  pub accepted : AllAccepted cs r
-  pub finishes : Finishes x s table (run cs r)
-  pub written : run cs r .writer .written ≡ w
+  pub accepted : AllOk (runs cs (r .writer) (r .out) (r .table) .answers)
+  pub finishes : Finishes x s table (left cs r)
+  pub written : left cs r .writer .written ≡ w
+
+-- a value is finished by what a call leaves, and not by its answer
+finishes-left : (x : ℕ) (s : Writer) (table : List ℕ) (r : Result) → Finishes x s table r → Finishes x s table (left [] r)
+unfolding runs
+finishes-left x s table r f = record { none = f .none; count = f .count; words = f .words; listed = f .listed }
 
 -- an open value is finished by calls of one byte, as many as it has items pending
 pub finishable : (cs : List Call) (r : Result) → 0 < length cs → Open (length cs) (r .writer) (r .out) (r .table) → Each OneByte cs
     → FinishedBy cs (r .writer .start) (r .writer .written + length cs) (r .writer) (r .table) r
+unfolding runs
 finishable [] r h o b = absurd (omega arith)
 finishable (c ∷ []) r h o b =
     let t = one-taken 0 c (r .writer) (r .out) (r .table) o (b .0) in
-    record { accepted = (t .answer, tt); finishes = t .last refl; written = t .written }
+    record { accepted = (t .answer, tt); finishes = finishes-left _ _ _ (step c (r .writer) (r .out) (r .table)) (t .last refl); written = t .written }
 finishable (c ∷ d ∷ cs) r h o b =
     let t = one-taken (suc (length cs)) c (r .writer) (r .out) (r .table) o (b .0) in
-    let f = finishable (d ∷ cs) (next c r) (omega arith) (t .after) (b .1) in
+    let f = finishable (d ∷ cs) (step c (r .writer) (r .out) (r .table)) (omega arith) (t .after) (b .1) in
     record {
       accepted = (t .answer, f .accepted);
       finishes = finishes-then _ _ _ _ _ (t .more (omega arith)) (t .start) (f .finishes);
@@ -166,10 +164,11 @@ finishable (c ∷ d ∷ cs) r h o b =
 opened : (t : Token) (target : ℕ) (s : Writer) (out table : List ℕ) → Accepted true t target s out table
     → (cs : List Call) → length cs ≡ write t s out table .writer .pending → Each OneByte cs
     → FinishedBy cs (s .written) (s .written + length (emit t) + length cs) s table (write t s out table)
-unfolding write
+unfolding write runs
 opened t target s out table a [] l b = record {
   accepted = tt;
-  finishes = subst (λ x. Finishes x s table (write t s out table)) (new-start s _ _ (a .passed)) (write-last true t target s out table a (sym l));
+  finishes = finishes-left _ s table (write t s out table)
+      (subst (λ x. Finishes x s table (write t s out table)) (new-start s _ _ (a .passed)) (write-last true t target s out table a (sym l)));
   written = omega arith;
 }
 opened t target s out table a (c ∷ cs) l b =
