@@ -97,7 +97,7 @@ fn shown(w: &Writer) -> (Vec<u8>, usize, u64, bool) {
 }
 
 /// Makes calls, closes, and reads back what was accepted.
-fn session(random: &mut Random, mut w: Writer, calls: usize) -> Vec<u8> {
+fn write_some(random: &mut Random, mut w: Writer, calls: usize) -> Vec<u8> {
     let mut accepted = Vec::new();
     let mut starts = Vec::new();
     let mut offsets = Vec::new();
@@ -161,9 +161,9 @@ fn session(random: &mut Random, mut w: Writer, calls: usize) -> Vec<u8> {
 fn calls() {
     let mut random = Random(0x9e37_79b9_7f4a_7c15);
     for round in 0..300 {
-        session(&mut random, Writer::new(), 1 + round);
+        write_some(&mut random, Writer::new(), 1 + round);
         let fixed = Writer::fixed(random.below(400), random.below(100));
-        session(&mut random, fixed, 1 + round);
+        write_some(&mut random, fixed, 1 + round);
     }
 }
 
@@ -198,7 +198,7 @@ fn bytes() {
             (0..random.below(40)).map(|_| random.next() as u8).collect()
         } else {
             let calls = 1 + random.below(30);
-            session(&mut random, Writer::new(), calls)
+            write_some(&mut random, Writer::new(), calls)
         };
         // some bytes changed, or the end lost
         for _ in 0..random.below(3) {
