@@ -2,6 +2,8 @@
 pub mod Laws
 -- how many bytes `put` gives
 pub mod Sizes
+-- numbers read from several bytes at once
+mod Words
 -- how `get` goes, as the code takes it
 mod Steps
 -- the definitions on examples

@@ -1,16 +1,15 @@
 -- How `get` goes, as the code takes it: by a list that is known by its first element, with the bytes left counted.
 --
--- In order: each way through `get_from`; what is read has room for the bits below it; each way through the first four bytes.
-use mathlib.Core.Path.{_≡_, refl, sym, ap, _∙_}
+-- In order: each way through `get_from`; what is read has room for the bits below it; a number of one byte.
+use mathlib.Core.Path.{_≡_, refl, ap}
 use mathlib.Core.Bool.{Bool, true, false}
 use mathlib.Core.List.{List, [], _∷_}
 use Prim.Native.Nat.{ℕ, zero, suc, _-_, _*_, _+_, _%_, _^_, _<_, _≤_}
-use native.Mathlib.Nat.{mul-add, mul-assoc, one-le-pow, pow-le-pow-right}
+use native.Mathlib.Nat.{one-le-pow, pow-le-pow-right}
 use native.Mathlib.Numerals.{sub-one}
 use native.Mathlib.Omega.{arith}
 use lib.Dec.{ltb, leb, lit<}
-use lib.ListN.{length, getD, drop, length-drop}
-use lib.Seq.{drop-cons}
+use lib.ListN.{length, getD, drop}
 use borrow.Author.Tests.{lt-ltb, le-ltb}
 use Rattle.prelude.specs.Pick.{pick}
 use Rattle.prelude.specs.Answer.{Answer, Res, got, bad, then, ok, error, measured}
@@ -65,58 +64,6 @@ last-small least b left (Ok n l) e = go (leb least b) e
     go false e = let z : _≡_ {A = ℕ} 0 1 = cc in absurd (omega arith)
 last-small least b left (Err f) e = omega arith
 
--- ---- the first four bytes
-
-raised-on : (d u e : ℕ) (a : Answer ℕ (ℕ × ℕ)) → raised d u (raised e 128 a) ≡ raised (d + u * e) (u * 128) a
-raised-on d u e (ok a) = ap (λ n. ok (n, a .1)) (rw (mul-add u e (128 * a .0), mul-assoc u 128 (a .0)) (omega arith))
-raised-on d u e (error f) = refl
-
-module _ (s : List ℕ) (j : ℕ) (there : j < length s) where
-  -- the last byte at the index j, and one that others follow
-  last-at : (k least : ℕ) → getD s j 0 < 128 → measured (get (suc k) least (drop j s)) ≡ last least (getD s j 0) (length s - suc j)
-  unfolding get measured last
-  last-at k least h = rw (drop-cons s j 0 there, lt-ltb _ _ h, measured-guard, length-drop)
-
-  more-at : (k least : ℕ) → 128 ≤ getD s j 0 → measured (get (suc k) least (drop j s)) ≡ raised (getD s j 0 % 128) 128 (measured (get k 1 (drop (suc j) s)))
-  unfolding get
-  more-at k least h = rw (drop-cons s j 0 there, le-ltb _ _ h, raised-then)
-
-module _ (s : List ℕ) (long : 4 ≤ length s) where
-  abbrev byte : ℕ → ℕ
-  byte i = getD s i 0
-
-  pub get-one : byte 0 < 128 → last 0 (byte 0) (length s - 1) ≡ measured (get 9 0 s)
-  get-one h = sym (last-at s 0 (omega arith) 8 0 h)
-
-  module _ (more0 : 128 ≤ byte 0) where
-    abbrev low1 : ℕ
-    low1 = byte 0 % 128
-
-    front1 : measured (get 9 0 s) ≡ raised low1 128 (measured (get 8 1 (drop 1 s)))
-    front1 = more-at s 0 (omega arith) 8 0 more0
-
-    pub get-two : byte 1 < 128 → raised low1 128 (last 1 (byte 1) (length s - 2)) ≡ measured (get 9 0 s)
-    get-two h = rw (front1, last-at s 1 (omega arith) 7 1 h)
-
-    module _ (more1 : 128 ≤ byte 1) where
-      abbrev low2 : ℕ
-      low2 = low1 + 128 * (byte 1 % 128)
-
-      front2 : measured (get 9 0 s) ≡ raised low2 16384 (measured (get 7 1 (drop 2 s)))
-      front2 = rw (front1, more-at s 1 (omega arith) 7 1 more1) (raised-on low1 128 (byte 1 % 128) (measured (get 7 1 (drop 2 s))))
-
-      pub get-three : byte 2 < 128 → raised low2 16384 (last 1 (byte 2) (length s - 3)) ≡ measured (get 9 0 s)
-      get-three h = rw (front2, last-at s 2 (omega arith) 6 1 h)
-
-      module _ (more2 : 128 ≤ byte 2) where
-        abbrev low3 : ℕ
-        low3 = low2 + 16384 * (byte 2 % 128)
-
-        front3 : measured (get 9 0 s) ≡ raised low3 2097152 (measured (get 6 1 (drop 3 s)))
-        front3 = rw (front2, more-at s 2 (omega arith) 6 1 more2) (raised-on low2 16384 (byte 2 % 128) (measured (get 6 1 (drop 3 s))))
-
-        pub get-four : byte 3 < 128 → raised low3 2097152 (last 1 (byte 3) (length s - 4)) ≡ measured (get 9 0 s)
-        get-four h = rw (front3, last-at s 3 (omega arith) 5 1 h)
-
-        pub get-rest : 128 ≤ byte 3 → raised (low3 + 2097152 * (byte 3 % 128)) 268435456 (measured (get 5 1 (drop 4 s))) ≡ measured (get 9 0 s)
-        get-rest h = rw (front3, more-at s 3 (omega arith) 5 1 h) (sym (raised-on low3 2097152 (byte 3 % 128) (measured (get 5 1 (drop 4 s)))))
+-- a number of one byte
+pub get-one : (s : List ℕ) → 8 ≤ length s → getD s 0 0 < 128 → last 0 (getD s 0 0) (length s - 1) ≡ measured (get 9 0 s)
+get-one s long h = rw (get-step 9 0 s (λ e. omega arith) (λ e. omega arith), lt-ltb _ _ h)

@@ -9,6 +9,7 @@ ghost use Rattle.prelude.proofs.Parts.{Put};
 ghost use Rattle.leb128.specs.Leb.{put, get};
 ghost use Rattle.leb128.specs.Told.{told};
 ghost use Rattle.leb128.specs.Stages.{last, tenth, raised, valueOf};
+ghost use Rattle.leb128.specs.Word.{marks, sevens};
 
 // The answer of `get`.
 pub enum GetResult {
@@ -89,35 +90,72 @@ pub fn get_any(s: &[u8]) -> GetResult
     get_from(s, 9, 0)
 }
 
-// Reads the number at the front of s. The first four bytes are read here, with no call.
+// Of the four lowest bytes of w: 128 in the place of each that is below 128, and 0 in that of each other.
+fn marks4(w: u64) -> u64
+    ensures { λ r. ⌜ (r ≡ marks 4 w) × (r < 2 ^ 32) ⌝ }
+{
+    let a = 128 - w / 128 % 2 * 128;
+    let b = 128 - w / 256 / 128 % 2 * 128;
+    let c = 128 - w / 256 / 256 / 128 % 2 * 128;
+    let d = 128 - w / 256 / 256 / 256 / 128 % 2 * 128;
+    a + 256 * (b + 256 * (c + 256 * d))
+}
+
+// The same of all eight.
+fn marks(w: u64) -> u64
+    ensures { λ r. ⌜ r ≡ marks 8 w ⌝ }
+{
+    marks4(w) + 0x1_0000_0000 * marks4(w / 256 / 256 / 256 / 256)
+}
+
+// The number of which the four lowest bytes of w have seven bits each, the lowest first.
+fn sevens4(w: u64) -> u64
+    ensures { λ r. ⌜ (r ≡ sevens 4 w) × (r < 2 ^ 28) ⌝ }
+{
+    let a = w % 128;
+    let b = w / 256 % 128;
+    let c = w / 256 / 256 % 128;
+    let d = w / 256 / 256 / 256 % 128;
+    a + 128 * (b + 128 * (c + 128 * d))
+}
+
+// The same of all eight.
+fn sevens(w: u64) -> u64
+    ensures { λ r. ⌜ r ≡ sevens 8 w ⌝ }
+{
+    sevens4(w) + 0x1000_0000 * sevens4(w / 256 / 256 / 256 / 256)
+}
+
+// Reads the number at the front of s. One of up to seven bytes with no fault is read here, eight bytes at once and with no guess at how
+// many are its own.
 pub fn get(s: &[u8]) -> GetResult
     ensures { λ r. ⌜ told r ≡ measured (get 9 0 (now (s .entry))) ⌝ }
 {
     let len = s.len();
-    if len < 4 {
+    if len < 8 {
         return get_any(s);
     }
     let a = s[0];
     if a < 128 {
         return last_byte(a, 0, len - 1);
     }
-    let low = (a % 128) as u64;
-    let b = s[1];
-    if b < 128 {
-        return with_low(low, 128, last_byte(b, 1, len - 2));
+    let w = float::bits8(s);
+    // the last byte is the first without its high bit
+    let t = u64::trailing_zeros(marks(w));
+    if 55 < t {
+        return get_any(s);
     }
-    let low = low + 128 * (b % 128) as u64;
-    let c = s[2];
-    if c < 128 {
-        return with_low(low, 16384, last_byte(c, 1, len - 3));
+    let end = t + 1;
+    let unit = 1u64 << end;
+    let own = w % unit;
+    // OVERLONG: the last byte is 0
+    if own < unit / 256 {
+        return get_any(s);
     }
-    let low = low + 16384 * (c % 128) as u64;
-    let d = s[3];
-    if d < 128 {
-        return with_low(low, 2097152, last_byte(d, 1, len - 4));
+    GetResult::Ok {
+        value: sevens(own),
+        left: len - (end / 8) as usize,
     }
-    let low = low + 2097152 * (d % 128) as u64;
-    with_low(low, 268435456, get_from(&s[4..], 5, 1))
 }
 
 // How many bytes n takes.

@@ -1,8 +1,11 @@
--- `leb128::get` meets its contract: one law for each number of bytes that ends the number here, and one for the rest.
+-- `leb128::get` meets its contract: one byte, several at once, and all others as `get_any` reads them.
 use native.Mathlib.Omega.{arith}
 use borrow.Author.Needs.{needs}
-use Rattle.prelude.proofs.Parts.{part-from}
-use Rattle.leb128.proofs.Steps.{last-small, get-small, get-one, get-two, get-three, get-four, get-rest}
+use Prim.Native.Nat.{_+_}
+use lib.Count.{trailingZeros}
+use lib.Pow.{pow-pos}
+use Rattle.leb128.proofs.Steps.{get-one}
+use Rattle.leb128.proofs.Words.{unit-is, get-at-once}
 use Rattle.leb128.proofs.get.Statement.{statement}
 use Rattle.leb128.proofs.get.Tie as tie
 
@@ -16,34 +19,19 @@ get-spec =
     (λ c. search needs)
     (λ c κs. search needs)
     (λ c. search (needs, get-one, c .last-byte .ensures))
+    (λ c κs. search needs)
+    (λ c κs. search needs)
+    (λ c κs. search needs)
     (λ c. search needs)
     (λ c. search needs)
+    (λ c. search needs)
+    (λ c. search needs)
+    (λ c. rw (unit-is (trailingZeros 64 (c .before .marks .result)) (omega arith)) (pow-pos (trailingZeros 64 (c .before .marks .result) + 1)))
+    (λ c κs. search needs)
     (λ c. search needs)
     (λ c κs. search needs)
-    (λ c κs. omega (arith, last-small _ _ _ (c .last-byte2 .result) (c .last-byte2 .ensures)))
-    (λ c. search (needs, get-two, c .with-low .ensures, c .before .last-byte2 .ensures))
     (λ c. search needs)
     (λ c. search needs)
-    (λ c. search needs)
-    (λ c. search needs)
-    (λ c. search needs)
-    (λ c κs. search needs)
-    (λ c κs. omega (arith, last-small _ _ _ (c .last-byte3 .result) (c .last-byte3 .ensures)))
-    (λ c. search (needs, get-three, c .with-low2 .ensures, c .before .last-byte3 .ensures))
-    (λ c. search needs)
-    (λ c. search needs)
-    (λ c. search needs)
-    (λ c. search needs)
-    (λ c κs. search needs)
-    (λ c κs. omega (arith, last-small _ _ _ (c .last-byte4 .result) (c .last-byte4 .ensures)))
-    (λ c. search (needs, get-four, c .with-low3 .ensures, c .before .last-byte4 .ensures))
-    (λ c. search needs)
-    (λ c. search needs)
-    (λ c. search needs)
-    (λ c. search needs)
-    (λ c. search needs)
-    (λ c. search needs)
-    (λ c κs. search needs)
-    (λ c κs. omega (arith, get-small _ _ _ (c .get-from .result) (c .get-from .ensures) 5 (omega arith)))
-    (λ c. rw (c .with-low4 .ensures, c .before .get-from .ensures, part-from)
-    (get-rest _ (omega arith) (omega arith) (omega arith) (omega arith) (omega arith))))
+    (λ c.
+    let a = c .before .before .before .before .before .before .before .before in
+    get-at-once _ (a .shared-slice-known .given) (omega arith) (c .before .before .before .before .bits8 .ensures) (c .before .before .before .marks .ensures) (omega arith) (omega arith) (c .sevens .ensures)))
