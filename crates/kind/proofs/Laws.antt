@@ -21,6 +21,8 @@ most-fits k = ltb-true _ _ (every-getD (λ r. ltb (r .most) (2 ^ 64)) table k re
 
 -- what code may rely on to reckon with a rule in 64 bits
 pub record Row (r : Rule) : Type 0 where
+  -- a low nibble in use is within the bound
+  pub lows : r .lows ≤ r .most + 1
   pub single : r .single ≤ 1
   pub unit : r .scale + r .each ≤ 4
   pub need : r .fixed + (r .scale + r .each) * min (r .most) (2 ^ 63 - 1) < 2 ^ 64
@@ -32,6 +34,7 @@ pub record Row (r : Rule) : Type 0 where
 pub rule-row : (k : ℕ) → Row (rule k)
 unfolding rule
 rule-row k = record {
+  lows = leb-true _ _ (every-getD (λ r. leb (r .lows) (r .most + 1)) table k reserved refl refl);
   single = leb-true _ _ (every-getD (λ r. leb (r .single) 1) table k reserved refl refl);
   unit = leb-true _ _ (every-getD (λ r. leb (r .scale + r .each) 4) table k reserved refl refl);
   need = ltb-true _ _ (every-getD (λ r. ltb (r .fixed + (r .scale + r .each) * min (r .most) (2 ^ 63 - 1)) (2 ^ 64)) table k reserved refl refl);

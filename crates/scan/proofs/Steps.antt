@@ -1,21 +1,20 @@
 -- How `scanAt` goes, as the code takes it: by offsets, with the bytes left counted.
 --
--- In order: the bytes left behind a number; `seen` under a guard, behind a number, of a body; what was read so far; the whole; behind
--- the first number.
-use mathlib.Core.Path.{_≡_, refl, sym, ap, _∙_}
-use Prim.Native.Nat.{ℕ, suc, _+_, _-_, _*_, _/_, _%_, _^_, _≤_, _<_}
+-- In order: the bytes left behind a number; `seen` under a guard, behind a number, of a body; n; what was read so far; the whole; behind n.
+use mathlib.Core.Path.{_≡_, refl, ap, _∙_}
+use Prim.Native.Nat.{ℕ, suc, _+_, _-_, _*_, _/_, _%_, _≤_, _<_}
 use mathlib.Core.Bool.{Bool, true, false, not, _&&_}
-use mathlib.Core.List.{List, [], _∷_}
+use mathlib.Core.List.{List}
 use native.Mathlib.Nat.{zero-add, add-zero, zero-mul}
 use native.Mathlib.Numerals.{add-one}
 use native.Mathlib.Omega.{arith}
 use lib.Dec.{ltb, leb, eqb}
-use borrow.Author.Tests.{lt-ltb, le-ltb, le-leb, eqb-true, not-true, not-false}
+use borrow.Author.Tests.{lt-ltb, le-ltb, le-leb, leb-true, eqb-true, not-true, not-false}
 use lib.ListN.{length, take, drop, getD, length-drop, drop-of-length-le}
 use lib.Seq.{drop-cons, length-take-le}
 use Rattle.prelude.specs.Pick.{pick}
 use Rattle.prelude.specs.Answer.{Answer, ok, error, Res, got, bad, guard, then, orError, measured, need, _>>_, _>>=_}
-use Rattle.prelude.proofs.Tests.{pick-cong, facts, le-of-flag, and-l, and-r}
+use Rattle.prelude.proofs.Tests.{pick-cong, facts, and-l, and-r}
 use Rattle.prelude.proofs.Readers.{measured-ok}
 use Rattle.error.specs.Error.{Fault, fault, numberOf, TRUNC, RESERVED, RANGE, NESTED}
 use Rattle.leb128.specs.Leb.{get}
@@ -25,11 +24,11 @@ use Rattle.leb128.specs.declared.GetResult.{GetResult}
 use Rattle.leb128.specs.declared.GetResult.the-variants.{Ok, Err}
 use Rattle.kind.specs.Kind.{rule, size, counted, pending, immediate}
 use Rattle.kind.specs.declared.Rule.{Rule}
-use Rattle.kind.proofs.Laws.{Row, rule-row, most-fits}
+use Rattle.kind.proofs.Laws.{Row, rule-row}
 use Rattle.token.specs.Token.{Token}
 use Rattle.token.specs.Scan.{getIf, number, body, scanKind, scan}
 use Rattle.scan.specs.Told.{seen, scanAt}
-use Rattle.scan.specs.Stages.{fitted, ranged, andThen}
+use Rattle.scan.specs.Stages.{fitted, andThen, inRange, numbered, ranged}
 use Rattle.scan.specs.declared.Head.{Head}
 use Rattle.token.proofs.Ends.{End, end-drop, getIf-end}
 
@@ -71,7 +70,7 @@ module _ (s : List ℕ) (at : ℕ) where
 
   seen-ranged : (k low v : ℕ) (m : List ℕ) → End s m
       → seen (length s) ((need (leb (low + v) (rule k .most)) (fault RANGE at) >> (number at (rule k .args) >>= body at k (rule k) (low + v))) m)
-      ≡ ranged s at k (rule k) low v (length m)
+      ≡ pick (leb (low + v) (rule k .most)) (ranged s at k (rule k) (low + v) (length m)) (error (fault RANGE at))
   unfolding _>>_ _>>=_
   seen-ranged k low v m e =
       rw seen-guard (pick-cong (leb (low + v) (rule k .most))
@@ -79,20 +78,45 @@ module _ (s : List ℕ) (at : ℕ) where
       ∙ seen-number (rule k .args) (length s - length m) _ _ (omega arith) (λ a rest e′. seen-body k (low + v) a rest (e′ .short)))
       (λ t. refl))
 
+-- ---- n
+
+module _ (low most : ℕ) where
+  range-then : (at : ℕ) (f : ℕ → ℕ → Answer Fault Head) (a : Answer ℕ (ℕ × ℕ))
+      → andThen at (λ v left. pick (leb (low + v) most) (f (low + v) left) (error (fault RANGE at))) a ≡ andThen at f (inRange low most a)
+  range-then at f (ok a) = go (leb (low + a .0) most)
+    where
+      go : (t : Bool) → pick t (f (low + a .0) (a .1)) (error (fault RANGE at)) ≡ andThen at f (pick t (ok (low + a .0, a .1)) (error RANGE))
+      go true = refl
+      go false = refl
+  range-then at f (error e) = refl
+
+  range-ok : {X : Type 0} {n left : ℕ} (a : Answer ℕ (ℕ × ℕ)) → ok (n, left) ≡ inRange low most a → ((v : ℕ) → ok (v, left) ≡ a → n ≤ most → X) → X
+  range-ok {X} {n} {left} (ok a) e k = go (leb (low + a .0) most) refl e
+    where
+      go : (t : Bool) → leb (low + a .0) most ≡ t → _≡_ {A = Answer ℕ (ℕ × ℕ)} (ok (n, left)) (pick t (ok (low + a .0, a .1)) (error RANGE)) → X
+      go true h e =
+          let same : _≡_ {A = ℕ × ℕ} (n, left) (low + a .0, a .1) = cc in
+          k (a .0) (ap (λ (x : ℕ). ok (a .0, x)) (ap (λ (x : ℕ × ℕ). x .1) same)) (omega (arith, ap (λ (x : ℕ × ℕ). x .0) same, leb-true (low + a .0) most h))
+      go false h e = let z : _≡_ {A = ℕ} 0 1 = cc in absurd (omega arith)
+  range-ok (error f) e k = let z : _≡_ {A = ℕ} 0 1 = cc in absurd (omega arith)
+
 -- ---- what was read so far
+
+pub ruled-row : (k : ℕ) {r : Rule} → r ≡ rule k → Row r
+ruled-row k e = rw e (rule-row k)
 
 abbrev head : ℕ → ℕ → ℕ → ℕ → ℕ → Head
 head k n items first end = record { kind = k; n = n; items = items; first = first; end = end }
 
--- behind the first number v of a token with the header at `at`: what remains makes the whole
-pub record Number (inner : Bool) (s : List ℕ) (at k : ℕ) (r : Rule) (low v left : ℕ) : Type 0 where
+-- behind the number n of a token with the header at `at`: what remains makes the whole
+pub record Number (inner : Bool) (s : List ℕ) (at k : ℕ) (r : Rule) (n left : ℕ) : Type 0 where
   pub row : Row r
-  pub most : r .most < 2 ^ 64
+  pub most : n ≤ r .most
   pub short : left ≤ length s
-  pub whole : ranged s at k r low v left ≡ scanAt inner s at
+  pub whole : ranged s at k r n left ≡ scanAt inner s at
 
 abbrev pub Behind : Bool → List ℕ → ℕ → Rule → GetResult → Type 0
-Behind inner s at r (Ok v left) = Number inner s at (getD s at 0 / 16) r (getD s at 0 % 16) v left
+Behind inner s at r (Ok n left) = Number inner s at (getD s at 0 / 16) r n left
 Behind inner s at r (Err e) = error (fault (numberOf e) at) ≡ scanAt inner s at
 
 -- behind the second number a
@@ -121,17 +145,21 @@ module _ (inner : Bool) (s : List ℕ) (at : ℕ) (there : at < length s) where
   scan-head : scanAt inner s at
       ≡ pick (ltb low (rule kind .lows))
       (pick (not (inner && not (immediate (rule kind))))
-      (andThen at (ranged s at kind (rule kind) low) (measured (getIf (leb 15 low) (drop (at + 1) s))))
+      (andThen at (ranged s at kind (rule kind)) (numbered low (rule kind .most) (drop (at + 1) s)))
       (error (fault NESTED at)))
       (error (fault RESERVED at))
-  unfolding scanAt scan scanKind _>>_ _>>=_
+  unfolding scanAt scan scanKind _>>_ _>>=_ numbered
   scan-head =
       rw (drop-cons s at 0 there, seen-guard, seen-guard, add-one)
       (pick-cong (ltb low (rule kind .lows))
       (λ t. pick-cong (not (inner && not (immediate (rule kind))))
-      (λ u. seen-number s at (leb 15 low) (suc at) _ _ there (λ v m e. seen-ranged s at kind low v m e))
+      (λ u. seen-number s at (leb 15 low) (suc at) _ ruled there (λ v m e. seen-ranged s at kind low v m e)
+      ∙ range-then low (rule kind .most) at (ranged s at kind (rule kind)) (measured (getIf (leb 15 low) (drop (suc at) s))))
       (λ u. refl))
       (λ t. refl))
+    where
+      ruled : ℕ → ℕ → Answer Fault Head
+      ruled v left = pick (leb (low + v) (rule kind .most)) (ranged s at kind (rule kind) (low + v) left) (error (fault RANGE at))
 
   module _ {r : Rule} (ruled : r ≡ rule kind) where
     pub scan-reserved : r .lows ≤ low → error (fault RESERVED at) ≡ scanAt inner s at
@@ -141,73 +169,63 @@ module _ (inner : Bool) (s : List ℕ) (at : ℕ) (there : at < length s) where
       pub scan-nested : inner && not i ≡ true → error (fault NESTED at) ≡ scanAt inner s at
       scan-nested h = rw (scan-head, ← ruled, lt-ltb _ _ used, ← flat, h)
 
-      scan-numbered : inner && not i ≡ false
-          → andThen at (ranged s at kind r low) (measured (getIf (leb 15 low) (drop (at + 1) s))) ≡ scanAt inner s at
+      scan-numbered : inner && not i ≡ false → andThen at (ranged s at kind r) (numbered low (r .most) (drop (at + 1) s)) ≡ scanAt inner s at
       scan-numbered h = rw (scan-head, ← ruled, lt-ltb _ _ used, ← flat, h)
 
-      behind : inner && not i ≡ false → (g : GetResult) → numbers.told g ≡ measured (getIf (leb 15 low) (drop (at + 1) s)) → Behind inner s at r g
-      behind h (Ok v left) e = record {
-        row = rw ruled (rule-row kind);
-        most = rw ruled (most-fits kind);
-        short = left-le (leb 15 low) (drop (at + 1) s) (length s) (Ok v left) e (rw length-drop (omega arith));
+      behind : inner && not i ≡ false → (g : GetResult) → numbers.told g ≡ numbered low (r .most) (drop (at + 1) s) → Behind inner s at r g
+      unfolding numbered
+      behind h (Ok n left) e = range-ok low (r .most) (measured (getIf (leb 15 low) (drop (at + 1) s))) e (λ v q l. record {
+        row = ruled-row kind ruled;
+        most = l;
+        short = left-le (leb 15 low) (drop (at + 1) s) (length s) (Ok v left) q (rw length-drop (omega arith));
         whole = rw (← scan-numbered h, ← e);
-      }
+      })
       behind h (Err f) e = rw (← scan-numbered h, ← e)
 
-      pub scan-number : inner && not i ≡ false → (g x : GetResult) → numbers.told g ≡ measured (getIf (leb 15 low) (drop (at + 1) s)) → g ≡ x → Behind inner s at r x
+      pub scan-number : inner && not i ≡ false → (g x : GetResult) → numbers.told g ≡ numbered low (r .most) (drop (at + 1) s) → g ≡ x → Behind inner s at r x
       scan-number h g x e is = behind h x (rw is at e)
 
--- ---- behind the first number
+-- ---- behind n
 
-module _ {inner : Bool} {s : List ℕ} {at k : ℕ} {r : Rule} {low v left : ℕ} (b : Number inner s at k r low v left) {f : Bool} (told : f ≡ leb (low + v) (r .most)) where
-  abbrev n : ℕ
-  n = low + v
+module _ {inner : Bool} {s : List ℕ} {at k : ℕ} {r : Rule} {n left : ℕ} (b : Number inner s at k r n left) where
+  -- items that a second number counts
+  pub scan-second : r .args ≡ true → (g x : GetResult) → numbers.told g ≡ measured (get 9 0 (drop (length s - left) s)) → g ≡ x → Counted inner s at k n x
+  unfolding getIf
+  scan-second e g x q is = go x (rw is at q)
+    where
+      whole : andThen at (fitted (length s) at k r n) (measured (get 9 0 (drop (length s - left) s))) ≡ scanAt inner s at
+      whole = rw (← b .whole, e)
 
-  pub scan-over : not f ≡ true → error (fault RANGE at) ≡ scanAt inner s at
-  scan-over h = rw (← b .whole, ← told, not-true f h)
-
-  module _ (h : not f ≡ false) where
-    pub n-most : n ≤ r .most
-    n-most = le-of-flag n (r .most) told (not-false f h)
-
-    -- items that a second number counts
-    pub scan-second : r .args ≡ true → (g x : GetResult) → numbers.told g ≡ measured (get 9 0 (drop (length s - left) s)) → g ≡ x → Counted inner s at k n x
-    unfolding getIf
-    scan-second e g x q is = go x (rw is at q)
-      where
-        whole : andThen at (fitted (length s) at k r n) (measured (get 9 0 (drop (length s - left) s))) ≡ scanAt inner s at
-        whole = rw (← b .whole, ← told, not-false f h, e)
-
-        go : (g : GetResult) → numbers.told g ≡ measured (get 9 0 (drop (length s - left) s)) → Counted inner s at k n g
-        go (Ok a l) q =
-            let none = b .row .many e in
-            let scale : r .scale ≡ 0 = omega arith in
-            let fixed : r .fixed ≡ 0 = omega (arith, b .row .fixed) in
-            let each : r .each ≡ 0 = omega arith in
-            let single : r .single ≡ 0 = omega arith in
-            record {
-              short = left-le true (drop (length s - left) s) (length s) (Ok a l) q (rw length-drop (omega arith));
-              whole = rw (← whole, ← q) (rw (fixed, scale, each, single) (simp (zero-mul, zero-add, add-zero)));
-            }
-        go (Err x) q = rw (← whole, ← q)
-
-    -- none
-    module _ (e : r .args ≡ false) where
-      scan-fitted : fitted (length s) at k r n 0 left ≡ scanAt inner s at
-      unfolding getIf measured
-      scan-fitted = let all : length (drop (length s - left) s) ≡ left = rw length-drop (omega (arith, b .short)) in rw (← b .whole, ← told, not-false f h, e, all)
-
-      pub scan-bare : eqb (r .scale) 0 && eqb (r .each) 0 ≡ true → ok (head k n (r .single) (length s - left) (length s - left)) ≡ scanAt inner s at
-      scan-bare z =
-          let scale : r .scale ≡ 0 = eqb-true _ _ (and-l _ _ z) in
-          let each : r .each ≡ 0 = eqb-true _ _ (and-r (eqb (r .scale) 0) _ z) in
+      go : (g : GetResult) → numbers.told g ≡ measured (get 9 0 (drop (length s - left) s)) → Counted inner s at k n g
+      go (Ok a l) q =
+          let none = b .row .many e in
+          let scale : r .scale ≡ 0 = omega arith in
           let fixed : r .fixed ≡ 0 = omega (arith, b .row .fixed) in
-          rw (← scan-fitted) (rw (fixed, scale, each) (simp (zero-mul, add-zero, le-leb 0 left (omega arith))))
+          let each : r .each ≡ 0 = omega arith in
+          let single : r .single ≡ 0 = omega arith in
+          record {
+            short = left-le true (drop (length s - left) s) (length s) (Ok a l) q (rw length-drop (omega arith));
+            whole = rw (← whole, ← q) (rw (fixed, scale, each, single) (simp (zero-mul, zero-add, add-zero)));
+          }
+      go (Err x) q = rw (← whole, ← q)
 
-      module _ {g : Bool} (room : g ≡ leb (size r n + r .each * n) left) where
-        pub scan-full : not g ≡ true → error (fault TRUNC at) ≡ scanAt inner s at
-        scan-full z = rw (← scan-fitted, add-zero, ← room, not-true g z)
+  -- none
+  module _ (e : r .args ≡ false) where
+    scan-fitted : fitted (length s) at k r n 0 left ≡ scanAt inner s at
+    unfolding getIf measured
+    scan-fitted = let all : length (drop (length s - left) s) ≡ left = rw length-drop (omega (arith, b .short)) in rw (← b .whole, e, all)
 
-        pub scan-sized : not g ≡ false
-            → ok (head k n (r .single + r .each * n) (length s - left) (length s - left + (r .fixed + r .scale * n))) ≡ scanAt inner s at
-        scan-sized z = rw (← scan-fitted, add-zero, ← room, not-false g z)
+    pub scan-bare : eqb (r .scale) 0 && eqb (r .each) 0 ≡ true → ok (head k n (r .single) (length s - left) (length s - left)) ≡ scanAt inner s at
+    scan-bare z =
+        let scale : r .scale ≡ 0 = eqb-true _ _ (and-l _ _ z) in
+        let each : r .each ≡ 0 = eqb-true _ _ (and-r (eqb (r .scale) 0) _ z) in
+        let fixed : r .fixed ≡ 0 = omega (arith, b .row .fixed) in
+        rw (← scan-fitted) (rw (fixed, scale, each) (simp (zero-mul, add-zero, le-leb 0 left (omega arith))))
+
+    module _ {g : Bool} (room : g ≡ leb (size r n + r .each * n) left) where
+      pub scan-full : not g ≡ true → error (fault TRUNC at) ≡ scanAt inner s at
+      scan-full z = rw (← scan-fitted, add-zero, ← room, not-true g z)
+
+      pub scan-sized : not g ≡ false
+          → ok (head k n (r .single + r .each * n) (length s - left) (length s - left + (r .fixed + r .scale * n))) ≡ scanAt inner s at
+      scan-sized z = rw (← scan-fitted, add-zero, ← room, not-false g z)

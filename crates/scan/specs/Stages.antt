@@ -1,8 +1,10 @@
 -- What remains to be made of a token, stage by stage. No public contract cites this file.
 --
 --   fitted .. left       behind its numbers, with `left` bytes left: the head, or TRUNC
---   ranged .. v left     behind the first number v, with `left` bytes left: RANGE of n, the second number, and so on
 --   andThen at f a       what f makes of a number and the bytes left; the number's error, placed at `at`
+--   inRange low most a   n of the low nibble and the number a behind it, with the bytes left: RANGE where it is over `most`
+--   numbered low most s  the same, where the number stands in front of s if there is one
+--   ranged .. n left     behind n, with `left` bytes left: the second number, and so on
 use Prim.Native.Nat.{ℕ, _+_, _-_}
 use mathlib.Core.List.{List}
 use lib.Dec.{leb}
@@ -25,8 +27,12 @@ abbrev pub andThen : ℕ → (ℕ → ℕ → Answer Fault Head) → Answer ℕ 
 andThen at f (ok a) = f (a .0) (a .1)
 andThen at f (error e) = error (fault e at)
 
-abbrev pub ranged : List ℕ → ℕ → ℕ → Rule → ℕ → ℕ → ℕ → Answer Fault Head
-ranged s at k r low v left =
-    pick (leb (low + v) (r .most))
-    (andThen at (fitted (length s) at k r (low + v)) (measured (getIf (r .args) (drop (length s - left) s))))
-    (error (fault RANGE at))
+abbrev pub inRange : ℕ → ℕ → Answer ℕ (ℕ × ℕ) → Answer ℕ (ℕ × ℕ)
+inRange low most (ok a) = pick (leb (low + a .0) most) (ok (low + a .0, a .1)) (error RANGE)
+inRange low most (error e) = error e
+
+unfoldable pub numbered : ℕ → ℕ → List ℕ → Answer ℕ (ℕ × ℕ)
+numbered low most s = inRange low most (measured (getIf (leb 15 low) s))
+
+abbrev pub ranged : List ℕ → ℕ → ℕ → Rule → ℕ → ℕ → Answer Fault Head
+ranged s at k r n left = andThen at (fitted (length s) at k r n) (measured (getIf (r .args) (drop (length s - left) s)))

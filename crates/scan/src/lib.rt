@@ -6,12 +6,11 @@ use leb128::GetResult;
 ghost use mathlib.Core.Path.{_≡_};
 ghost use Prim.Native.Nat.{_+_, _*_, _≤_, _<_, _^_};
 ghost use lib.Dec.{leb};
-ghost use Rattle.prelude.specs.Answer.{measured};
 ghost use Rattle.leb128.specs.Told as numbers;
 ghost use Rattle.kind.specs.Kind.{size};
 ghost use Rattle.kind.proofs.Laws.{Row};
-ghost use Rattle.token.specs.Scan.{getIf};
 ghost use Rattle.scan.specs.Told.{told, scanAt};
+ghost use Rattle.scan.specs.Stages.{numbered};
 
 // A token by its offsets in a region.
 pub struct Head {
@@ -32,27 +31,30 @@ pub enum ScanResult {
     Err(Error),
 }
 
-// Reads a number that is there where `wanted` is true; else it is 0.
-fn get_if(wanted: bool, s: &[u8]) -> GetResult
-    ensures { λ r. ⌜ numbers.told r ≡ measured (getIf wanted (now (s .entry))) ⌝ }
+// The number n of a header with this low nibble, where s stands behind it, and the bytes left behind n.
+fn number(low: u8, most: u64, s: &[u8]) -> GetResult
+    requires { ⌜ (low ≤ most) × (low < 16) ⌝ }
+    ensures { λ r. ⌜ numbers.told r ≡ numbered low most (now (s .entry)) ⌝ }
 {
-    if wanted {
-        return leb128::get(s);
+    if low < 15 {
+        return GetResult::Ok {
+            value: low as u64,
+            left: s.len(),
+        };
     }
-    GetResult::Ok {
-        value: 0,
-        left: s.len(),
+    match leb128::get(s) {
+        GetResult::Ok { value, left } => {
+            // RANGE: n is over its kind's bound
+            if most - 15 < value {
+                return GetResult::Err(ErrorKind::Range);
+            }
+            GetResult::Ok {
+                value: 15 + value,
+                left,
+            }
+        }
+        GetResult::Err(error) => GetResult::Err(error),
     }
-}
-
-// Whether a low nibble and the number behind it are within the bound of n.
-fn within(low: u64, v: u64, most: u64) -> bool
-    ensures { λ r. ⌜ r ≡ leb (low + v) most ⌝ }
-{
-    if most < low {
-        return false;
-    }
-    v <= most - low
 }
 
 // Whether the body and the items that n counts have room in the bytes left.
@@ -100,17 +102,9 @@ pub fn scan(region: &[u8], at: usize, inner: bool) -> ScanResult
         });
     }
     let start = at + 1;
-    match get_if(15 <= low, &region[start..]) {
+    match number(low, rule.most, &region[start..]) {
         GetResult::Ok { value, left } => {
-            // RANGE: n is over its kind's bound
-            let allowed = within(low as u64, value, rule.most);
-            if !allowed {
-                return ScanResult::Err(Error {
-                    kind: ErrorKind::Range,
-                    place: at,
-                });
-            }
-            let n = low as u64 + value;
+            let n = value;
             let first = len - left;
             // items that a second number counts, and no body
             if rule.args {

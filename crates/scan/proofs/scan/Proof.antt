@@ -1,6 +1,6 @@
 -- `scan::scan` meets its contract: one law of `scanAt` for each way through the code.
 use mathlib.Core.Path.{_≡_}
-use Prim.Native.Nat.{ℕ, _+_, _*_, _/_, _%_, _^_, _≤_, _<_}
+use Prim.Native.Nat.{ℕ, _+_, _*_, _/_, _^_, _≤_, _<_}
 use native.Mathlib.Omega.{arith}
 use lib.ListN.{getD}
 use borrow.Author.Needs.{needs}
@@ -11,55 +11,56 @@ use Rattle.leb128.specs.declared.GetResult.{GetResult}
 use Rattle.leb128.specs.declared.GetResult.the-variants.{Ok}
 use Rattle.kind.specs.Kind.{size}
 use Rattle.kind.specs.declared.Rule.{Rule}
-use Rattle.scan.proofs.Steps.{Behind, Counted, scan-past, scan-reserved, scan-nested, scan-number, scan-over, n-most, scan-second, scan-bare, scan-full, scan-sized}
+use Rattle.scan.proofs.Steps.{Behind, Counted, ruled-row, scan-past, scan-reserved, scan-nested, scan-number, scan-second, scan-bare, scan-full, scan-sized}
 use Rattle.scan.proofs.scan.Statement.{statement}
 use Rattle.scan.proofs.scan.Tie as tie
 
 -- ---- behind the first number
 
-abbrev start : tie.After-get-if → tie.Start
+abbrev start : tie.After-number → tie.Start
 start c = c .before .before .before .before .before .before .before .before .before .before
 
-abbrev rule : tie.After-get-if → Rule
+abbrev rule : tie.After-number → Rule
 rule c = c .before .before .before .before .before .before .rule-of .result
 
-first : (c : tie.After-get-if) (x : GetResult) → c .get-if .result ≡ x → let a = start c .args in Behind (a .inner) (a .region .now) (a .at) (rule c) x
+first : (c : tie.After-number) (x : GetResult) → c .number .result ≡ x → let a = start c .args in Behind (a .inner) (a .region .now) (a .at) (rule c) x
 first c x is =
     let i = c .before .before .before in
     let e = i .before in
     scan-number _ _ _ (e .before .before .before .before .if1 .left) (e .before .before .rule-of .ensures) (e .if2 .left) (i .is-immediate .ensures)
-    (c .before .before .if3 .left) (c .get-if .result) x (rw part-from at (c .get-if .ensures)) is
+    (c .before .before .if3 .left) (c .number .result) x (rw part-from at (c .number .ensures)) is
 
 -- ---- behind n
 
-abbrev read : tie.After-within → tie.After-get-if
-read w = w .before .before .before .before
+abbrev read : tie.After-known-told → tie.After-number
+read w = w .before .before .before
 
-abbrev left : tie.After-within → ℕ
-left w = w .before .before .value .given .0 .1 .0
+abbrev n : tie.After-known-told → ℕ
+n w = w .before .value .given .0 .0
 
-abbrev n : tie.After-within → ℕ
-n w = let a = start (read w) .args in getD (a .region .now) (a .at) 0 % 16 + w .before .before .value .given .0 .0
+abbrev left : tie.After-known-told → ℕ
+left w = w .before .value .given .0 .1 .0
 
-number : (w : tie.After-within) → let a = start (read w) .args in Behind (a .inner) (a .region .now) (a .at) (rule (read w)) (Ok (w .before .before .value .given .0 .0) (left w))
-number w = first (read w) _ (w .before .before .value .given .1)
+number : (w : tie.After-known-told) → let a = start (read w) .args in Behind (a .inner) (a .region .now) (a .at) (rule (read w)) (Ok (n w) (left w))
+number w = first (read w) _ (w .before .value .given .1)
 
-left-lt : (w : tie.After-within) → left w < 2 ^ 63
+left-lt : (w : tie.After-known-told) → left w < 2 ^ 63
 left-lt w = omega (arith, number w .short, start (read w) .good .0 .1)
 
-second : (c : tie.After-get-any) (x : GetResult) → c .get-any .result ≡ x → let w = c .before .before .before .before in
+second : (c : tie.After-get-any) (x : GetResult) → c .get-any .result ≡ x → let w = c .before .before .before in
     let a = start (read w) .args in
     Counted (a .inner) (a .region .now) (a .at) (getD (a .region .now) (a .at) 0 / 16) (n w) x
 second c x is =
-    let e = c .before .before .before in
-    let w = e .before in
-    scan-second (number w) (w .within .ensures) (e .if4 .left) (c .before .before .if5 .taken) (c .get-any .result) x (rw part-from at (c .get-any .ensures)) is
+    let e = c .before .before in
+    scan-second (number (e .before)) (e .if4 .taken) (c .get-any .result) x (rw part-from at (c .get-any .ensures)) is
+
+-- the place behind n, where no second number is
+abbrev alone : tie.After-has-room → tie.Else4
+alone c = c .before .before .before .before
 
 -- what has room in the bytes left
-room : (c : tie.Else8) → let w = c .before .before .before .before .before .before .before in
-    let r = rule (read w) in
-    size r (n w) + r .each * n w ≤ left w
-room c = le-of-flag _ (left (c .before .before .before .before .before .before .before)) (c .before .has-room .ensures) (not-false _ (c .if8 .left))
+room : (c : tie.Else7) → let w = alone (c .before) .before in let r = rule (read w) in size r (n w) + r .each * n w ≤ left w
+room c = le-of-flag _ (left (alone (c .before) .before)) (c .before .has-room .ensures) (not-false _ (c .if7 .left))
 
 pub scan-spec : {M : Type 1} → statement M
 scan-spec =
@@ -76,47 +77,35 @@ scan-spec =
     (λ c. search needs)
     (λ c. search needs)
     (λ c. search needs)
-    (λ c κs. search needs)
+    (λ c κs. let r = ruled-row _ (c .before .before .before .before .before .rule-of .ensures) in (omega (arith, r .lows), omega arith))
     (λ c. search needs)
-    (λ c. search needs)
-    (λ c κs. search needs)
-    (λ c. scan-over (number (c .before)) (c .before .within .ensures) (c .if4 .taken))
-    (λ c. search needs)
-    (λ c. omega (arith, number (c .before) .most, n-most (number (c .before)) (c .before .within .ensures) (c .if4 .left)))
-    (λ c. omega (arith, number (c .before) .short))
+    (λ c. omega (arith, number c .short))
     (λ c. search needs)
     (λ c. search needs)
     (λ c. search needs)
     (λ c κs. search needs)
     (λ c. search needs)
     -- the second number
-    (λ c. let q = second (c .before .before .before .before) _ (c .before .before .value2 .given .1) in rw (← q .whole, lt-leb _ _ (c .if6 .taken)))
+    (λ c. let q = second (c .before .before .before .before) _ (c .before .before .value2 .given .1) in rw (← q .whole, lt-leb _ _ (c .if5 .taken)))
     (λ c. let q = second (c .before .before .before .before) _ (c .before .before .value2 .given .1) in omega (arith, q .short))
     (λ c. search needs)
-    (λ c. let q = second (c .before .before .before .before) _ (c .before .before .value2 .given .1) in rw (← q .whole, le-leb _ _ (c .if6 .left)))
+    (λ c. let q = second (c .before .before .before .before) _ (c .before .before .value2 .given .1) in rw (← q .whole, le-leb _ _ (c .if5 .left)))
     (λ c. second (c .before .before .before) _ (c .before .error .given .1))
     -- none
-    (λ c. let e = c .before .before .before in
-    let w = e .before .before in
-    scan-bare (number w) (w .within .ensures) (e .before .if4 .left) (e .if5 .left) (c .if7 .taken))
-    (λ c κs. let e = c .before .before .before .before in
-    let w = e .before in
-    (number w .row, n-most (number w) (w .within .ensures) (e .if4 .left), left-lt w))
-    (λ c. let e = c .before .before .before .before .before in
-    let w = e .before .before in
-    scan-full (number w) (w .within .ensures) (e .before .if4 .left) (e .if5 .left) (c .before .has-room .ensures) (c .if8 .taken))
+    (λ c. let e = c .before .before .before in scan-bare (number (e .before)) (e .if4 .left) (c .if6 .taken))
+    (λ c κs. let w = c .before .before .before .before in (number w .row, number w .most, left-lt w))
+    (λ c. let e = alone (c .before) in scan-full (number (e .before)) (e .if4 .left) (c .before .has-room .ensures) (c .if7 .taken))
     (λ c. omega (arith, room (c .before)))
     (λ c. omega (arith, room (c .before .before)))
     (λ c. omega (arith, room (c .before .before .before)))
     (λ c. let h = c .before .before .before .before in
-    let w = h .before .before .before .before .before .before .before in
+    let w = alone (h .before) .before in
     omega (arith, room h, left-lt w, number w .row .single))
     (λ c. let h = c .before .before .before .before in
-    let w = h .before .before .before .before .before .before .before in
+    let w = alone (h .before) .before in
     omega (arith, room h, number w .short, start (read w) .good .0 .1))
     (λ c. search needs)
     (λ c. let h = c .before .before .before .before in
-    let e = h .before .before .before .before .before in
-    let w = e .before .before in
-    scan-sized (number w) (w .within .ensures) (e .before .if4 .left) (e .if5 .left) (h .before .has-room .ensures) (h .if8 .left))
+    let e = alone (h .before) in
+    scan-sized (number (e .before)) (e .if4 .left) (h .before .has-room .ensures) (h .if7 .left))
     (λ c. first (c .before .before .before) _ (c .before .error2 .given .1)))
