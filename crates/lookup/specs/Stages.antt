@@ -1,9 +1,10 @@
 -- What this crate's private functions make. No public contract cites this file.
 --
---   pairOf s key q    one pair of a map, from q on: where the next one starts, or the answer; its stages: the key is looked at
---                     (`pairOf`), followed (`followOfKey`), held against `key` (`keyOf`), the value is looked at (`valueOf`)
---   toldPair r        a `PairResult` as such a turn
---   orStop a f        what f makes of a's value; a stop with a's error where it is one
+--   pairOf s key q      one pair of a map, from q on: where the next one starts, or the answer; the key is looked at and followed
+--   keyOf s key q h     the rest of it, where the key, followed, has the head h and the value starts at q: the key is held against
+--                       `key`; where it is another, the value is looked at
+--   toldPair r          a `PairResult` as such a turn
+--   orStop a f          what f makes of a's value; a stop with a's error where it is one
 use Prim.Native.Nat.{ℕ}
 use mathlib.Core.Bool.{true}
 use mathlib.Core.List.{List}
@@ -25,17 +26,11 @@ unfoldable pub orStop : {A S R : Type 0} → Answer Fault A → (A → Turn S (A
 orStop (ok a) f = f a
 orStop (error e) f = stop (error e)
 
-abbrev pub valueOf : List ℕ → ℕ → Turn ℕ (Answer Fault ℕ)
-valueOf s end = orStop (peek true s end) (λ v. go (v .end))
-
 abbrev pub keyOf : List ℕ → List ℕ → ℕ → Head → Turn ℕ (Answer Fault ℕ)
-keyOf s key end h = pick (keyed s key h) (stop (startsIn (length s) end)) (valueOf s end)
-
-abbrev pub followOfKey : List ℕ → List ℕ → ℕ → ℕ → Turn ℕ (Answer Fault ℕ)
-followOfKey s key q end = orStop (trail s (spot q 0)) (λ m. keyOf s key end (m .head))
+keyOf s key q h = pick (keyed s key h) (stop (startsIn (length s) q)) (orStop (peek true s q) (λ v. go (v .end)))
 
 abbrev pub pairOf : List ℕ → List ℕ → ℕ → Turn ℕ (Answer Fault ℕ)
-pairOf s key q = orStop (peek true s q) (λ h. followOfKey s key q (h .end))
+pairOf s key q = orStop (peek true s q) (λ h. orStop (trail s (spot q 0)) (λ m. keyOf s key (h .end) (m .head)))
 
 abbrev pub toldPair : PairResult → Turn ℕ (Answer Fault ℕ)
 toldPair (Next q) = go q

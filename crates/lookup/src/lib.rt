@@ -10,7 +10,7 @@ ghost use Prim.Native.Nat.{_≤_};
 ghost use lib.ListN.{length};
 ghost use Rattle.region.specs.Told.{toldOffset};
 ghost use Rattle.lookup.specs.Lookup.{same, keyed, pairs, lookupOn, lookupOf};
-ghost use Rattle.lookup.specs.Stages.{valueOf, keyOf, followOfKey, pairOf, toldPair};
+ghost use Rattle.lookup.specs.Stages.{keyOf, pairOf, toldPair};
 
 // One pair of a map: the offset of the next one, or the answer.
 enum PairResult {
@@ -47,16 +47,6 @@ fn is_key(region: &[u8], key: &[u8], h: Head) -> bool
     false
 }
 
-// The value of a pair, which starts at q, where its key is not the one.
-fn pass_value(region: &[u8], q: usize) -> PairResult
-    ensures { λ r. ⌜ toldPair r ≡ valueOf (now (region .entry)) q ⌝ }
-{
-    match region::look(region, q, true) {
-        ScanResult::Ok(v) => PairResult::Next(v.end),
-        ScanResult::Err(e) => PairResult::Stop(OffsetResult::Err(e)),
-    }
-}
-
 // A pair whose key, followed, has the head h, and whose value starts at q.
 fn match_key(region: &[u8], key: &[u8], q: usize, h: Head) -> PairResult
     requires { ⌜ (h .first ≤ h .end) × (h .end ≤ length (now region)) ⌝ }
@@ -65,28 +55,25 @@ fn match_key(region: &[u8], key: &[u8], q: usize, h: Head) -> PairResult
     if is_key(region, key, h) {
         return PairResult::Stop(items::starts_in(region.len(), q));
     }
-    pass_value(region, q)
-}
-
-// A pair whose key starts at q and ends at `end`.
-fn follow_key(region: &[u8], key: &[u8], q: usize, end: usize) -> PairResult
-    ensures { λ r. ⌜ toldPair r ≡ followOfKey (now (region .entry)) (now (key .entry)) q end ⌝ }
-{
-    match pointers::trail(region, q) {
-        TrailResult::Ok {
-            at: _,
-            hops: _,
-            head,
-        } => match_key(region, key, end, head),
-        TrailResult::Err(e) => PairResult::Stop(OffsetResult::Err(e)),
+    match region::look(region, q, true) {
+        ScanResult::Ok(v) => PairResult::Next(v.end),
+        ScanResult::Err(e) => PairResult::Stop(OffsetResult::Err(e)),
     }
 }
 
+// A pair whose key starts at q.
 fn pair(region: &[u8], key: &[u8], q: usize) -> PairResult
     ensures { λ r. ⌜ toldPair r ≡ pairOf (now (region .entry)) (now (key .entry)) q ⌝ }
 {
     match region::look(region, q, true) {
-        ScanResult::Ok(h) => follow_key(region, key, q, h.end),
+        ScanResult::Ok(h) => match pointers::trail(region, q) {
+            TrailResult::Ok {
+                at: _,
+                hops: _,
+                head,
+            } => match_key(region, key, h.end, head),
+            TrailResult::Err(e) => PairResult::Stop(OffsetResult::Err(e)),
+        },
         ScanResult::Err(e) => PairResult::Stop(OffsetResult::Err(e)),
     }
 }
