@@ -1,5 +1,5 @@
--- The end of a value, and its items (document 01, "Questions at an offset"), of files that nobody checked. Each query begins with `inside`: EMPTY,
--- TOO_LONG, OUTSIDE.
+-- The end of a value, and its items (document 01, "Questions at an offset"), in files that nobody checked. Each query begins with `inside`:
+-- EMPTY, TOO_LONG, OUTSIDE.
 --
 --   walk s k at         the offset after k items from `at` on, each looked at
 --   skipOf file at      where the value ends; its items are looked at

@@ -57,7 +57,8 @@ module _ (file : List ℕ) (at : ℕ) where
 
     -- what is made of it in turn
     module _ {B : Type 0} (f : List ℕ → A → Answer Fault B) where
-      pub inside-then : {a : A} {r : Answer Fault B} → ok a ≡ inside file at k → r ≡ f (take (length file - 1) file) a → r ≡ inside file at (λ s. bind (k s) (f s))
+      pub inside-then : {a : A} {r : Answer Fault B} → ok a ≡ inside file at k → r ≡ f (take (length file - 1) file) a
+          → r ≡ inside file at (λ s. bind (k s) (f s))
       unfolding inside
       inside-then {a} {r} e q =
           bind-ok-by _ _ e (λ n g o. bind-ok _ g (bind-ok _ o (subst (λ n. r ≡ f (take n file) a) (sym (gate-length (length file) at n g)) q)))

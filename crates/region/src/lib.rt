@@ -1,4 +1,5 @@
-// What every query begins with: the region of a file that nobody checked, and the token at an offset of it (document 01, "Questions at an offset").
+// What every query begins with: the region of a file that nobody checked, and the token at an offset of it (document 01, "Questions at an
+// offset").
 use error::Error;
 use error::ErrorKind;
 use scan::Head;
