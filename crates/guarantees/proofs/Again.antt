@@ -21,16 +21,15 @@ use Rattle.prelude.proofs.Tests.{pick-elim, split, facts}
 use Rattle.float.specs.Bits.{little, value}
 use Rattle.float.proofs.Laws.{little-value, value-lt}
 use Rattle.kind.specs.Kind.{rule, size}
-use Rattle.kind.proofs.Laws.{most-fits}
+use Rattle.kind.proofs.Laws.{most-fits, used-lt}
 use Rattle.token.specs.Token.{Token, emit, Allowed}
 use Rattle.values.specs.Values.{Value, tokens, bytes, Aimed, Back, WellFormed}
 use Rattle.writer.specs.Step.{Call, scalar, float32, float64, text, bytes as byteString}
 use Rattle.writer.specs.declared.Scalar.the-variants.{False, True, Null}
 use Rattle.writer.specs.Given.{Given}
-use Rattle.reader.specs.declared.Value.the-variants.{False as TellsFalse, True as TellsTrue, Null as TellsNull, Float32, Float64}
-use Rattle.reader.specs.Read.{readOf}
-use Rattle.reader.specs.Query.{bodyBytes}
-use Rattle.reader.proofs.Laws.{used-lt}
+use Rattle.read.specs.Read.{readOf}
+use Rattle.read.specs.declared.Value.the-variants.{False as TellsFalse, True as TellsTrue, Null as TellsNull, Float32, Float64}
+use Rattle.body.specs.Body.{bodyBytes}
 use Rattle.guarantees.specs.Tells.{tells, tellOf}
 use Rattle.guarantees.specs.Places.{Stands}
 use Rattle.guarantees.specs.Model.{Part, part, Plain, plain, formOf, formsOf, valueAt, valuesAt, adds, lineOf}

@@ -15,12 +15,12 @@ use Rattle.prelude.proofs.Tests.{split}
 use Rattle.error.specs.Error.{LIMIT}
 use Rattle.utf8.proofs.Laws.{isText-text}
 use Rattle.kind.specs.Kind.{rule, immediate}
+use Rattle.kind.proofs.Laws.{used-lt}
 use Rattle.token.specs.Token.{emit, Allowed}
 use Rattle.values.specs.Values.{tokens, bytes, region, starts, Each, Sound, Item, Formed, Reaches, Aimed, Back, Values}
 use Rattle.values.proofs.Members.{each-imp}
 use Rattle.writer.specs.Step.{Call}
 use Rattle.writer.specs.Given.{Given}
-use Rattle.reader.proofs.Laws.{used-lt}
 use Rattle.guarantees.specs.Model.{Part, lineOf, Plain, formOf, formsOf, valueAt, valuesAt, Model, model, blank, owes, Line, adds, ends}
 use Rattle.guarantees.specs.History.{notes}
 use Rattle.guarantees.specs.ReadsBack.{endOf}

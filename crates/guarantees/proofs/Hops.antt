@@ -18,8 +18,8 @@ use Rattle.token.specs.Token.{Token}
 use Rattle.scan.proofs.Places.{headAt}
 use Rattle.values.specs.Values.{Value, region, starts, WellFormed}
 use Rattle.values.proofs.Laws.{value-at, start-of, length-starts, starts-append}
-use Rattle.reader.specs.Query.{followIn, followOf}
-use Rattle.reader.proofs.Laws.{trail-end}
+use Rattle.pointers.specs.Pointers.{followIn, followOf}
+use Rattle.pointers.proofs.Laws.{trail-end}
 use Rattle.guarantees.specs.Places.{Stands, Comes}
 use Rattle.guarantees.proofs.Pointers.{further, follow-pointer}
 use Rattle.guarantees.proofs.Tells.{inside-region, within, looked, aims, head-stands}

@@ -16,6 +16,8 @@ pub mod Accepted
 pub mod Full
 -- what a refusal of check says
 pub mod Refused
+-- what the queries promise, of every file
+pub mod Queries
 -- a token in a region
 pub mod Tokens
 -- a pointer leads where its target leads

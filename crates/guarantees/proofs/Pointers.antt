@@ -12,9 +12,11 @@ use native.Mathlib.Omega.{arith}
 use Rattle.prelude.specs.Answer.{Answer, ok, error, bind}
 use Rattle.error.specs.Error.{Fault}
 use Rattle.scan.specs.declared.Head.{Head}
-use Rattle.reader.specs.Region.{peek}
-use Rattle.reader.specs.Query.{Met, met, spot, trail, followIn, bodyAt, bodyIn}
-use Rattle.reader.proofs.Laws.{pointer-lt, trail-pointer, trail-end, trail-error}
+use Rattle.region.specs.Region.{peek}
+use Rattle.region.proofs.Laws.{pointer-lt}
+use Rattle.pointers.specs.Pointers.{Met, met, spot, trail, followIn}
+use Rattle.pointers.proofs.Laws.{trail-pointer, trail-end, trail-error}
+use Rattle.body.specs.Body.{bodyAt, bodyIn}
 
 -- one hop more
 abbrev more : Answer Fault Met → Answer Fault Met

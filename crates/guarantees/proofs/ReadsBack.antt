@@ -16,12 +16,13 @@ use Rattle.prelude.specs.Answer.{ok, error}
 use Rattle.prelude.proofs.Tests.{split}
 use Rattle.error.specs.Error.{fault, NO_ITEM, WRONG_KIND}
 use Rattle.kind.specs.Kind.{rule, immediate}
+use Rattle.kind.proofs.Laws.{used-lt}
 use Rattle.token.specs.Token.{Token, emit}
 use Rattle.values.specs.Values.{tokens, bytes, starts, Each, WellFormed}
-use Rattle.reader.specs.Read.{readOf}
-use Rattle.reader.specs.Query.{itemOf, bodyOf, bodyBytes}
-use Rattle.reader.specs.declared.Value.the-variants.{Reference, Pointer}
-use Rattle.reader.proofs.Laws.{used-lt}
+use Rattle.read.specs.Read.{readOf}
+use Rattle.read.specs.declared.Value.the-variants.{Reference, Pointer}
+use Rattle.items.specs.Items.{itemOf}
+use Rattle.body.specs.Body.{bodyOf, bodyBytes}
 use Rattle.writer.specs.Step.{Call, close}
 use Rattle.writer.specs.Given.{Given}
 use Rattle.checker.specs.Check.{checked, filled, checkOf}

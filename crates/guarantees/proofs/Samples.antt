@@ -10,9 +10,9 @@ use Rattle.kind.specs.Kind.{rule}
 use Rattle.token.specs.Scan.{getIf, number, body, scanKind, scan}
 use Rattle.scan.specs.Told.{seen, scanAt}
 use Rattle.utf8.specs.Text.{lead, next, textFrom}
-use Rattle.reader.specs.Region.{gate, inside, peek, walk}
-use Rattle.reader.specs.Read.{shown, readIn}
-use Rattle.reader.specs.Query.{startsIn, itemOn, itemIn}
+use Rattle.region.specs.Region.{gate, inside, peek}
+use Rattle.read.specs.Read.{shown, readIn}
+use Rattle.items.specs.Items.{walk, startsIn, itemOn, itemIn}
 use Rattle.checker.specs.Check as check
 use Rattle.depths.specs.Depths as deep
 use Rattle.guarantees.specs.Samples.{Query, Reply, ask, samples}

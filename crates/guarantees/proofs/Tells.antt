@@ -26,10 +26,12 @@ use Rattle.scan.proofs.Places.{headAt}
 use Rattle.values.specs.Values.{Value, tokens, bytes, region, starts, Each, Item, Formed, Reaches, Aimed, Back, WellFormed}
 use Rattle.values.proofs.Members.{each-append}
 use Rattle.values.proofs.Laws.{emit-pos, bytes-append, region-at, back-append, fits-head, fits-item, immediate-counts}
-use Rattle.reader.specs.Region.{gate, inside, peek, walk}
-use Rattle.reader.specs.Read.{shown, readIn, readOf}
-use Rattle.reader.specs.Query.{skipIn, skipOf, startsIn, itemOn, itemIn, itemOf, bodyAt, bodyIn, bodyOf, bodyPart, bodyBytes}
-use Rattle.reader.proofs.Laws.{inside-ok, trail-end}
+use Rattle.region.specs.Region.{gate, inside, peek}
+use Rattle.region.proofs.Laws.{inside-ok}
+use Rattle.read.specs.Read.{shown, readIn, readOf}
+use Rattle.items.specs.Items.{walk, skipIn, skipOf, startsIn, itemOn, itemIn, itemOf}
+use Rattle.pointers.proofs.Laws.{trail-end}
+use Rattle.body.specs.Body.{bodyAt, bodyIn, bodyOf, bodyPart, bodyBytes}
 use Rattle.guarantees.specs.Tells.{behind, tellOf}
 use Rattle.guarantees.specs.Places.{Stands}
 use Rattle.guarantees.proofs.Tokens.{drop-body, body-len, shown-tells, peek-emit, walk-emit}

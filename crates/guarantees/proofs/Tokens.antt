@@ -24,10 +24,11 @@ use Rattle.scan.specs.declared.Head.{Head}
 use Rattle.scan.proofs.Places.{headAt, scanAt-emit}
 use Rattle.values.specs.Values.{bytes, Each, Item, Aimed}
 use Rattle.values.proofs.Laws.{fits-item}
-use Rattle.reader.specs.Region.{below, peek, walk}
-use Rattle.reader.specs.Read.{float, rows, shown}
-use Rattle.reader.specs.declared.Value.{Value}
-use Rattle.reader.specs.declared.Value.the-variants.{Null, Float32, Float64}
+use Rattle.region.specs.Region.{below, peek}
+use Rattle.read.specs.Read.{float, rows, shown}
+use Rattle.read.specs.declared.Value.{Value}
+use Rattle.read.specs.declared.Value.the-variants.{Null, Float32, Float64}
+use Rattle.items.specs.Items.{walk}
 use Rattle.guarantees.specs.Tells.{behind, tells, tellOf}
 
 -- ---- the body

@@ -9,7 +9,7 @@ use lib.ListN.{length, getD}
 use Rattle.prelude.specs.Answer.{ok}
 use Rattle.token.specs.Token.{Token}
 use Rattle.values.specs.Values.{Value, tokens, bytes, region, starts}
-use Rattle.reader.specs.Query.{followOf}
+use Rattle.pointers.specs.Pointers.{followOf}
 
 pub record Stands (vs : List Value) (j q : ℕ) (t : Token) : Type 0 where
   pub before : List Value

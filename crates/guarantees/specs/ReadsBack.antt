@@ -22,10 +22,11 @@ use Rattle.prelude.specs.Answer.{ok, error}
 use Rattle.error.specs.Error.{fault, NO_ITEM, WRONG_KIND}
 use Rattle.kind.specs.Kind.{rule, immediate}
 use Rattle.values.specs.Values.{tokens, bytes, region, starts, WellFormed}
-use Rattle.reader.specs.Read.{readOf}
-use Rattle.reader.specs.Query.{skipOf, itemOf, bodyOf, bodyBytes}
-use Rattle.reader.specs.declared.Value.{Value}
-use Rattle.reader.specs.declared.Value.the-variants.{Reference, Pointer}
+use Rattle.read.specs.Read.{readOf}
+use Rattle.read.specs.declared.Value.{Value}
+use Rattle.read.specs.declared.Value.the-variants.{Reference, Pointer}
+use Rattle.items.specs.Items.{skipOf, itemOf}
+use Rattle.body.specs.Body.{bodyOf, bodyBytes}
 use Rattle.checker.specs.Check.{checked, filled, checkOf}
 use Rattle.guarantees.specs.Tells.{behind, tellOf}
 use Rattle.guarantees.specs.Model.{Part, part, Plain, plain, formOf, formsOf, valueAt, valuesAt, Model, bytesOf, startsOf, backTo}

@@ -22,8 +22,8 @@ use Rattle.token.specs.Token.{Token, emit}
 use Rattle.values.specs.Values.{Value, tokens, bytes, Each}
 use Rattle.writer.specs.Step.{Call, scalar, integer, float32, float64, text, bytes as byteString, variant, reference, pointer, openArray, openMap, openTag, openVariant1, openVariantN, close, Verdict}
 use Rattle.writer.specs.declared.Scalar.the-variants.{False, True, Null}
-use Rattle.reader.specs.declared.Value.{Value as Told}
-use Rattle.reader.specs.declared.Value.the-variants.{False as TellsFalse, True as TellsTrue, Null as TellsNull, Integer, Float32, Float64, Text, Bytes, Array, Map, Tag, Variant, Variant1, VariantN, Reference, Pointer}
+use Rattle.read.specs.declared.Value.{Value as Told}
+use Rattle.read.specs.declared.Value.the-variants.{False as TellsFalse, True as TellsTrue, Null as TellsNull, Integer, Float32, Float64, Text, Bytes, Array, Map, Tag, Variant, Variant1, VariantN, Reference, Pointer}
 
 abbrev pub rows : ℕ → Token → List Call
 rows q t =

@@ -9,8 +9,8 @@ use lib.ListN.{length}
 use Rattle.token.specs.Token.{token, emit}
 use Rattle.writer.specs.Step.{Call, scalar, integer, float32, float64, text, bytes, variant, reference, pointer, openArray, openMap, openTag, openVariant1, openVariantN, close}
 use Rattle.writer.specs.declared.Scalar.the-variants.{False, True, Null}
-use Rattle.reader.specs.declared.Value.{Value}
-use Rattle.reader.specs.declared.Value.the-variants as Value
+use Rattle.read.specs.declared.Value.{Value}
+use Rattle.read.specs.declared.Value.the-variants as Value
 
 abbrev pub first : ℕ → ℕ → ℕ → ℕ → ℕ
 first q k n a = q + length (emit (token k n a []))

@@ -10,10 +10,10 @@ use lib.IntN.{negsuc}
 use lib.ListN.{replicate}
 use Rattle.prelude.specs.Answer.{Answer, ok, error}
 use Rattle.error.specs.Error.{Fault, fault, EMPTY, TRUNC, OVERLONG, RANGE, NESTED, BAD_TARGET, BAD_ENTRY, NO_ITEM}
-use Rattle.reader.specs.Read.{readOf}
-use Rattle.reader.specs.Query.{itemOf}
-use Rattle.reader.specs.declared.Value.{Value}
-use Rattle.reader.specs.declared.Value.the-variants.{Integer}
+use Rattle.read.specs.Read.{readOf}
+use Rattle.read.specs.declared.Value.{Value}
+use Rattle.read.specs.declared.Value.the-variants.{Integer}
+use Rattle.items.specs.Items.{itemOf}
 use Rattle.checker.specs.Check.{Checked, checked, checkOf}
 use Rattle.depths.specs.Depths.{depthsOf}
 

@@ -11,8 +11,8 @@ use lib.ListN.{length, getD}
 use Rattle.prelude.specs.Pick.{pick}
 use Rattle.float.specs.Bits.{value}
 use Rattle.token.specs.Token.{Token, emit}
-use Rattle.reader.specs.declared.Value.{Value}
-use Rattle.reader.specs.declared.Value.the-variants.{False, True, Null, Integer, Float32, Float64, Text, Bytes, Array, Map, Tag, Variant, Variant1, VariantN, Reference, Pointer}
+use Rattle.read.specs.declared.Value.{Value}
+use Rattle.read.specs.declared.Value.the-variants.{False, True, Null, Integer, Float32, Float64, Text, Bytes, Array, Map, Tag, Variant, Variant1, VariantN, Reference, Pointer}
 
 abbrev pub behind : ℕ → Token → ℕ
 behind q t = q + length (emit t)

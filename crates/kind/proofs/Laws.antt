@@ -6,7 +6,7 @@ use native.Mathlib.Omega.{arith}
 use lib.Dec.{leb, ltb, eqb}
 use lib.ListN.{length, getD, List·getD-eq-default}
 use borrow.Author.Tests.{leb-true, ltb-true, eqb-true, not-true}
-use Rattle.prelude.proofs.Tests.{and-l, and-r, or-true}
+use Rattle.prelude.proofs.Tests.{split, and-l, and-r, or-true}
 use Rattle.prelude.proofs.Tables.{every-getD}
 use Rattle.kind.specs.Kind.{rule, table, reserved, immediate}
 use Rattle.kind.specs.declared.Rule.{Rule}
@@ -14,6 +14,13 @@ use Rattle.kind.specs.declared.Rule.{Rule}
 pub rule-past : (k : ℕ) → 15 < k → rule k ≡ reserved
 unfolding rule
 rule-past k h = List·getD-eq-default table reserved {n = k} (omega arith)
+
+-- a kind in use is below 16
+pub used-past : (k : ℕ) → 0 < rule k .lows → 16 ≤ k → ⊥
+used-past k u l = omega (arith, rw (rule-past k l) at u)
+
+pub used-lt : (k : ℕ) → 0 < rule k .lows → k < 16
+used-lt k u = split k 16 (λ l. l) (λ l. absurd (used-past k u l))
 
 pub most-fits : (k : ℕ) → rule k .most < 2 ^ 64
 unfolding rule

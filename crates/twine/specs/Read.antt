@@ -15,7 +15,7 @@ use Rattle.prelude.specs.Answer.{Answer, ok, error}
 use Rattle.error.specs.Error.{Fault}
 use Rattle.float.specs.Bits.{bits}
 use Rattle.scan.specs.declared.Head.{Head}
-use Rattle.reader.specs.Region.{peekOf}
+use Rattle.region.specs.Region.{peekOf}
 use Rattle.twine.specs.declared.Row.{Row}
 use Rattle.twine.specs.Reply.{Reply, reply}
 

@@ -2,7 +2,7 @@
 use mathlib.Core.Path.{refl}
 use native.Mathlib.Omega.{arith}
 use borrow.Author.Needs.{needs}
-use Rattle.reader.proofs.Laws.{used-lt}
+use Rattle.kind.proofs.Laws.{used-lt}
 use Rattle.twine.proofs.Rows.{rowOf-group}
 use Rattle.twine.proofs.row_of.Statement.{statement}
 use Rattle.twine.proofs.row_of.Tie as tie

@@ -1,7 +1,7 @@
 -- `twine::twine_read` meets its contract.
 use mathlib.Core.Path.{ap}
 use borrow.Author.Needs.{needs}
-use Rattle.reader.proofs.Laws.{peekOf-looked}
+use Rattle.region.proofs.Laws.{peekOf-looked}
 use Rattle.twine.specs.Read.{headC}
 use Rattle.twine.proofs.twine_read.Statement.{statement}
 use Rattle.twine.proofs.twine_read.Tie as tie

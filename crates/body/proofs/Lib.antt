@@ -1,0 +1,2 @@
+-- the part that a body is
+mod Laws

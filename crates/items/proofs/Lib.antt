@@ -1,0 +1,2 @@
+-- laws of items one after the other
+pub mod Laws

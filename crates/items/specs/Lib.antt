@@ -1,0 +1,2 @@
+-- items one after the other; skip and item
+pub mod Items

@@ -1,0 +1,2 @@
+-- laws of pairs, and of bytes held against each other
+mod Laws

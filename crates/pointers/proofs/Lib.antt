@@ -1,0 +1,2 @@
+-- laws of following
+pub mod Laws

@@ -1,0 +1,2 @@
+-- laws of what is shown of a head
+pub mod Laws
