@@ -2,7 +2,7 @@
 use mathlib.Core.Path.{ap, _∙_}
 use borrow.Author.Needs.{needs}
 use Rattle.checker.specs.Check.{Checked}
-use Rattle.twine.specs.Reply.{Reply, pairC, checkReply}
+use Rattle.reply.specs.Reply.{Reply, pairC, checkReply}
 use Rattle.twine.proofs.twine_check.Statement.{statement}
 use Rattle.twine.proofs.twine_check.Tie as tie
 

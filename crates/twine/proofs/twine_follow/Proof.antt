@@ -1,7 +1,7 @@
 -- `twine::twine_follow` meets its contract.
 use mathlib.Core.Path.{ap, _∙_}
 use borrow.Author.Needs.{needs}
-use Rattle.twine.specs.Reply.{pairC}
+use Rattle.reply.specs.Reply.{pairC}
 use Rattle.twine.proofs.twine_follow.Statement.{statement}
 use Rattle.twine.proofs.twine_follow.Tie as tie
 
@@ -10,8 +10,5 @@ twine-follow-spec =
     tie.close
     (tie.spec
     (λ c κs. search needs)
-    (λ c. search needs)
-    (λ c. search needs)
     (λ c κs. search needs)
-    (λ c. let t = c .before .before in ap pairC (rw (t .at .given .1) at (t .before .before .follow .ensures)))
-    (λ c. let t = c .before .before .before in c .tell-error .ensures ∙ ap pairC (rw (t .e .given .1) at (t .before .before .follow .ensures))))
+    (λ c. c .tell-follow .ensures ∙ ap pairC (c .before .before .follow .ensures)))

@@ -1,7 +1,7 @@
--- `twine::tell_error` meets its contract.
+-- `reply::tell_error` meets its contract.
 use borrow.Author.Needs.{needs}
-use Rattle.twine.proofs.tell_error.Statement.{statement}
-use Rattle.twine.proofs.tell_error.Tie as tie
+use Rattle.reply.proofs.tell_error.Statement.{statement}
+use Rattle.reply.proofs.tell_error.Tie as tie
 
 pub tell-error-spec : {M : Type 1} → statement M
 tell-error-spec =

@@ -1,4 +1,4 @@
--- `twine::twine_spell_error` meets its contract: the table's rows are the names, with zeros behind them.
+-- `reply::spell_error` meets its contract: the table's rows are the names, with zeros behind them.
 use mathlib.Core.Path.{refl, sym, ap}
 use mathlib.Core.List.{[], map}
 use native.Mathlib.Omega.{arith}
@@ -6,13 +6,13 @@ use lib.ListN.{List·getD-eq-default}
 use borrow.Author.Needs.{needs}
 use Rattle.prelude.proofs.Tables.{getD-coded}
 use Rattle.error.specs.Error.{names}
-use Rattle.twine.specs.Reply.{reply, ended, nameC}
-use Rattle.twine.proofs.twine_spell_error.Statement.{statement}
-use Rattle.twine.proofs.twine_spell_error.Tie as tie
+use Rattle.reply.specs.Reply.{reply, ended, nameC}
+use Rattle.reply.proofs.spell_error.Statement.{statement}
+use Rattle.reply.proofs.spell_error.Tie as tie
 
-pub twine-spell-error-spec : {M : Type 1} → statement M
+pub spell-error-spec : {M : Type 1} → statement M
 unfolding nameC
-twine-spell-error-spec =
+spell-error-spec =
     tie.close
     (tie.spec
     (λ c. search needs)

@@ -1,9 +1,9 @@
--- `twine::float_bits` meets its contract.
+-- `reply::float_bits` meets its contract.
 use borrow.Author.Needs.{needs}
 use borrow.Author.Tests.{eq-eqb, ne-eqb}
 use Rattle.prelude.proofs.Parts.{part-from}
-use Rattle.twine.proofs.float_bits.Statement.{statement}
-use Rattle.twine.proofs.float_bits.Tie as tie
+use Rattle.reply.proofs.float_bits.Statement.{statement}
+use Rattle.reply.proofs.float_bits.Tie as tie
 
 pub float-bits-spec : {M : Type 1} → statement M
 float-bits-spec =

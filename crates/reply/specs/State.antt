@@ -20,7 +20,7 @@ use Rattle.writer.specs.declared.Scalar.{Scalar}
 use Rattle.writer.specs.declared.Scalar.the-variants.{False, True}
 use Rattle.writer.specs.declared.WriteAnswer.{WriteAnswer}
 use Rattle.writer.specs.declared.WriteAnswer.the-variants.{Ok, Err}
-use Rattle.twine.specs.Reply.{Reply, reply}
+use Rattle.reply.specs.Reply.{Reply, reply}
 
 abbrev pub writerOf : List ℕ → Writer
 writerOf state = record {

@@ -1,10 +1,10 @@
--- `twine::tell_offset` meets its contract.
+-- `reply::tell_body` meets its contract.
 use borrow.Author.Needs.{needs}
-use Rattle.twine.proofs.tell_offset.Statement.{statement}
-use Rattle.twine.proofs.tell_offset.Tie as tie
+use Rattle.reply.proofs.tell_body.Statement.{statement}
+use Rattle.reply.proofs.tell_body.Tie as tie
 
-pub tell-offset-spec : {M : Type 1} → statement M
-tell-offset-spec =
+pub tell-body-spec : {M : Type 1} → statement M
+tell-body-spec =
     tie.close
     (tie.spec
     (λ c. search needs)

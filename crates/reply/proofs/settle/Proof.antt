@@ -1,7 +1,7 @@
--- `twine::settle` meets its contract.
+-- `reply::settle` meets its contract.
 use borrow.Author.Needs.{needs}
-use Rattle.twine.proofs.settle.Statement.{statement}
-use Rattle.twine.proofs.settle.Tie as tie
+use Rattle.reply.proofs.settle.Statement.{statement}
+use Rattle.reply.proofs.settle.Tie as tie
 
 pub settle-spec : {M : Type 1} → statement M
 settle-spec =

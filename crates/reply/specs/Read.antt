@@ -16,8 +16,8 @@ use Rattle.error.specs.Error.{Fault}
 use Rattle.float.specs.Bits.{bits}
 use Rattle.scan.specs.declared.Head.{Head}
 use Rattle.region.specs.Region.{peekOf}
-use Rattle.twine.specs.declared.Row.{Row}
-use Rattle.twine.specs.Reply.{Reply, reply}
+use Rattle.reply.specs.declared.Row.{Row}
+use Rattle.reply.specs.Reply.{Reply, reply}
 
 abbrev pub floatBits : List ℕ → Head → ℕ
 floatBits file h = pick (eqb (h .n) 0) (bits 4 (drop (h .first) file)) (bits 8 (drop (h .first) file))

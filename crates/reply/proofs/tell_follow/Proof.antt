@@ -1,10 +1,10 @@
--- `twine::tell_entry` meets its contract.
+-- `reply::tell_follow` meets its contract.
 use borrow.Author.Needs.{needs}
-use Rattle.twine.proofs.tell_entry.Statement.{statement}
-use Rattle.twine.proofs.tell_entry.Tie as tie
+use Rattle.reply.proofs.tell_follow.Statement.{statement}
+use Rattle.reply.proofs.tell_follow.Tie as tie
 
-pub tell-entry-spec : {M : Type 1} → statement M
-tell-entry-spec =
+pub tell-follow-spec : {M : Type 1} → statement M
+tell-follow-spec =
     tie.close
     (tie.spec
     (λ c. search needs)

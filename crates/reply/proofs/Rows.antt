@@ -6,8 +6,8 @@ use native.Mathlib.Omega.{arith}
 use lib.ListN.{take, drop, getD, replicate, getD-replicate}
 use lib.Seq.{getD-take, getD-drop}
 use Rattle.scan.specs.declared.Head.{Head}
-use Rattle.twine.specs.declared.Row.{Row}
-use Rattle.twine.specs.Read.{row, rows, rowOf}
+use Rattle.reply.specs.declared.Row.{Row}
+use Rattle.reply.specs.Read.{row, rows, rowOf}
 
 getD-group : {A : Type 0} (xs : List A) (k lo m : ℕ) (d v : A) → lo ≤ k → k < lo + m → take m (drop lo xs) ≡ replicate m v → getD xs k d ≡ v
 getD-group xs k lo m d v l u e =

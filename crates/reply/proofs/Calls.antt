@@ -10,8 +10,8 @@ use Rattle.writer.specs.declared.WriteAnswer.{WriteAnswer}
 use Rattle.writer.specs.declared.WriteAnswer.the-variants.{Ok, Err}
 use Rattle.writer.specs.declared.WriteResult.{WriteResult}
 use Rattle.guarantees.proofs.Calls.{refused-same}
-use Rattle.twine.specs.Reply.{Reply, reply}
-use Rattle.twine.specs.State.{writerOf, called, stepC, settleC}
+use Rattle.reply.specs.Reply.{Reply, reply}
+use Rattle.reply.specs.State.{writerOf, called, stepC, settleC}
 
 module _ (c : Call) (state out table : List ℕ) (n : ℕ) (state′ out′ table′ : List ℕ) where
   by-answer : (a : WriteAnswer) (v : Writer) → result (told a) v out′ table′ ≡ step c (writerOf state) out table

@@ -1,13 +1,13 @@
--- `twine::twine_read` meets its contract.
+-- `reply::read` meets its contract.
 use mathlib.Core.Path.{ap}
 use borrow.Author.Needs.{needs}
 use Rattle.region.proofs.Laws.{peekOf-looked}
-use Rattle.twine.specs.Read.{headC}
-use Rattle.twine.proofs.twine_read.Statement.{statement}
-use Rattle.twine.proofs.twine_read.Tie as tie
+use Rattle.reply.specs.Read.{headC}
+use Rattle.reply.proofs.read.Statement.{statement}
+use Rattle.reply.proofs.read.Tie as tie
 
-pub twine-read-spec : {M : Type 1} → statement M
-twine-read-spec =
+pub read-spec : {M : Type 1} → statement M
+read-spec =
     tie.close
     (tie.spec
     (λ c κs. search needs)

@@ -1,11 +1,11 @@
--- `twine::row_of` meets its contract: groups of kinds whose rows are the same.
+-- `reply::row_of` meets its contract: groups of kinds whose rows are the same.
 use mathlib.Core.Path.{refl}
 use native.Mathlib.Omega.{arith}
 use borrow.Author.Needs.{needs}
 use Rattle.kind.proofs.Laws.{used-lt}
-use Rattle.twine.proofs.Rows.{rowOf-group}
-use Rattle.twine.proofs.row_of.Statement.{statement}
-use Rattle.twine.proofs.row_of.Tie as tie
+use Rattle.reply.proofs.Rows.{rowOf-group}
+use Rattle.reply.proofs.row_of.Statement.{statement}
+use Rattle.reply.proofs.row_of.Tie as tie
 
 abbrev start : tie.Else7 → tie.Start
 start c = c .before .before .before .before .before .before .before .before .before
