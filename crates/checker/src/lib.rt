@@ -187,7 +187,7 @@ fn entry_at(starts: &[u32], p: usize, d: u8) -> CheckResult
     let delta = d as usize;
     if delta < p {
         let entry = p - delta - 1;
-        // by no block: the entry is near the end
+        // by no block: one search a file
         if table::has(starts, &starts[..0], entry as u32) {
             return CheckResult::Ok {
                 count: starts.len(),

@@ -1,4 +1,4 @@
--- A search by quarters: where the rank r of a word may be, in a table of n words.
+-- A search by quarters: where the rank r of a word may be, in a table of n words; and words counted one by one.
 use mathlib.Core.Path.{_≡_}
 use Prim.Native.Nat.{ℕ, _+_, _-_, _*_, _/_, _≤_, _<_}
 use mathlib.Core.List.{List}
@@ -18,9 +18,6 @@ module _ (x : ℕ) (t : List ℕ) (i : ℕ) (up : Rising t) where
 
   pub not-past : x ≤ getD t i 0 → _≡_ {A = ℕ} 0 (pick (ltb i (rank x t)) 1 0)
   not-past g = rw (le-ltb i (rank x t) (rank-until x t up i g))
-
-  pub past-le : i < length t → getD t i 0 < x → i ≤ rank x t
-  past-le h l = omega (arith, rank-after x t up i h l)
 
 -- the rank is one of lo to lo + size
 pub record Between (r n lo size : ℕ) : Type 0 where
@@ -47,13 +44,8 @@ module _ (r n lo size : ℕ) (b : Between r n lo size) where
       (λ q. rw (ei, ej, ek, lt-ltb _ _ p, le-ltb _ _ q, le-ltb (lo + 3 * (size / 4)) r (omega arith)) (record { low = omega arith; high = omega arith; fits = omega arith })))
       (λ p. rw (ei, ej, ek, le-ltb _ _ p, le-ltb (lo + 2 * (size / 4)) r (omega arith), le-ltb (lo + 3 * (size / 4)) r (omega arith)) (record { low = omega arith; high = omega arith; fits = omega arith }))
 
-  -- by the first word
-  pub shortened : 0 < size → (i : ℕ) → i ≡ pick (ltb lo r) 1 0 → Between r n (lo + i) (size - 1)
-  shortened some i e =
-      let low = b .low in let high = b .high in let fits = b .fits in
-      split lo r
-      (λ p. rw (e, lt-ltb _ _ p) (record { low = omega arith; high = omega arith; fits = omega arith }))
-      (λ p. rw (e, le-ltb _ _ p) (record { low = omega arith; high = omega arith; fits = omega arith }))
+-- ---- words counted one by one
 
-  pub at-last : size ≤ 0 → lo ≡ r
-  at-last none = omega (arith, b .low, b .high)
+-- the words before i are counted: d is the test of the word at i, and j the index after it
+pub count-on : (r k i d j : ℕ) → r + (k - i) ≡ k → d ≡ pick (ltb i k) 1 0 → j ≡ i + 1 → r + d + (k - j) ≡ k
+count-on r k i d j e t n = split i k (λ l. rw (t, lt-ltb _ _ l) (omega arith)) (λ l. rw (t, le-ltb _ _ l) (omega arith))

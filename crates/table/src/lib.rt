@@ -29,63 +29,90 @@ fn below(t: &[u32], i: usize, x: u32) -> usize
     0
 }
 
-// An index at most the rank: 32 before the end where the rank is past it, since plans point mostly to values shortly before; and else how many
-// words are before x's block, where that is counted. A table of fewer than 32,768 words is searched whole: it stays in the cache, and the steps
-// are as many for every x.
+// An index at most the rank: how many words are before x's block, where that is counted, and else the begin.
 fn low(t: &[u32], blocks: &[u32], x: u32) -> usize
     requires { ⌜ (Rising (now t)) × (Counted (now blocks) (now t)) ⌝ }
     ensures { λ r. ⌜ r ≤ rank x (now (t .entry)) ⌝ }
 {
-    let n = t.len();
-    if 32 < n {
-        if t[n - 32] < x {
-            return n - 32;
-        }
-    }
-    if 32768 <= n {
-        let b = (x / 4096) as usize;
-        if b < blocks.len() {
-            return blocks[b] as usize;
-        }
+    let b = (x / 4096) as usize;
+    if b < blocks.len() {
+        return blocks[b] as usize;
     }
     0
 }
 
-// An index at least the rank: how many words are before the block after x's, as in `low`, and else the end.
+// An index at least the rank: how many words are before the block after x's, where that is counted, and else the end.
 fn high(t: &[u32], blocks: &[u32], x: u32) -> usize
     requires { ⌜ (Rising (now t)) × (Counted (now blocks) (now t)) ⌝ }
     ensures { λ r. ⌜ (rank x (now (t .entry)) ≤ r) × (r ≤ length (now (t .entry))) ⌝ }
 {
-    let n = t.len();
-    if 32768 <= n {
-        let b = (x / 4096) as usize + 1;
-        if b < blocks.len() {
-            return blocks[b] as usize;
-        }
+    let b = (x / 4096) as usize + 1;
+    if b < blocks.len() {
+        return blocks[b] as usize;
     }
-    n
+    t.len()
 }
 
-// How many words of a rising table are less than x: x's index, where the table has it. `blocks` tells how many are before each block, as far as
-// these are counted. Three words at a time are looked at, and their tests added up, so that no step of the two loops waits for a guess at a
-// word's test.
-pub fn rank(t: &[u32], blocks: &[u32], x: u32) -> usize
-    requires { ⌜ (Rising (now t)) × (Counted (now blocks) (now t)) ⌝ }
-    ensures { λ r. ⌜ r ≡ rank x (now (t .entry)) ⌝ }
+// Where 16 words begin behind which the rank is not: by the blocks, and then by quarters. Three words at a time are looked at, and their tests
+// added up, so that no step waits for a guess at a word's test. The last 16 words are taken where fewer are left.
+fn narrow(t: &[u32], blocks: &[u32], x: u32) -> usize
+    requires { ⌜ (Rising (now t)) × (Counted (now blocks) (now t)) × (16 ≤ length (now t)) ⌝ }
+    ensures { λ r. ⌜ (r ≤ rank x (now (t .entry))) × (rank x (now (t .entry)) ≤ r + 16) × (r + 16 ≤ length (now (t .entry))) ⌝ }
 {
+    let last = t.len() - 16;
     // the rank is one of lo to lo + size
     let mut lo = low(t, blocks, x);
     let mut size = high(t, blocks, x) - lo;
-    while 4 <= size {
+    while 17 <= size {
         let q = size / 4;
         lo = lo + q * (below(t, lo + q, x) + below(t, lo + 2 * q, x) + below(t, lo + 3 * q, x));
         size = size - 3 * q;
     }
-    while 0 < size {
-        lo = lo + below(t, lo, x);
-        size = size - 1;
+    if last < lo {
+        return last;
     }
     lo
+}
+
+// The rank, where it is at one of 16 words or just behind them: the tests of the 16 do not wait for one another.
+fn count_16(t: &[u32], base: usize, x: u32) -> usize
+    requires { ⌜ (Rising (now t)) × (base ≤ rank x (now t)) × (rank x (now t) ≤ base + 16) × (base + 16 ≤ length (now t)) ⌝ }
+    ensures { λ r. ⌜ r ≡ rank x (now (t .entry)) ⌝ }
+{
+    let mut r = base;
+    let mut i: usize = 0;
+    while i < 16 {
+        r = r + below(t, base + i, x);
+        i += 1;
+    }
+    r
+}
+
+// The rank, by every word of a short table.
+fn count_all(t: &[u32], x: u32) -> usize
+    requires { ⌜ Rising (now t) ⌝ }
+    ensures { λ r. ⌜ r ≡ rank x (now (t .entry)) ⌝ }
+{
+    let mut r: usize = 0;
+    let mut i: usize = 0;
+    while i < t.len() {
+        r = r + below(t, i, x);
+        i += 1;
+    }
+    r
+}
+
+// How many words of a rising table are less than x: x's index, where the table has it. `blocks` tells how many are before each block, as far as
+// these are counted.
+pub fn rank(t: &[u32], blocks: &[u32], x: u32) -> usize
+    requires { ⌜ (Rising (now t)) × (Counted (now blocks) (now t)) ⌝ }
+    ensures { λ r. ⌜ r ≡ rank x (now (t .entry)) ⌝ }
+{
+    if t.len() < 16 {
+        return count_all(t, x);
+    }
+    let base = narrow(t, blocks, x);
+    count_16(t, base, x)
 }
 
 // Whether a rising table has x.

@@ -15,7 +15,6 @@ high-spec =
     (λ c. search needs)
     (λ c. search needs)
     (λ c. search needs)
-    (λ c. omega (arith, c .shared-slice-known .given (c .before .before .before .args .x / 4096 + 1)))
+    (λ c. omega (arith, c .shared-slice-known .given (c .before .before .args .x / 4096 + 1)))
     (λ c. (search (high-block, needs), search (block-fits, needs)))
-    (λ c. (rank-le _ _, search needs))
     (λ c. (rank-le _ _, search needs)))

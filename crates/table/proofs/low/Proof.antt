@@ -2,7 +2,6 @@
 use Prim.Native.Nat.{_/_}
 use native.Mathlib.Omega.{arith}
 use borrow.Author.Needs.{needs}
-use Rattle.table.proofs.Quarters.{past-le}
 use Rattle.table.proofs.Blocks.{low-block}
 use Rattle.table.proofs.low.Statement.{statement}
 use Rattle.table.proofs.low.Tie as tie
@@ -14,12 +13,6 @@ low-spec =
     (λ c. search needs)
     (λ c. search needs)
     (λ c. search needs)
-    (λ c. search needs)
-    (λ c. past-le _ _ _ (c .before .before .before .pre .0) (omega arith) (c .if2 .taken))
-    (λ c. search needs)
-    (λ c. search needs)
-    (λ c. search needs)
-    (λ c. omega (arith, c .shared-slice-known2 .given (c .before .before .before .before .args .x / 4096)))
+    (λ c. omega (arith, c .shared-slice-known .given (c .before .before .args .x / 4096)))
     (λ c. search (low-block, needs))
-    (λ c. search needs)
     (λ c. search needs))
