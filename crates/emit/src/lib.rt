@@ -1,6 +1,7 @@
 // One token written: how many bytes it takes, and its bytes put into a borrowed tail. The token is not judged: what its kind does not
 // allow is written as it stands, and need not read back; `args` counts for a kind with a second number alone.
 ghost use mathlib.Core.Path.{_≡_};
+ghost use mathlib.Core.List.{[]};
 ghost use Prim.Native.Nat.{_+_, _-_, _≤_, _<_, min};
 ghost use lib.ListN.{length};
 ghost use Rattle.prelude.specs.Bytes.{stored};
@@ -51,7 +52,7 @@ fn put_if(out: &mut [u8], at: usize, wanted: bool, n: u64) -> usize
     ensures { λ r. ⌜ PutAt (putIf wanted n) (now (out .entry)) at (now (out .exit)) r ⌝ }
 {
     if wanted {
-        return at + leb128::put(&mut out[at..], n);
+        return at + leb128::put_within(&mut out[at..], n);
     }
     at
 }
@@ -75,17 +76,25 @@ fn put_body(out: &mut [u8], at: usize, body: &[u8]) -> usize
     at + copy(&mut out[at..], body)
 }
 
-// Writes a token, which has room: the header, its number, the second number, the body.
-fn put_within(out: &mut [u8], kind: u8, n: u64, args: u64, body: &[u8]) -> usize
-    requires { ⌜ (kind < 16) × (length (emit (token kind n args (now body))) ≤ length (now out)) ⌝ }
-    ensures { λ r. ⌜ Put (emit (token kind n args (now (body .entry)))) (now (out .entry)) (now (out .exit)) r ⌝ }
+// Writes the header and its numbers, which have room, and answers how many bytes that took.
+pub fn put_head(out: &mut [u8], kind: u8, n: u64, args: u64) -> usize
+    requires { ⌜ (kind < 16) × (length (emit (token kind n args [])) ≤ length (now out)) ⌝ }
+    ensures { λ r. ⌜ Put (emit (token kind n args [])) (now (out .entry)) (now (out .exit)) r ⌝ }
 {
     let rule = kind::rule_of(kind);
     let more = excess(n);
     out[0] = kind * 16 + nibble(n);
     let number = put_if(out, 1, 15 <= n, more);
-    let second = put_if(out, number, rule.args, args);
-    put_body(out, second, body)
+    put_if(out, number, rule.args, args)
+}
+
+// Writes a token, which has room: the header, its number, the second number, the body. Answers how many bytes that took.
+pub fn put_within(out: &mut [u8], kind: u8, n: u64, args: u64, body: &[u8]) -> usize
+    requires { ⌜ (kind < 16) × (length (emit (token kind n args (now body))) ≤ length (now out)) ⌝ }
+    ensures { λ r. ⌜ Put (emit (token kind n args (now (body .entry)))) (now (out .entry)) (now (out .exit)) r ⌝ }
+{
+    let head = put_head(out, kind, n, args);
+    put_body(out, head, body)
 }
 
 // Writes a token at the front of rest and answers how many bytes that took; where it does not fit, or its kind is over 15, writes

@@ -168,7 +168,8 @@ pub fn size(n: u64) -> usize
     ((70 - u64::leading_zeros(n)) / 7) as usize
 }
 
-fn put_within(rest: &mut [u8], n: u64) -> usize
+// Writes n at the front of rest, which has room for it, and answers how many bytes that took.
+pub fn put_within(rest: &mut [u8], n: u64) -> usize
     requires { ⌜ length (put 9 n) ≤ length (now rest) ⌝ }
     ensures { λ r. ⌜ Put (put 9 n) (now (rest .entry)) (now (rest .exit)) r ⌝ }
 {

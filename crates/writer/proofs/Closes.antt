@@ -1,28 +1,30 @@
 -- The two closes, as the code makes them: by the delta byte, and by a pointer and its delta byte.
-use mathlib.Core.Path.{_≡_, ap, _∙_}
-use mathlib.Core.Bool.{Bool, true, false, not}
+use mathlib.Core.Path.{_≡_, refl, sym, ap, _∙_}
+use mathlib.Core.Bool.{Bool, true, false, not, _&&_, true≢false}
 use mathlib.Core.List.{List, []}
 use Prim.Native.Nat.{ℕ, _+_, _-_, _≤_, _<_}
 use native.Mathlib.Omega.{arith}
-use lib.Dec.{leb}
+use lib.Dec.{ltb, leb}
 use lib.ListN.{length}
 use lib.Seq.{length-sets}
-use borrow.Author.Tests.{leb-false, not-false}
+use borrow.Author.Tests.{ltb-false, leb-false, lt-leb, not-true, not-false}
 use Rattle.prelude.specs.Answer.{ok, error}
+use Rattle.prelude.proofs.Tests.{and-l, and-r}
 use Rattle.error.specs.Error.{numberOf}
 use Rattle.error.specs.declared.ErrorKind.{ErrorKind}
 use Rattle.leb128.proofs.Sizes.{length-put-le}
 use Rattle.kind.specs.Kind.{rule}
 use Rattle.token.specs.Token.{Token, token, putIf, emit}
 use Rattle.token.proofs.Laws.{length-emit}
-use Rattle.writer.specs.Step.{isListed, limit, judge, judgeDelta, Result, result, write, writeShut}
-use Rattle.writer.specs.Stages.{Fits, Shut, shutNear, shutFar}
-use Rattle.writer.specs.Told.{told}
+use Rattle.judge.specs.Refusal.{refusal}
+use Rattle.writer.specs.Step.{Verdict, opens, bad, isListed, limit, early, judge, judgeDelta, Result, result, write, writeShut, settled, put}
+use Rattle.writer.specs.Stages.{Found, Refused, Shut, shutNear, shutFar}
+use Rattle.writer.specs.Told.{told, wrote}
 use Rattle.writer.specs.declared.Writer.{Writer}
-use Rattle.writer.specs.declared.WriteAnswer.{WriteAnswer}
+use Rattle.writer.specs.declared.WriteResult.{WriteResult}
 use Rattle.writer.specs.declared.WriteAnswer.the-variants.{Ok, Err}
-use Rattle.writer.proofs.Judged.{Early, early-by, past, judge-inv, accepted-fits}
-use Rattle.writer.proofs.Writes.{told-ok}
+use Rattle.writer.proofs.Judged.{Sound, sound, Early, early-by, early-ok, past, judge-inv, behind}
+use Rattle.writer.proofs.Asked.{and-none, rung, rung-last}
 
 -- ---- by the delta byte
 
@@ -38,16 +40,50 @@ delta-inv e s out table q =
     past (not (isListed s table e)) _ _ q₁ (λ a q₂.
     past (leb (limit (length out)) (s .written)) _ _ q₂ (λ b _. record { passed = p; aim = not-false _ a; byte = leb-false _ _ b })))
 
-module _ (e d : ℕ) (s : Writer) (out table : List ℕ) (a : WriteAnswer) (j : told a ≡ judgeDelta e s out table) where
-  pub near-error : (f : ErrorKind) → a ≡ Err f → result (error (numberOf f)) s out table ≡ shutNear e d s out table
-  near-error f q = rw (← j, q)
+-- the state allows the delta byte
+abbrev may : Writer → ℕ → ℕ → Bool
+may s n m = not (bad s n m) && not (s .closed) && not (ltb 0 (s .pending)) && not (leb (limit n) (s .written))
 
-  module _ (q : a ≡ Ok) where
+module _ (g : Bool) (e : ℕ) (s : Writer) (out table : List ℕ) (h : Found g e s table) where
+  module _ (q : g && may s (length out) (length table) ≡ true) where
+    near : Near e s out table
+    near =
+        let b = not (bad s (length out) (length table)) in
+        let z = not (s .closed) in
+        let p = not (ltb 0 (s .pending)) in
+        let f = leb (limit (length out)) (s .written) in
+        let all = and-r g (may s (length out) (length table)) q in
+        let front = and-l (b && z && p) (not f) all in
+        let good = not-true _ (and-l b z (and-l (b && z) p front)) in
+        let d = sound s (length out) (length table) good in
+        record {
+          passed = record { good = good; unclosed = not-true _ (and-r b z (and-l (b && z) p front)); alike = not-true _ (and-r (b && z) p front) };
+          aim = sym (h (d .short) (d .listed)) ∙ and-l g _ q;
+          byte = leb-false _ _ (not-true f (and-r (b && z && p) (not f) all));
+        }
+
     pub near-byte : s .written < length out
-    near-byte = omega (arith, delta-inv e s out table (told-ok a j q) .byte)
+    near-byte = omega (arith, near .byte)
 
-    pub near-ok : (r : Writer) (o : List ℕ) → Shut d s out r o → result (ok tt) r o table ≡ shutNear e d s out table
-    near-ok r o h = rw (← j, q) (h .same table)
+    pub near-ok : (d : ℕ) (r : Writer) (o : List ℕ) → Shut d s out r o → result (ok tt) r o table ≡ shutNear e d s out table
+    unfolding judgeDelta
+    near-ok d r o k =
+        rw (early-ok true s (length out) (length table) (near .passed), near .aim, lt-leb _ _ (near .byte)) (k .same table)
+
+  pub near-refused : g && may s (length out) (length table) ≡ false → (d : ℕ) (w : WriteResult)
+      → Refused true false false (not g) s (length out) (length table) w → wrote w out table ≡ shutNear e d s out table
+  unfolding judgeDelta early refusal
+  near-refused q d w k = rw (reason, k .answer, k .writer)
+    where
+      reason : judgeDelta e s out table
+          ≡ error (refusal true false false (not g) (s .closed) (s .written) (s .count) (s .pending) (s .start) (length out) (length table))
+      reason =
+          rung (bad s (length out) (length table)) _ _ _ _ refl (λ e₁. let d = sound s _ _ e₁ in
+          rung (s .closed) _ _ _ _ refl (λ e₂.
+          rung (ltb 0 (s .pending)) _ _ _ _ refl (λ e₃.
+          rung (not (isListed s table e)) _ _ _ _ (ap not (sym (h (d .short) (d .listed)))) (λ e₄.
+          rung-last (leb (limit (length out)) (s .written)) _ (λ e₅.
+          true≢false (rw (not-false g e₄, e₁, e₂, e₃, e₅) at q))))))
 
 -- ---- by a pointer and its delta byte
 
@@ -64,39 +100,75 @@ pub record Far (w next n : ℕ) : Type 0 where
 
 -- what a token that is written leaves
 module _ (t : Token) (s : Writer) (out table : List ℕ) (next : Writer) (o words : List ℕ) (w : result (ok tt) next o words ≡ write t s out table) where
-  pub written-is : next .written ≡ s .written + length (emit t)
+  written-is : next .written ≡ s .written + length (emit t)
   unfolding write
   written-is = ap (λ (r : Result). r .writer .written) w
 
-  pub length-is : length o ≡ length out
+  length-is : length o ≡ length out
   unfolding write
   length-is = ap (λ (r : Result). length (r .out)) w ∙ length-sets out (s .written) (emit t)
 
-module _ (e back : ℕ) (s : Writer) (out table : List ℕ) (a : WriteAnswer) (j : told a ≡ judge true (token 15 back 0 []) e s out table) where
-  pub far-error : (f : ErrorKind) → a ≡ Err f → result (error (numberOf f)) s out table ≡ shutFar e back s out table
-  far-error f q = rw (← j, q)
+-- what a call that was judged and then written told
+settled-error : (v : Verdict) (s : Writer) (out table : List ℕ) (w x : Result) → w .answer ≡ ok tt
+    → (f : ℕ) (n : Writer) (o words : List ℕ) → result (error f) n o words ≡ settled v s out table w → result (error f) n o words ≡ settled v s out table x
+settled-error (ok u) s out table w x k f n o words e =
+    let q : error f ≡ ok tt = ap (λ (r : Result). r .answer) e ∙ k in
+    let z : _≡_ {A = ℕ} 0 1 = cc in absurd (omega arith)
+settled-error (error g) s out table w x k f n o words e = e
 
-  module _ (q : a ≡ Ok) where
-    pub far-fits : Fits (token 15 back 0 []) s out table
-    far-fits = accepted-fits true _ e s out table (judge-inv _ _ _ _ _ _ (told-ok a j q)) (omega arith)
+settled-ok : (v : Verdict) (s : Writer) (out table : List ℕ) (w : Result) (n : Writer) (o words : List ℕ)
+    → result (ok tt) n o words ≡ settled v s out table w → (v ≡ ok tt) × (result (ok tt) n o words ≡ w)
+settled-ok (ok u) s out table w n o words e = (refl, e)
+settled-ok (error g) s out table w n o words e =
+    let q = ap (λ (r : Result). r .answer) e in
+    let z : _≡_ {A = ℕ} 0 1 = cc in absurd (omega arith)
 
-    -- the pointer is written
-    module _ (next : Writer) (o words : List ℕ) (w : result (ok tt) next o words ≡ write (token 15 back 0 []) s out table) where
-      pub far-room : Far (s .written) (next .written) (length o)
+module _ (e back : ℕ) (s : Writer) (out table : List ℕ) where
+  abbrev pointer : Token
+  pointer = token 15 back 0 []
+
+  pub far-refused : (g : Bool) → 0 < s .pending → (w : WriteResult)
+      → Refused true true false (not g) s (length out) (length table) w → wrote w out table ≡ shutFar e back s out table
+  unfolding judge early refusal
+  far-refused g p w k = rw (reason, k .answer, k .writer)
+    where
+      reason : judge true pointer e s out table
+          ≡ error (refusal true true false (not g) (s .closed) (s .written) (s .count) (s .pending) (s .start) (length out) (length table))
+      reason =
+          rung (bad s (length out) (length table)) _ _ _ _ refl (λ e₁.
+          rung (s .closed) _ _ _ _ refl (λ e₂.
+          rung (ltb 0 (s .pending)) _ _ _ _ refl (λ e₃. absurd (omega (arith, ltb-false 0 (s .pending) e₃)))))
+
+  -- with no items pending a close is judged as its pointer is
+  module _ (z : s .pending ≤ 0) (r : WriteResult) (o words : List ℕ) (j : wrote r o words ≡ put pointer e s out table) where
+    alone-is : judge true pointer e s out table ≡ judge (opens pointer) pointer e s out table
+    unfolding judge early
+    alone-is = let q : s .pending ≡ 0 = omega arith in rw (q, and-none (opens pointer))
+
+    pub far-error : (f : ErrorKind) → r .answer ≡ Err f → result (error (numberOf f)) (r .writer) o words ≡ shutFar e back s out table
+    unfolding put write
+    far-error f q = rw alone-is (settled-error (judge (opens pointer) pointer e s out table) s out table (write pointer s out table) (writeShut pointer s out table) refl _ _ o words (rw q at j))
+
+    module _ (q : r .answer ≡ Ok) where
+      taken : (judge (opens pointer) pointer e s out table ≡ ok tt) × (result (ok tt) (r .writer) o words ≡ write pointer s out table)
+      unfolding put
+      taken = settled-ok (judge (opens pointer) pointer e s out table) s out table (write pointer s out table) _ o words (rw q at j)
+
+      pub far-room : Far (s .written) (r .writer .written) (length o)
       far-room =
-          let is = written-is _ _ _ _ _ _ _ w in
+          let is = written-is pointer s out table (r .writer) o words (taken .1) in
           let long = length-emit 15 back 0 [] in
           let n = length-putIf (leb 15 back) (back - 15) in
           let m = length-putIf (rule 15 .args) 0 in
           record {
             after = omega arith;
             delta = omega arith;
-            room = omega (arith, length-is _ _ _ _ _ _ _ w, far-fits .bytes);
+            room = omega (arith, length-is pointer s out table (r .writer) o words (taken .1), behind _ pointer e s out table (judge-inv _ pointer e s out table (taken .0)));
           }
 
-      pub far-ok : (d : ℕ) → d ≡ next .written - s .written - 1 → (r : Writer) (p : List ℕ) → Shut d next o r p
-          → result (ok tt) r p words ≡ shutFar e back s out table
+      pub far-ok : (d : ℕ) → d ≡ r .writer .written - s .written - 1 → (w : Writer) (p : List ℕ) → Shut d (r .writer) o w p
+          → result (ok tt) w p words ≡ shutFar e back s out table
       unfolding writeShut
-      far-ok d z r p h =
-          let is : d ≡ length (emit (token 15 back 0 [])) - 1 = omega (arith, written-is _ _ _ _ _ _ _ w) in
-          rw (← j, q, ← w, ← is) (h .same words)
+      far-ok d y w p h =
+          let is : d ≡ length (emit pointer) - 1 = omega (arith, written-is pointer s out table (r .writer) o words (taken .1)) in
+          rw (alone-is, taken .0, ← taken .1, ← is) (h .same words)

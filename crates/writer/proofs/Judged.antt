@@ -1,7 +1,7 @@
 -- What is known of a call that is not refused.
 --
 -- In order: a state that is not bad; what passed the first reasons; what a token that is written has.
-use mathlib.Core.Path.{_≡_, refl, sym}
+use mathlib.Core.Path.{_≡_, refl}
 use mathlib.Core.Bool.{Bool, true, false, not, _&&_, _||_, true≢false}
 use mathlib.Core.List.{List}
 use Prim.Native.Nat.{ℕ, _+_, _-_, _≤_, _<_}
@@ -16,10 +16,10 @@ use Rattle.error.specs.Error.{LIMIT}
 use Rattle.utf8.specs.Text.{isText}
 use Rattle.token.specs.Token.{Token, emit}
 use Rattle.writer.specs.Step.{Verdict, bad, isListed, limit, room, early, judge, startOf}
-use Rattle.writer.specs.Stages.{need, Fits}
+use Rattle.writer.specs.Stages.{need}
 use Rattle.writer.specs.declared.Writer.{Writer}
 
-or-false : {X : Type 0} (a b : Bool) → a || b ≡ false → (a ≡ false → b ≡ false → X) → X
+pub or-false : {X : Type 0} (a b : Bool) → a || b ≡ false → (a ≡ false → b ≡ false → X) → X
 or-false true b e k = absurd (true≢false e)
 or-false false b e k = k refl e
 
@@ -87,21 +87,6 @@ module _ (alone : Bool) (s : Writer) (n m : ℕ) where
   unfolding early
   early-ok p v = rw (p .good, p .unclosed, p .alike)
 
-  -- what a call of `early` told
-  pub early-passed : ok tt ≡ early alone s n m (ok tt) → Early alone s n m
-  early-passed e = early-by _ (sym e) (λ p _. p)
-
-  pub early-stopped : (f : ℕ) (v : Verdict) → error f ≡ early alone s n m (ok tt) → error f ≡ early alone s n m v
-  unfolding early
-  early-stopped f v e =
-      stopped (bad s n m) _ _ _ e (λ e₁.
-      stopped (s .closed) _ _ _ e₁ (λ e₂.
-      stopped (alone && ltb 0 (s .pending)) _ _ _ e₂ (λ e₃. let z : _≡_ {A = ℕ} 0 1 = cc in absurd (omega arith))))
-    where
-      stopped : (b : Bool) (g : ℕ) (x y : Verdict) → error f ≡ pick b (error g) x → (error f ≡ x → error f ≡ y) → error f ≡ pick b (error g) y
-      stopped true g x y e k = e
-      stopped false g x y e k = k e
-
 -- ---- a token that is written
 
 pub emit-pos : (t : Token) → 0 < length (emit t)
@@ -147,13 +132,3 @@ module _ (alone : Bool) (t : Token) (target : ℕ) (s : Writer) (out table : Lis
     start-lt =
         pick-elim (λ m. m < s .written + length (emit t)) (eqb (s .pending) 0) (λ _. omega (arith, emit-pos t))
         (λ e. omega (arith, sound s _ _ (a .passed .good) .begun (omega (arith, eqb-false (s .pending) 0 e))))
-
-    pub accepted-fits : t .kind < 16 → Fits t s out table
-    accepted-fits h =
-        record {
-          kind = h;
-          bytes = omega (arith, behind);
-          items = omega (arith, a .fits);
-          word = free-word;
-          start = omega (arith, start-lt, behind);
-        }

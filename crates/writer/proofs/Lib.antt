@@ -1,8 +1,10 @@
--- the bytes and items that a token needs
-pub mod Room
+-- the room for a token and its items
+mod Room
 -- what is known of a call that is not refused
 pub mod Judged
--- what a token that is written leaves
-pub mod Writes
+-- what becomes of a token, by what it asks for
+mod Asked
+-- what a token leaves
+mod Writes
 -- the two closes
 pub mod Closes

@@ -1,40 +1,18 @@
--- The bytes that a token needs and the items behind it, as code reckons them in 64 bits.
---
--- In order: items, counted up to LIMIT; the room, which is less, so that they are counted exactly where they matter.
+-- The room, which is less than LIMIT, so that items counted up to LIMIT are counted exactly where they matter.
 use mathlib.Core.Path.{_≡_, refl}
 use mathlib.Core.Bool.{Bool, true, false}
-use Prim.Native.Nat.{ℕ, zero, suc, _+_, _-_, _*_, _≤_, _<_, min}
+use Prim.Native.Nat.{ℕ, _+_, _≤_, _<_}
 use native.Mathlib.Omega.{arith}
-use native.Mathlib.Nat.{mul-le-mul}
 use lib.Dec.{ltb, eqb}
 use lib.ListN.{length}
 use borrow.Author.Tests.{lt-ltb, le-ltb}
 use Rattle.prelude.specs.Pick.{pick}
 use Rattle.prelude.proofs.Tests.{split, pick-cong}
 use Rattle.error.specs.Error.{LIMIT}
-use Rattle.kind.specs.Kind.{rule, pending}
-use Rattle.kind.proofs.Laws.{rule-row}
 use Rattle.token.specs.Token.{Token, emit}
 use Rattle.writer.specs.Step.{limit, room, pendingOf, due}
 use Rattle.writer.specs.Stages.{need}
 use Rattle.writer.specs.declared.Writer.{Writer}
-
--- ---- items
-
-min-mul : (e n : ℕ) → min (e * n) LIMIT ≡ min (e * min n LIMIT) LIMIT
-min-mul zero n = omega arith
-min-mul (suc e) n =
-    split n LIMIT
-    (λ h. let q : min n LIMIT ≡ n = omega arith in rw q)
-    (λ h. let q : min n LIMIT ≡ LIMIT = omega arith in rw q (omega arith))
-
-pub each-le : (k n : ℕ) → rule k .each * limit n ≤ 4 * LIMIT
-each-le k n = mul-le-mul {n₂ = 4} {m₂ = LIMIT} (omega (arith, rule-row k .unit)) (omega arith)
-
-pub items-limit : (k n args : ℕ) → limit (rule k .single + rule k .each * limit n + limit args) ≡ limit (pending (rule k) n args)
-items-limit k n args = omega (arith, min-mul (rule k .each) n)
-
--- ---- the room
 
 room-lt : (s : Writer) (n : ℕ) → room s n < LIMIT
 room-lt s n = omega arith

@@ -1,58 +1,61 @@
--- What a token that is written leaves, as the code computes it.
---
--- In order: its bytes and the state; what a call of `judge` told, and what a token then comes to.
-use mathlib.Core.Path.{_≡_, sym, _∙_}
-use mathlib.Core.Bool.{false}
+-- What a token leaves, as the code computes it: one that fits, and one that is refused.
+use mathlib.Core.Path.{_≡_, _∙_}
+use mathlib.Core.Bool.{true, false, not, _&&_}
 use mathlib.Core.List.{List}
-use Prim.Native.Nat.{ℕ, _+_, _-_}
+use Prim.Native.Nat.{ℕ, _+_, _-_, _≤_, _<_, _^_}
 use native.Mathlib.Omega.{arith}
-use lib.Dec.{eqb}
-use lib.ListN.{length, take, drop, set}
-use borrow.Author.Tests.{lt-ltb}
+use lib.Dec.{eqb, leb}
+use lib.ListN.{length, take, drop}
 use borrow.Rule.Slice.PartMut.{putMid}
-use Rattle.prelude.specs.Pick.{pick}
-use Rattle.prelude.specs.Answer.{ok, error}
-use Rattle.prelude.specs.Bytes.{stored}
-use Rattle.prelude.proofs.Parts.{PutAt, putAt-part, put-store, length-part}
-use Rattle.error.specs.Error.{numberOf}
-use Rattle.error.specs.declared.ErrorKind.{ErrorKind}
-use Rattle.token.specs.Token.{Token, emit, emitInto}
-use Rattle.writer.specs.Step.{limit, opens, pendingOf, due, Verdict, judge, startOf, Result, result, write, put}
-use Rattle.writer.specs.Told.{told}
-use Rattle.writer.specs.Stages.{Fits}
+use Rattle.prelude.specs.Answer.{ok}
+use Rattle.prelude.proofs.Parts.{Put, putAt-part, length-part}
+use Rattle.token.specs.Token.{Token, emit}
+use Rattle.writer.specs.Step.{opens, startOf, result, write, put}
+use Rattle.writer.specs.Told.{wrote}
+use Rattle.writer.specs.Stages.{Asked, Advanced, Refused}
 use Rattle.writer.specs.declared.Writer.{Writer}
-use Rattle.writer.specs.declared.WriteAnswer.{WriteAnswer}
-use Rattle.writer.specs.declared.WriteAnswer.the-variants.{Ok, Err}
+use Rattle.writer.specs.declared.Ask.{Ask}
+use Rattle.writer.specs.declared.WriteResult.{WriteResult}
 use Rattle.writer.proofs.Room.{left-is}
+use Rattle.writer.proofs.Judged.{Accepted, judge-ok, free-word, behind, start-lt}
+use Rattle.writer.proofs.Asked.{asked-accepted, asked-refused}
 
-module _ (t : Token) (s : Writer) (out table : List ℕ) (f : Fits t s out table) where
-  -- the bytes, put into the rest of the output
-  pub put-rest : (e : List ℕ) (r : ℕ) → stored r e ≡ emitInto t (take (length out - s .written) (drop (s .written) out))
-      → PutAt (emit t) out (s .written) (putMid (s .written) (length out - s .written) out e) (s .written + r)
-  unfolding emitInto
-  put-rest e r q =
-      putAt-part _ out e (s .written) r (omega (arith, f .bytes))
-      (put-store _ (take (length out - s .written) (drop (s .written) out)) e r (rw length-part (omega (arith, f .bytes)))
-      (rw (lt-ltb _ _ (f .kind)) at q))
+module _ (t : Token) (x : ℕ) (s : Writer) (out table : List ℕ) (r : Ask) (a : Asked t x s out table r) where
+  module _ (e : r .fits ≡ true) where
+    accepted : Accepted (opens t) t x s out table
+    accepted = asked-accepted t x s out table r a e
 
-  pub write-is : (o : List ℕ) (w left start count : ℕ) (words : List ℕ) → PutAt (emit t) out (s .written) o w
-      → left ≡ due (s .pending) (limit (pendingOf t)) → start ≡ startOf s
-      → count ≡ pick (eqb left 0) (s .count + 1) (s .count) → words ≡ pick (eqb left 0) (set table (s .count) start) table
-      → result (ok tt) (record { written = w; count = count; pending = left; start = start; closed = false }) o words ≡ write t s out table
-  unfolding write
-  write-is o w left start count words put l b c h =
-      rw (put .after, put .bytes, c, h, l ∙ left-is s t (length out) (f .items), b)
+    pub inside : s .written ≤ length out
+    inside = omega (arith, behind (opens t) t x s out table accepted)
 
--- ---- what a call of `judge` told
+    pub fits-rest : length (emit t) ≤ length (take (length out - s .written) (drop (s .written) out))
+    fits-rest = rw length-part (omega (arith, behind (opens t) t x s out table accepted))
 
-pub told-ok : {v : Verdict} (a : WriteAnswer) → told a ≡ v → a ≡ Ok → v ≡ ok tt
-told-ok a e q = sym (rw q at e)
+    -- what `advance` asks for
+    pub may-advance : (startOf s < 2 ^ 32) × (s .count < length table) × (s .written + r .size < 2 ^ 64)
+    may-advance =
+        let b = behind (opens t) t x s out table accepted in (
+          omega (arith, b, start-lt (opens t) t x s out table accepted),
+          free-word (opens t) t x s out table accepted,
+          omega (arith, b, a .size),
+        )
 
-module _ (t : Token) (target : ℕ) (s : Writer) (out table : List ℕ) (a : WriteAnswer) (j : told a ≡ judge (opens t) t target s out table) where
-  pub put-error : (f : ErrorKind) → a ≡ Err f → result (error (numberOf f)) s out table ≡ put t target s out table
+    pub put-ok : (o : List ℕ) (n : ℕ) → Put (emit t) (take (length out - s .written) (drop (s .written) out)) o n
+        → (next : Writer) (words : List ℕ) → Advanced r s table next words
+        → result (ok tt) next (putMid (s .written) (length out - s .written) out o) words ≡ put t x s out table
+    unfolding put write
+    put-ok o n p next words d =
+        rw (
+          judge-ok (opens t) t x s out table accepted,
+          d .state,
+          d .listed,
+          putAt-part (emit t) out o (s .written) n inside p .bytes,
+          a .size,
+          a .left ∙ left-is s t (length out) (omega (arith, accepted .fits)),
+        )
+
+  pub put-refused : r .fits ≡ false → (w : WriteResult)
+      → Refused (opens t) true (eqb (t .kind) 4 && not (r .good)) (leb 14 (t .kind) && not (r .good)) s (length out) (length table) w
+      → wrote w out table ≡ put t x s out table
   unfolding put
-  put-error f q = rw (← j, q)
-
-  pub put-ok : a ≡ Ok → (r : Result) → r ≡ write t s out table → r ≡ put t target s out table
-  unfolding put
-  put-ok q r e = rw (← j, q) e
+  put-refused e w h = rw (asked-refused t x s out table r a e, h .answer, h .writer)

@@ -1,77 +1,32 @@
--- `emit::put_within` meets its contract: header, number, second number and body, one behind the other.
-use mathlib.Core.Path.{_≡_, refl, _∙_}
-use mathlib.Core.List.{List, [], _∷_, append-assoc}
-use Prim.Native.Nat.{ℕ, _+_, _-_, _*_, _≤_}
+-- `emit::put_within` meets its contract: the body behind the header and its numbers.
+use mathlib.Core.Path.{_≡_, sym, _∙_}
+use mathlib.Core.List.{List, [], _++_, append-assoc, append-nil}
+use Prim.Native.Nat.{ℕ, _+_, _≤_}
 use native.Mathlib.Omega.{arith}
-use lib.Dec.{leb}
-use lib.ListN.{length, set, length-set}
+use lib.ListN.{length, length-append}
 use borrow.Author.Needs.{needs}
-use Rattle.prelude.proofs.Parts.{PutAt, put-same, put-append, putAt-same}
-use Rattle.kind.specs.Kind.{rule}
-use Rattle.token.specs.Token.{putIf, emit}
-use Rattle.token.proofs.Laws.{length-emit}
+use Rattle.prelude.proofs.Parts.{put-same, put-append}
+use Rattle.token.specs.Token.{token, emit}
 use Rattle.emit.proofs.put_within.Statement.{statement}
 use Rattle.emit.proofs.put_within.Tie as tie
 
--- the number behind the header, and the second one
-abbrev number : tie.Start → List ℕ
-number c = putIf (leb 15 (c .args .n)) (c .args .n - 15)
-
-abbrev second : tie.Start → List ℕ
-second c = putIf (rule (c .args .kind) .args) (c .args .args)
-
-room : (c : tie.Start) → 1 + length (number c) + length (second c) + length (c .args .body .now) ≤ length (c .args .out .now)
-room c = rw length-emit at (c .pre .1)
-
-abbrev start : tie.After-nibble → tie.Start
-start c = c .before .before .before .before .before
-
--- out with the header, the number behind it, and the second number
-abbrev headed : tie.After-nibble → List ℕ
-headed c = set (start c .args .out .now) 0 (start c .args .kind * 16 + c .nibble .result)
-
-one : (c : tie.After-put-if) → PutAt (number (start (c .before .before))) (headed (c .before .before)) 1 (c .put-if .last .0) (c .put-if .result)
-one c = rw (c .before .before .before .excess .ensures) at (c .put-if .ensures)
-
-abbrev first : tie.After-put-if2 → tie.After-put-if
-first c = c .before .before .before .before
-
-two : (c : tie.After-put-if2)
-    → PutAt (second (start (first c .before .before))) (first c .put-if .last .0) (first c .put-if .result) (c .put-if2 .last .0) (c .put-if2 .result)
-two c = rw (first c .before .before .before .before .rule-of .ensures) at (c .put-if2 .ensures)
-
--- neither changes how long out is
-same : (c : tie.After-put-if) → length (c .put-if .last .0) ≡ length (start (c .before .before) .args .out .now)
-same c = putAt-same _ (headed (c .before .before)) _ _ _ (one c) ∙ simp length-set
-
-returns : tie.Need-returns
+emit-append : (k n a : ℕ) (b : List ℕ) → emit (token k n a b) ≡ emit (token k n a []) ++ b
 unfolding emit
-returns c =
-    let t = c .before .before .before .before .before .before in
-    let n = first t .before .before in
-    let a = start n in
-    let d = a .args .out .now in
-    rw (← n .nibble .ensures .0)
-    (simp append-assoc at
-    (put-append _ (a .args .body .now) d (t .put-if2 .last .0) (c .before .before .put-body .last .0) _ _
-    (put-append _ (second a) d (first t .put-if .last .0) (t .put-if2 .last .0) _ _
-    (put-append ((a .args .kind * 16 + n .nibble .result) ∷ []) (number a) d (headed n) (first t .put-if .last .0) 1 _
-    (record { size = refl; bytes = refl }) (one (first t))) (two t)) (c .before .before .put-body .ensures)))
+emit-append k n a b = simp (append-assoc, append-nil)
+
+room : (c : tie.Start) → length (emit (token (c .args .kind) (c .args .n) (c .args .args) [])) + length (c .args .body .now) ≤ length (c .args .out .now)
+room c = rw (emit-append, length-append) at (c .pre .1)
+
+abbrev start : tie.After-put-head → tie.Start
+start c = c .before .before .before .before
 
 pub put-within-spec : {M : Type 1} → statement M
 put-within-spec =
     tie.close
     (tie.spec
-    (λ c κs. search needs)
-    (λ c κs. search needs)
+    (λ c κs. let s = c .before .before .before in (s .pre .0, omega (arith, room s)))
+    (λ c κs. let h = c .before .before .before in omega (arith, h .put-head .ensures .size, room (start h), put-same _ (start h .args .out .now) _ _ (h .put-head .ensures)))
     (λ c. search needs)
-    (λ c κs. search needs)
-    (λ c. search needs)
-    (λ c. omega (arith, room (start c)))
-    (λ c κs. rw (length-set, c .before .before .excess .ensures) (omega (arith, room (start (c .before)))))
-    (λ c κs. let p = c .before .before .before in
-    rw (p .before .before .before .before .rule-of .ensures) (omega (arith, room (start (p .before .before)), one p .after, same p)))
-    (λ c κs. let q = c .before .before .before in
-    omega (arith, room (start (first q .before .before)), one (first q) .after, two q .after, same (first q), putAt-same _ (first q .put-if .last .0) _ _ _ (two q)))
-    (λ c. put-same _ (start (first (c .before .before .before .before .before .before) .before .before) .args .out .now) _ _ (returns c))
-    returns)
+    (λ c. let h = c .before .before .before .before .before .before in
+    let a = start h .args in
+    rw emit-append (put-append _ (a .body .now) (a .out .now) (h .put-head .last .0) (c .before .before .put-body .last .0) _ _ (h .put-head .ensures) (c .before .before .put-body .ensures))))

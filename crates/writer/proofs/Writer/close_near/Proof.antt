@@ -1,6 +1,6 @@
 -- `writer::Writer::close_near` meets its contract.
 use borrow.Author.Needs.{needs}
-use Rattle.writer.proofs.Closes.{near-error, near-byte, near-ok}
+use Rattle.writer.proofs.Closes.{near-byte, near-ok, near-refused}
 use Rattle.writer.proofs.Writer.close_near.Statement.{statement}
 use Rattle.writer.proofs.Writer.close_near.Tie as tie
 
@@ -9,14 +9,21 @@ close-near-spec =
     tie.close
     (tie.spec
     (λ c κs. search needs)
-    (λ c. search needs)
-    (λ c κs. search needs)
-    (λ c. search needs)
-    (λ c κs. let t = c .before in near-byte _ 0 _ _ _ _ (t .before .before .judge-delta .ensures) (t .enum-told .given .1))
-    (λ c. search needs)
-    (λ c. let e = c .before .before in
-    rw (c .refuse .ensures) (near-error _ _ _ _ _ _ (e .before .before .judge-delta .ensures) _ (e .e .given .1)))
+    (λ c κs. let t = c .before in
+    let m = t .before in
+    let s = m .before .before .before in
+    let a = s .args in
+    near-byte (a .good) (a .at) (a .self) (a .out .now) (a .starts .now) (s .pre) (rw (m .may-shut .ensures) at (t .if1 .taken)))
     (λ c. search needs)
     (λ c. let h = c .before .before in
     let t = h .before .before in
-    near-ok _ _ _ _ _ _ (t .before .before .judge-delta .ensures) (t .enum-told .given .1) _ _ (h .shut .ensures)))
+    let m = t .before in
+    let s = m .before .before .before in
+    let a = s .args in
+    near-ok (a .good) (a .at) (a .self) (a .out .now) (a .starts .now) (s .pre) (rw (m .may-shut .ensures) at (t .if1 .taken)) _ _ _ (h .shut .ensures))
+    (λ c κs. search needs)
+    (λ c. let t = c .before in
+    let m = t .before in
+    let s = m .before .before .before in
+    let a = s .args in
+    near-refused (a .good) (a .at) (a .self) (a .out .now) (a .starts .now) (s .pre) (rw (m .may-shut .ensures) at (t .if1 .left)) _ _ (c .refuse .ensures)))

@@ -11,5 +11,7 @@ float64-spec =
     (λ c. search needs)
     (λ c κs. search needs)
     (λ c. search needs)
+    (λ c κs. search needs)
     (λ c. search needs)
-    (λ c. let p = c .before .before .before .before in rw (p .before .before .before .before .bytes8 .ensures) at (p .put .ensures)))
+    (λ c. search needs)
+    (λ c. let p = c .before .before .before .before in rw (p .before .before .before .before .before .before .before .before .bytes8 .ensures) at (p .put-body .ensures)))

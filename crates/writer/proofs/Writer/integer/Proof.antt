@@ -1,8 +1,10 @@
 -- `writer::Writer::integer` meets its contract: sign and magnitude are the kind and the number of its token.
 use mathlib.Core.Path.{_≡_, refl}
 use mathlib.Core.List.{[]}
+use native.Mathlib.Omega.{arith}
 use lib.IntN.{ℤ, pos, negsuc}
 use borrow.Author.Needs.{needs}
+use borrow.Author.Tests.{lt-leb, ne-eqb}
 use mir.Syntax.{w64}
 use mir.ValLaws.{toZ-ofZ}
 use Rattle.token.specs.Token.{token}
@@ -21,11 +23,15 @@ integer-spec =
     (λ c κs. search needs)
     (λ c κs. search needs)
     (λ c. search needs)
+    -- a kind with neither text nor target
+    (λ c κs. let k = c .before .before .before .before .sign in
+    let h = k .ensures .1 in
+    (omega arith, rw (lt-leb 14 (k .result) (omega arith), ne-eqb (k .result) 4 (λ q. omega arith)) refl))
     (λ c κs. search needs)
     (λ c. search needs)
     (λ c. search needs)
     (λ c. let p = c .before .before .before .before in
-    let m = p .before .before .before .before in
+    let m = p .before .before .before .before .before .before .before in
     let s = m .before .before .before .before in
     rw (m .before .sign .ensures .0, m .magnitude .ensures, toZ-ofZ w64 (s .args .value) (s .fits .value), integer-token (s .args .value)) at
     (p .put .ensures)))

@@ -1,8 +1,9 @@
 -- `writer::Writer::is_listed` meets its contract.
 use mathlib.Core.Path.{sym}
+use native.Mathlib.Omega.{arith}
+use lib.Seq.{length-take-le}
 use borrow.Author.Needs.{needs}
 use borrow.Author.Tests.{lt-ltb, le-ltb}
-use lib.Seq.{length-take-le}
 use Rattle.writer.proofs.Writer.is_listed.Statement.{statement}
 use Rattle.writer.proofs.Writer.is_listed.Tie as tie
 
@@ -10,8 +11,10 @@ pub is-listed-spec : {M : Type 1} → statement M
 is-listed-spec =
     tie.close
     (tie.spec
-    (λ c. sym (length-take-le _ _ (c .before .before .before .before .pre .1)))
+    (λ c w h. absurd (omega arith))
+    (λ c w h. absurd (omega arith))
+    (λ c w h. rw (le-ltb _ _ (c .if3 .taken)))
+    (λ c. sym (length-take-le _ _ (omega arith)))
     (λ c. search needs)
     (λ c κs. search needs)
-    (λ c. rw (lt-ltb _ _ (c .before .before .if1 .taken)) (c .lists .ensures))
-    (λ c. rw (le-ltb _ _ (c .if1 .left))))
+    (λ c w h. rw (lt-ltb _ _ (c .before .before .if3 .left)) (c .lists .ensures)))

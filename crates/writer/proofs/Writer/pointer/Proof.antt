@@ -8,8 +8,10 @@ pointer-spec =
     tie.close
     (tie.spec
     (λ c κs. search needs)
+    (λ c κs. search needs)
     (λ c. search needs)
+    (λ c κs. search needs)
     (λ c κs. search needs)
     (λ c. search needs)
     (λ c. search needs)
-    (λ c. let p = c .before .before .before .before in rw (p .before .before .before .before .distance .ensures) at (p .put .ensures)))
+    (λ c. let p = c .before .before .before .before in rw (p .before .before .before .before .before .before .before .before .before .distance .ensures) at (p .put .ensures)))

@@ -1,42 +1,33 @@
 -- `writer::Writer::put` meets its contract: a token that is not refused fits.
-use mathlib.Core.Path.{_≡_}
+use mathlib.Core.List.{[]}
 use borrow.Author.Needs.{needs}
 use Rattle.token.specs.Token.{Token, token}
-use Rattle.writer.specs.Step.{opens, judge}
-use Rattle.writer.specs.Told.{told}
-use Rattle.writer.proofs.Judged.{judge-inv, accepted-fits}
-use Rattle.writer.proofs.Writes.{told-ok, put-error, put-ok}
+use Rattle.writer.proofs.Writes.{inside, fits-rest, may-advance, put-ok, put-refused}
 use Rattle.writer.proofs.Writer.put.Statement.{statement}
 use Rattle.writer.proofs.Writer.put.Tie as tie
 
-abbrev start : tie.After-judge → tie.Start
-start c = c .before .before .before .before .before .before .before .before
+abbrev start : tie.Then1 → tie.Start
+start c = c .before .before .before
 
 abbrev written : tie.Start → Token
-written c = token (c .args .kind) (c .args .n) (c .args .args) (c .args .body .now)
-
-judged : (c : tie.After-judge) → let a = start c .args in
-    told (c .judge .result) ≡ judge (opens (written (start c))) (written (start c)) (a .target) (a .self) (a .out .now) (a .starts .now)
-judged c = rw (c .before .before .before .is-immediate .ensures, c .before .before .before .before .rule-of .ensures) at (c .judge .ensures)
+written c = token (c .args .kind) (c .args .n) (c .args .args) []
 
 pub put-spec : {M : Type 1} → statement M
 put-spec =
     tie.close
     (tie.spec
+    (λ c. inside (written (start c)) _ _ _ _ _ (start c .pre) (c .if1 .taken))
+    (λ c. inside (written (start c)) _ _ _ _ _ (start c .pre) (c .if1 .taken))
+    (λ c. search needs)
+    (λ c κs. let a = start (c .before) .pre in (a .kind, fits-rest (written (start (c .before))) _ _ _ _ _ a (c .before .if1 .taken)))
+    (λ c κs. let t = c .before .before .before .before .before in may-advance (written (start t)) _ _ _ _ _ (start t .pre) (t .if1 .taken))
+    (λ c. search needs)
+    (λ c. search needs)
+    (λ c. let d = c .before .before in
+    let p = d .before .before .before .before in
+    let t = p .before .before in
+    put-ok (written (start t)) _ _ _ _ _ (start t .pre) (t .if1 .taken) _ _ (p .put-head .ensures) _ _ (d .advance .ensures))
     (λ c κs. search needs)
-    (λ c κs. search needs)
-    (λ c κs. search needs)
-    (λ c. search needs)
-    (λ c κs. search needs)
-    (λ c. search needs)
-    (λ c κs. let e = c .before .before in
-    let j = e .before .before in
-    accepted-fits _ _ _ _ _ _ (judge-inv _ _ _ _ _ _ (told-ok _ (judged j) (e .enum-told .given .1))) (start j .pre))
-    (λ c. search needs)
-    (λ c. search needs)
-    (λ c. let e = c .before .before in rw (c .refuse .ensures) (put-error _ _ _ _ _ _ (judged (e .before .before)) _ (e .e .given .1)))
-    (λ c. search needs)
-    (λ c. search needs)
-    (λ c. let w = c .before .before .before .before in
-    let e = w .before .before .before in
-    put-ok _ _ _ _ _ _ (judged (e .before .before)) (e .enum-told .given .1) _ (w .write .ensures)))
+    (λ c. let t = c .before in
+    let s = t .before .before .before in
+    put-refused (written s) _ _ _ _ _ (s .pre) (t .if1 .left) _ (c .refuse-token .ensures)))

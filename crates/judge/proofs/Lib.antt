@@ -1,0 +1,2 @@
+-- items, counted up to LIMIT
+mod Count

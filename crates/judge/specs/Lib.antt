@@ -1,0 +1,2 @@
+-- why a call is refused
+pub mod Refusal

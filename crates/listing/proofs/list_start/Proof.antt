@@ -1,0 +1,17 @@
+-- `listing::list_start` meets its contract.
+use mathlib.Core.Path.{refl}
+use borrow.Author.Needs.{needs}
+use Rattle.listing.proofs.list_start.Statement.{statement}
+use Rattle.listing.proofs.list_start.Tie as tie
+
+pub list-start-spec : {M : Type 1} → statement M
+list-start-spec =
+    tie.close
+    (tie.spec
+    (λ c. search needs)
+    (λ c. search needs)
+    (λ c. search needs)
+    (λ c. search needs)
+    (λ c. search needs)
+    (λ c. rw (c .if1 .taken) (refl, refl))
+    (λ c. rw (c .if1 .left) (refl, refl)))
