@@ -1,7 +1,7 @@
 -- Theorems of `step`, for any state, output and table.
 --
--- In order: what a call comes to (`settled-by`), and an accepted one (`put-by`, `close-by`, `accepted-by`); a refused call changes nothing (`refused-same`); what an
--- accepted call may change (`accepted-only`).
+-- In order: what an accepted call comes to (`put-by`, `close-by`, `accepted-by`); what it may change (`accepted-only`). That a refused one changes nothing is
+-- `refused-same` of crate writer.
 use mathlib.Core.Path.{_≡_, refl, sym, ap, _∙_}
 use mathlib.Core.Bool.{Bool, true}
 use mathlib.Core.List.{List, [], _∷_, _++_, append-assoc}
@@ -19,25 +19,11 @@ use Rattle.writer.specs.Step.{Call, Move, puts, closes, moveOf, opens, limit, p
 use Rattle.writer.specs.declared.Writer.{Writer}
 use Rattle.writer.proofs.Judged.{Accepted, judge-inv, behind, emit-pos}
 use Rattle.writer.proofs.Closes.{Near, delta-inv}
+use Rattle.writer.proofs.Refused.{pointerTo}
 
--- ---- what a call comes to
-
--- a pointer to x behind the bytes written
-abbrev pub pointerTo : ℕ → Writer → Token
-pointerTo x s = token 15 (s .written - x - 1) 0 []
+-- ---- what an accepted call comes to
 
 module _ (s : Writer) (out table : List ℕ) (P : Result → Type 0) where
-  -- any call: it is judged, and then settled
-  module _
-      (judged : (alone : Bool) (t : Token) (target : ℕ) (r : Result) → r .answer ≡ ok tt → P (settled (judge alone t target s out table) s out table r))
-      (delta : (x : ℕ) (r : Result) → r .answer ≡ ok tt → P (settled (judgeDelta x s out table) s out table r)) where
-    pub settled-by : (m : Move) → P (move m s out table)
-    unfolding put closeAt write shut writeShut
-    settled-by (puts t target) = judged (opens t) t target (write t s out table) refl
-    settled-by (closes x) =
-        pick-elim P (leb (s .written - x - 1) 255) (λ _. delta x (shut (s .written - x - 1) s out table) refl)
-        (λ _. judged true (pointerTo x s) x (writeShut (pointerTo x s) s out table) refl)
-
   settled-ok : (v : Verdict) (r : Result) → settled v s out table r .answer ≡ ok tt → (v ≡ ok tt → P r) → P (settled v s out table r)
   settled-ok (ok tt) r e k = k refl
   settled-ok (error f) r e k = let z : _≡_ {A = ℕ} 0 1 = cc in absurd (omega arith)
@@ -69,25 +55,6 @@ module _ (s : Writer) (out table : List ℕ) (P : Result → Type 0) where
 
     pub accepted-by : (c : Call) → step c s out table .answer ≡ ok tt → P (step c s out table)
     accepted-by c = by-move (moveOf c (s .written))
-
--- ---- a refused call
-
-module _ (s : Writer) (out table : List ℕ) (f : ℕ) where
-  abbrev Same : Result → Type 0
-  Same r = r .answer ≡ error f → r ≡ result (error f) s out table
-
-  settled-same : (v : Verdict) (r : Result) → r .answer ≡ ok tt → Same (settled v s out table r)
-  settled-same (ok u) r a e = let z : _≡_ {A = ℕ} 0 1 = cc in absurd (omega arith)
-  settled-same (error g) r a e = ap (λ v. result v s out table) e
-
--- a refused call changes nothing
-pub refused-same : (c : Call) (s : Writer) (out table : List ℕ) (f : ℕ) → step c s out table .answer ≡ error f
-    → step c s out table ≡ result (error f) s out table
-refused-same c s out table f =
-    settled-by s out table (Same s out table f)
-    (λ alone t target. settled-same s out table f (judge alone t target s out table))
-    (λ x. settled-same s out table f (judgeDelta x s out table))
-    (moveOf c (s .written))
 
 -- ---- what an accepted call may change
 

@@ -24,7 +24,7 @@ use Rattle.writer.specs.Given.{Given}
 use Rattle.writer.specs.declared.Writer.{Writer}
 use Rattle.writer.specs.declared.Scalar.the-variants.{False, True, Null}
 use Rattle.writer.proofs.Judged.{good}
-use Rattle.guarantees.proofs.Calls.{pointerTo, settled-by}
+use Rattle.writer.proofs.Refused.{pointerTo, settled-by}
 
 -- with an output and a table of any lengths
 pub fresh-good : (n m : ℕ) → bad fresh n m ≡ false

@@ -25,7 +25,8 @@ use Rattle.writer.specs.declared.Writer.{Writer}
 use Rattle.writer.specs.declared.Scalar.the-variants.{False, True, Null}
 use Rattle.writer.proofs.Judged.{sound, good, Accepted, judge-inv, free-word, behind, none-pending}
 use Rattle.writer.proofs.Closes.{delta-inv}
-use Rattle.guarantees.proofs.Calls.{refused-same, accepted-only}
+use Rattle.writer.proofs.Refused.{refused-same}
+use Rattle.guarantees.proofs.Calls.{accepted-only}
 use Rattle.guarantees.proofs.Results.{write-open}
 use Rattle.guarantees.proofs.Errors.{fresh-good}
 use Rattle.guarantees.specs.Model.{Part, part, Line, adds, ends, lineOf, formOf, Plain, plain, valuesAt, Stage, between, within, closed, Model, model, blank, bytesOf, startsOf, isClosed, owes, owed, grown, settle, judgeOf, takenOf, backTo}

@@ -12,7 +12,8 @@ use Rattle.prelude.proofs.Tests.{split}
 use Rattle.writer.specs.Step.{Call, Verdict, Result, startOf, step}
 use Rattle.writer.specs.declared.Writer.{Writer}
 use Rattle.guarantees.specs.History.{runs}
-use Rattle.guarantees.proofs.Calls.{refused-same, accepted-only, drop-later}
+use Rattle.writer.proofs.Refused.{refused-same}
+use Rattle.guarantees.proofs.Calls.{accepted-only, drop-later}
 use Rattle.guarantees.proofs.Results.{FinishesNone, Finishes, Finishing, accepted-finishes}
 
 -- from a state s on, calls that leave these count only upwards, and leave the rest as it was

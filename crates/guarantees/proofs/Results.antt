@@ -21,7 +21,8 @@ use Rattle.writer.specs.Step.{Call, close, moveOf, bad, limit, pendingOf, due, 
 use Rattle.writer.specs.declared.Writer.{Writer}
 use Rattle.writer.proofs.Judged.{Sound, sound, good, none-pending, new-start, Accepted, free-word, behind, start-lt, emit-pos}
 use Rattle.writer.proofs.Closes.{Near}
-use Rattle.guarantees.proofs.Calls.{pointerTo, settled-by, close-by, accepted-by, length-pick-set, accepted-only}
+use Rattle.writer.proofs.Refused.{pointerTo, settled-by}
+use Rattle.guarantees.proofs.Calls.{close-by, accepted-by, length-pick-set, accepted-only}
 
 -- ---- the value that it finishes
 

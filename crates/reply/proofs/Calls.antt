@@ -9,7 +9,7 @@ use Rattle.writer.specs.declared.Writer.{Writer}
 use Rattle.writer.specs.declared.WriteAnswer.{WriteAnswer}
 use Rattle.writer.specs.declared.WriteAnswer.the-variants.{Ok, Err}
 use Rattle.writer.specs.declared.WriteResult.{WriteResult}
-use Rattle.guarantees.proofs.Calls.{refused-same}
+use Rattle.writer.proofs.Refused.{refused-same}
 use Rattle.reply.specs.Reply.{Reply, reply}
 use Rattle.reply.specs.State.{writerOf, called, stepC, settleC}
 

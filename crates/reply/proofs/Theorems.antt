@@ -9,7 +9,7 @@ use Rattle.prelude.specs.Pick.{pick}
 use Rattle.prelude.specs.Answer.{ok, error}
 use Rattle.writer.specs.Step.{Call, Verdict, Result, step}
 use Rattle.writer.specs.declared.Writer.{Writer}
-use Rattle.guarantees.proofs.Calls.{refused-same}
+use Rattle.writer.proofs.Refused.{refused-same}
 use Rattle.reply.specs.State.{writerOf, wordsOf, called, calledBy, stepC}
 
 flag-back : (b : Bool) → not (eqb (pick b 1 0) 0) ≡ b

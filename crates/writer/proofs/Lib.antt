@@ -8,3 +8,5 @@ mod Asked
 mod Writes
 -- the two closes
 pub mod Closes
+-- a refused call changes nothing
+pub mod Refused

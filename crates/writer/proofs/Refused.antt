@@ -1,0 +1,45 @@
+-- Any call of the writer, for any state, output and table.
+--
+-- In order: it is judged, and then settled (`settled-by`); a refused one changes nothing (`refused-same`).
+use mathlib.Core.Path.{_≡_, refl, ap}
+use mathlib.Core.Bool.{Bool, true}
+use mathlib.Core.List.{List, []}
+use Prim.Native.Nat.{ℕ, _-_}
+use native.Mathlib.Omega.{arith}
+use lib.Dec.{leb}
+use Rattle.prelude.specs.Answer.{ok, error}
+use Rattle.prelude.proofs.Tests.{pick-elim}
+use Rattle.token.specs.Token.{Token, token}
+use Rattle.writer.specs.Step.{Call, Move, puts, closes, moveOf, opens, Verdict, judge, judgeDelta, Result, result, write, shut, writeShut, settled, put, closeAt, move, step}
+use Rattle.writer.specs.declared.Writer.{Writer}
+
+-- a pointer to x behind the bytes written
+abbrev pub pointerTo : ℕ → Writer → Token
+pointerTo x s = token 15 (s .written - x - 1) 0 []
+
+module _ (s : Writer) (out table : List ℕ) (P : Result → Type 0)
+    (judged : (alone : Bool) (t : Token) (target : ℕ) (r : Result) → r .answer ≡ ok tt → P (settled (judge alone t target s out table) s out table r))
+    (delta : (x : ℕ) (r : Result) → r .answer ≡ ok tt → P (settled (judgeDelta x s out table) s out table r)) where
+  pub settled-by : (m : Move) → P (move m s out table)
+  unfolding put closeAt write shut writeShut
+  settled-by (puts t target) = judged (opens t) t target (write t s out table) refl
+  settled-by (closes x) =
+      pick-elim P (leb (s .written - x - 1) 255) (λ _. delta x (shut (s .written - x - 1) s out table) refl)
+      (λ _. judged true (pointerTo x s) x (writeShut (pointerTo x s) s out table) refl)
+
+module _ (s : Writer) (out table : List ℕ) (f : ℕ) where
+  abbrev Same : Result → Type 0
+  Same r = r .answer ≡ error f → r ≡ result (error f) s out table
+
+  settled-same : (v : Verdict) (r : Result) → r .answer ≡ ok tt → Same (settled v s out table r)
+  settled-same (ok u) r a e = let z : _≡_ {A = ℕ} 0 1 = cc in absurd (omega arith)
+  settled-same (error g) r a e = ap (λ v. result v s out table) e
+
+-- a refused call changes nothing
+pub refused-same : (c : Call) (s : Writer) (out table : List ℕ) (f : ℕ) → step c s out table .answer ≡ error f
+    → step c s out table ≡ result (error f) s out table
+refused-same c s out table f =
+    settled-by s out table (Same s out table f)
+    (λ alone t target. settled-same s out table f (judge alone t target s out table))
+    (λ x. settled-same s out table f (judgeDelta x s out table))
+    (moveOf c (s .written))
