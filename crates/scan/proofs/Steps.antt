@@ -1,6 +1,7 @@
 -- How `scanAt` goes, as the code takes it: by offsets, with the bytes left counted.
 --
--- In order: the bytes left behind a number; `seen` under a guard, behind a number, of a body; n; what was read so far; the whole; behind n.
+-- In order: the bytes left behind a number; `seen` under a guard, behind a number, of a body; n; what was read so far; the whole; behind n; of
+-- an immediate.
 use mathlib.Core.Path.{_≡_, refl, ap, _∙_}
 use Prim.Native.Nat.{ℕ, suc, _+_, _-_, _*_, _/_, _%_, _≤_, _<_}
 use mathlib.Core.Bool.{Bool, true, false, not, _&&_}
@@ -24,7 +25,7 @@ use Rattle.leb128.specs.declared.GetResult.{GetResult}
 use Rattle.leb128.specs.declared.GetResult.the-variants.{Ok, Err}
 use Rattle.kind.specs.Kind.{rule, size, counted, pending, immediate}
 use Rattle.kind.specs.declared.Rule.{Rule}
-use Rattle.kind.proofs.Laws.{Row, rule-row}
+use Rattle.kind.proofs.Laws.{Row, None, rule-row}
 use Rattle.token.specs.Token.{Token}
 use Rattle.token.specs.Scan.{getIf, number, body, scanKind, scan}
 use Rattle.scan.specs.Told.{seen, scanAt}
@@ -229,3 +230,15 @@ module _ {inner : Bool} {s : List ℕ} {at k : ℕ} {r : Rule} {n left : ℕ} (b
       pub scan-sized : not g ≡ false
           → ok (head k n (r .single + r .each * n) (length s - left) (length s - left + (r .fixed + r .scale * n))) ≡ scanAt inner s at
       scan-sized z = rw (← scan-fitted, add-zero, ← room, not-false g z)
+
+-- ---- an immediate
+
+module _ {s : List ℕ} {at k : ℕ} {r : Rule} {n left : ℕ} (b : Number true s at k r n left) (none : None r) where
+  pub item-bare : r .scale ≡ 0 → ok (head k n 0 (length s - left) (length s - left)) ≡ scanAt true s at
+  item-bare e = rw (none .single) at (scan-bare b (none .args) (rw (e, none .each)))
+
+  pub item-sized : {g : Bool} → g ≡ leb (size r n + r .each * n) left → not g ≡ false
+      → ok (head k n 0 (length s - left) (length s - left + (r .fixed + r .scale * n))) ≡ scanAt true s at
+  item-sized room z =
+      let zero : r .single + r .each * n ≡ 0 = rw (none .single, none .each) (omega (arith, zero-mul n)) in
+      rw zero at (scan-sized b (none .args) room z)

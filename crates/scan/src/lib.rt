@@ -4,6 +4,7 @@ use error::ErrorKind;
 use kind::Rule;
 use leb128::GetResult;
 ghost use mathlib.Core.Path.{_≡_};
+ghost use mathlib.Core.Bool.{true};
 ghost use Prim.Native.Nat.{_+_, _*_, _≤_, _<_, _^_};
 ghost use lib.Dec.{leb};
 ghost use Rattle.leb128.specs.Told as numbers;
@@ -163,5 +164,54 @@ pub fn scan(region: &[u8], at: usize, inner: bool) -> ScanResult
             kind: error,
             place: at,
         }),
+    }
+}
+
+// Reads an item, as `scan` does: one without fault is read here, which is short enough to be compiled into a loop over items.
+pub fn scan_item(region: &[u8], at: usize) -> ScanResult
+    ensures { λ r. ⌜ told r ≡ scanAt true (now (region .entry)) at ⌝ }
+{
+    let len = region.len();
+    if len <= at {
+        return scan(region, at, true);
+    }
+    let header = region[at];
+    let kind = header / 16;
+    let low = header % 16;
+    let rule = kind::rule_of(kind);
+    let immediate = kind::is_immediate(rule);
+    let plain = (low < rule.lows) & immediate;
+    if !plain {
+        return scan(region, at, true);
+    }
+    let start = at + 1;
+    match number(low, rule.most, &region[start..]) {
+        GetResult::Ok { value, left } => {
+            let n = value;
+            let first = len - left;
+            // nothing behind n
+            if rule.scale == 0 {
+                return ScanResult::Ok(Head {
+                    kind,
+                    n,
+                    items: 0,
+                    first,
+                    end: first,
+                });
+            }
+            let room = has_room(rule, n, left as u64);
+            if !room {
+                return scan(region, at, true);
+            }
+            let body = rule.fixed + rule.scale * n;
+            ScanResult::Ok(Head {
+                kind,
+                n,
+                items: 0,
+                first,
+                end: first + body as usize,
+            })
+        }
+        GetResult::Err(error) => scan(region, at, true),
     }
 }
