@@ -1,15 +1,16 @@
 -- The walk of check over a region.
 --
 -- In order: a token that the walk takes; what holds of a walk, and of the walk behind a token; turns; the starts that it comes to rise and
--- are within the region; the walk as the code makes it, with the starts in the first words of a table, counted by blocks.
+-- are within the region; a value as the code passes it, by its token and its items; the walk as the code makes it, with the starts in the
+-- first words of a table, counted by blocks.
 use mathlib.Core.Path.{_≡_, refl, sym, _∙_, subst}
 use Prim.Native.Nat.{ℕ, _+_, _-_, _*_, _/_, _≤_, _<_, _^_}
-use mathlib.Core.Bool.{true, false, not, _&&_}
+use mathlib.Core.Bool.{Bool, true, false, not, _&&_}
 use mathlib.Core.List.{List, [], _∷_, _++_}
 use native.Mathlib.Nat.{not-suc-le-zero}
 use native.Mathlib.Numerals.{add-one}
 use native.Mathlib.Omega.{arith}
-use borrow.Author.Tests.{eq-eqb, ne-eqb, eqb-false}
+use borrow.Author.Tests.{lt-ltb, le-leb, lt-leb, eq-eqb, ne-eqb, eqb-false}
 use lib.Dec.{eqb, ltb, leb}
 use lib.ListN.{length, take, getD, set, length-set, length-take, length-append, List·getD-append}
 use lib.Seq.{length-take-le, take-suc-set, getD-append-seam}
@@ -17,10 +18,11 @@ use Rattle.prelude.specs.Answer.{Answer, ok, error, bind}
 use Rattle.prelude.specs.Loop.{Turn, go, stop}
 use Rattle.prelude.specs.Search.{Rising}
 use Rattle.prelude.proofs.Tests.{pick-elim, split, and-false, facts}
+use Rattle.prelude.proofs.Readers.{bind-ok, bind-error}
 use Rattle.prelude.proofs.Turns.{from-go, from-stop, from-all}
 use Rattle.prelude.proofs.Searches.{rising-nil, rising-snoc, rising-ge}
 use Rattle.error.specs.Error as errors
-use Rattle.error.specs.Error.{Fault, LIMIT}
+use Rattle.error.specs.Error.{Fault, fault, LIMIT, BAD_TEXT, BAD_TARGET, FULL}
 use Rattle.error.specs.declared.Error.{Error}
 use Rattle.utf8.specs.Text.{isText}
 use Rattle.table.specs.Blocks.{BLOCK, Counted, Below}
@@ -31,7 +33,10 @@ use Rattle.scan.specs.declared.ScanResult.{ScanResult}
 use Rattle.scan.specs.declared.ScanResult.the-variants.{Ok, Err}
 use Rattle.scan.specs.declared.Head.{Head}
 use Rattle.scan.proofs.Places.{Within, scan-within}
+use Rattle.checker.specs.declared.PassResult.{PassResult}
+use Rattle.checker.specs.declared.PassResult.the-variants as passes-are
 use Rattle.checker.specs.Check.{aimed, judge, Walk, between, next, due, passed, turned, turn, startsFrom}
+use Rattle.checker.specs.Stages.{inValue, Ends, PassesValue}
 
 -- ---- a token that the walk takes
 
@@ -91,6 +96,18 @@ below-snoc xs x m h l k b =
     (λ lt. rw (List·getD-append xs (x ∷ []) 0 k lt) (h k lt))
     (λ ge. let e : k ≡ length xs = omega (arith, length-append xs (x ∷ [])) in rw (e, getD-append-seam xs x [] 0) l)
 
+-- behind a value that is finished
+going-finished : (s : List ℕ) (cap : ℕ) (w : Walk) → Going s cap w → length (w .done) < cap → (end : ℕ) → w .start < end → end ≤ length s
+    → Going s cap (between end (w .done ++ (w .start ∷ [])))
+going-finished s cap w g word end past inside = record {
+  rising = rising-snoc (w .done) (w .start) (g .rising) (g .below);
+  below = below-snoc (w .done) (w .start) end (λ k b. omega (arith, g .below k b)) past;
+  start = omega arith;
+  inside = inside;
+  count = omega (arith, length-append (w .done) (w .start ∷ []));
+  room = λ p. omega arith;
+}
+
 module _ (s : List ℕ) (cap : ℕ) (w : Walk) (h : Head) (e : ok h ≡ next s cap (w .done) (w .pending) (w .at)) where
   pub ahead : Within s (w .at) h
   ahead = scan-within _ s (w .at) h (taken s cap (w .done) (w .pending) (w .at) h e .scanned)
@@ -102,14 +119,7 @@ module _ (s : List ℕ) (cap : ℕ) (w : Walk) (h : Head) (e : ok h ≡ next s c
       let t = taken s cap (w .done) (w .pending) (w .at) h e in
       let word : length (w .done) < cap = split 0 (w .pending) (g .room) (λ z. t .room (omega arith)) in
       pick-elim (Going s cap) (eqb (due (w .pending) (h .items)) 0)
-      (λ z. record {
-        rising = rising-snoc (w .done) (w .start) (g .rising) (g .below);
-        below = below-snoc (w .done) (w .start) (h .end) (λ k b. omega (arith, g .below k b, g .start, a .numbers, a .body)) (omega (arith, g .start, a .numbers, a .body));
-        start = omega arith;
-        inside = a .end;
-        count = omega (arith, length-append (w .done) (w .start ∷ []));
-        room = λ p. omega arith;
-      })
+      (λ z. going-finished s cap w g word (h .end) (omega (arith, g .start, a .numbers, a .body)) (a .end))
       (λ z. record {
         rising = g .rising;
         below = g .below;
@@ -191,29 +201,104 @@ module _ (s : List ℕ) (cap : ℕ) where
   pub come : (done : List ℕ) → ok done ≡ startsFrom s cap (between 0 []) → Comes (ok done)
   come done e = subst Comes (sym e) starts-come
 
+-- ---- a value as the code passes it
+
+-- the token at `at`, as an item where `inner` is true: `next` without FULL
+abbrev token : Bool → List ℕ → List ℕ → ℕ → Answer Fault Head
+token inner s done at = bind (scanAt inner s at) (judge s done at)
+
+-- what `scan` told of it, and what the tests of its text and its target
+module _ (inner : Bool) (s done : List ℕ) (at : ℕ) (r : ScanResult) (scanned : scans.told r ≡ scanAt inner s at) where
+  pub token-unscanned : (f : Error) → r ≡ Err f → error (errors.told f) ≡ token inner s done at
+  token-unscanned f is = bind-error _ (rw is at scanned)
+
+  module _ (h : Head) (is : r ≡ Ok h) (x : Bool) (text : x ≡ (eqb (h .kind) 4 && not (isText (bytesOf s h)))) where
+    pub token-bad-text : x ≡ true → error (fault BAD_TEXT at) ≡ token inner s done at
+    unfolding judge
+    token-bad-text bad = bind-ok _ (rw is at scanned) (rw (sym text ∙ bad))
+
+    module _ (good : x ≡ false) (y : Bool) (target : y ≡ (leb 14 (h .kind) && not (aimed done at h))) where
+      pub token-bad-target : y ≡ true → error (fault BAD_TARGET at) ≡ token inner s done at
+      unfolding judge
+      token-bad-target bad = bind-ok _ (rw is at scanned) (rw (sym text ∙ good, sym target ∙ bad))
+
+      pub token-taken : y ≡ false → ok h ≡ token inner s done at
+      unfolding judge
+      token-taken fine = bind-ok _ (rw is at scanned) (rw (sym text ∙ good, sym target ∙ fine))
+
+next-item : (s : List ℕ) (cap : ℕ) (done : List ℕ) (pending at : ℕ) → 0 < pending → next s cap done pending at ≡ token true s done at
+unfolding next
+next-item s cap done pending at more = rw (ne-eqb pending 0 (λ z. omega arith), lt-ltb 0 pending more)
+
+next-value : (s : List ℕ) (cap : ℕ) (done : List ℕ) (at : ℕ) → length done < cap → next s cap done 0 at ≡ token false s done at
+unfolding next
+next-value s cap done at word = rw (lt-leb cap (length done) word)
+
+-- an item
+module _ (s done : List ℕ) (at pending : ℕ) (more : 0 < pending) (cap start : ℕ) where
+  abbrev open-value : Walk
+  open-value = record { at = at; start = start; pending = pending; done = done }
+
+  is-open : eqb pending 0 ≡ false
+  is-open = ne-eqb pending 0 (λ z. omega arith)
+
+  pub item-error : (f : Fault) → error f ≡ token true s done at → error f ≡ startsFrom s cap (inValue at start pending done)
+  item-error f e = rw is-open (walk-error s cap open-value (rw is-open) f (e ∙ sym (next-item s cap done pending at more)))
+
+  passed-item : (h : Head) → passed open-value h ≡ inValue (h .end) start (pending - 1) done
+  unfolding passed
+  passed-item h = rw is-open
+
+  pub item-on : (h : Head) → ok h ≡ token true s done at
+      → startsFrom s cap (inValue (h .end) start (pending - 1) done) ≡ startsFrom s cap (inValue at start pending done)
+  item-on h e = rw (is-open, ← passed-item h) (walk-token s cap open-value (rw is-open) h (e ∙ sym (next-item s cap done pending at more)))
+
+pub items-end : (s done : List ℕ) (at pending : ℕ) → pending ≤ 0 → (cap start : ℕ)
+    → startsFrom s cap (between at (done ++ (start ∷ []))) ≡ startsFrom s cap (inValue at start pending done)
+items-end s done at pending none cap start = rw (eq-eqb pending 0 (omega arith))
+
+-- a value
+module _ (s done : List ℕ) (at : ℕ) (more : at < length s) (cap : ℕ) where
+  is-more : (eqb 0 0 && leb (length s) at) ≡ false
+  is-more = rw (lt-leb (length s) at more)
+
+  pub value-full : cap ≤ length done → error (fault FULL at) ≡ startsFrom s cap (between at done)
+  unfolding next
+  value-full full = walk-error s cap (between at done) is-more (fault FULL at) (rw (le-leb cap (length done) full))
+
+  module _ (word : length done < cap) where
+    pub value-error : (f : Fault) → error f ≡ token false s done at → error f ≡ startsFrom s cap (between at done)
+    value-error f e = walk-error s cap (between at done) is-more f (e ∙ sym (next-value s cap done at word))
+
+    pub value-on : (h : Head) → ok h ≡ token false s done at → {a : Answer Fault (List ℕ)} → a ≡ startsFrom s cap (inValue (h .end) at (h .items) done)
+        → a ≡ startsFrom s cap (between at done)
+    unfolding passed
+    value-on h e items = items ∙ walk-token s cap (between at done) is-more h (e ∙ sym (next-value s cap done at word))
+
+-- the items end behind the token
+pub ends-behind : (r : PassResult) (s : List ℕ) (at : ℕ) (h : Head) → Within s at h → Ends r (h .end) (length s) → Ends r (at + 1) (length s)
+ends-behind (passes-are.Ok end) s at h w e = (omega (arith, w .numbers, w .body, e .0), e .1)
+ends-behind (passes-are.Err f) s at h w e = tt
+
 -- ---- the walk as the code makes it
 
--- with the starts in the first `count` words of the table t
-abbrev pub walkOn : List ℕ → ℕ → ℕ → ℕ → ℕ → Walk
-walkOn t at start pending count = record { at = at; start = start; pending = pending; done = take count t }
-
-pub record Along (s t : List ℕ) (cap at start pending count : ℕ) : Type 0 where
+-- between two values at `at`, with the starts in the first `count` words of the table t
+pub record Along (s t : List ℕ) (cap at count : ℕ) : Type 0 where
   pub long : length t ≡ cap
   pub fits : count ≤ length t
-  pub going : Going s cap (walkOn t at start pending count)
-  pub leads : startsFrom s cap (walkOn t at start pending count) ≡ startsFrom s cap (between 0 [])
+  pub going : Going s cap (between at (take count t))
+  pub leads : startsFrom s cap (between at (take count t)) ≡ startsFrom s cap (between 0 [])
 
--- the starts are counted for the blocks that begin at most at `start`; each block of the region has a word
-pub record Indexed (s t blocks : List ℕ) (start count : ℕ) : Type 0 where
+-- the starts are counted for the blocks that begin at most at `at`; each block of the region has a word
+pub record Indexed (s t blocks : List ℕ) (at count : ℕ) : Type 0 where
   pub long : length s < length blocks * BLOCK
-  pub counted : Counted (take (start / BLOCK + 1) blocks) (take count t)
+  pub counted : Counted (take (at / BLOCK + 1) blocks) (take count t)
 
 pub indexed-start : (s t blocks : List ℕ) → length s < length blocks * BLOCK → getD blocks 0 0 ≡ 0 → Indexed s t blocks 0 0
 indexed-start s t blocks h e = record { long = h; counted = counted-first blocks e }
 
-pub known-fits : (s t : List ℕ) (cap at start pending count : ℕ) → Along s t cap at start pending count → (blocks : List ℕ) → Indexed s t blocks start count
-    → start / BLOCK + 1 ≤ length blocks
-known-fits s t cap at start pending count a blocks i = omega (arith, a .going .start, a .going .inside, i .long)
+pub known-fits : (s t : List ℕ) (cap at count : ℕ) → Along s t cap at count → (blocks : List ℕ) → Indexed s t blocks at count → at / BLOCK + 1 ≤ length blocks
+known-fits s t cap at count a blocks i = omega (arith, a .going .inside, i .long)
 
 -- what `table::count_blocks` asks for, where a value is finished that begins at `start` and ends at `end`
 pub record Countable (t blocks : List ℕ) (start count end : ℕ) : Type 0 where
@@ -223,80 +308,53 @@ pub record Countable (t blocks : List ℕ) (start count end : ℕ) : Type 0 wher
   pub below : Below ((start / BLOCK + 1) * BLOCK) (take count t)
   pub counted : Counted (take (start / BLOCK + 1) blocks) (take count t)
 
--- there is a word for a value that is finished, and its start is in the region
-pub record Room (s t : List ℕ) (start count : ℕ) : Type 0 where
-  pub free : count < length t
-  pub inside : start ≤ length s
-
-pub along-start : (s t : List ℕ) → Along s t (length t) 0 0 0 0
+pub along-start : (s t : List ℕ) → Along s t (length t) 0 0
 along-start s t = record { long = refl; fits = omega arith; going = going-begun s (length t); leads = refl }
 
-module _ (s t : List ℕ) (cap at start pending count : ℕ) (a : Along s t cap at start pending count)
-    (more : (eqb pending 0 && leb (length s) at) ≡ false) where
-  abbrev here : Walk
-  here = walkOn t at start pending count
+module _ (s t : List ℕ) (cap at count : ℕ) (a : Along s t cap at count) where
+  pub along-end : length s ≤ at → ok (take count t) ≡ startsFrom s cap (between 0 [])
+  along-end h = walk-end s cap (between at (take count t)) (rw (le-leb (length s) at h)) ∙ a .leads
 
-  module _ (r : ScanResult) (told : scans.told r ≡ next s (length t) (take count t) pending at) where
-    -- with the table's length at first
-    at-cap : scans.told r ≡ next s cap (take count t) pending at
-    at-cap = rw (← a .long) told
+  pub along-full : at < length s → length t ≤ count → error (fault FULL at) ≡ startsFrom s cap (between 0 [])
+  along-full more full = value-full s (take count t) at more cap (omega (arith, a .long, length-take-le count t (a .fits))) ∙ a .leads
 
-    pub along-error : (f : Error) → r ≡ Err f → error (errors.told f) ≡ startsFrom s cap (between 0 [])
-    along-error f is = walk-error s cap here more (errors.told f) (rw is at at-cap) ∙ a .leads
+  module _ (free : count < length t) where
+    word : length (take count t) < cap
+    word = omega (arith, a .long, length-take-le count t (a .fits))
 
-  module _ (h : Head) (r : ScanResult) (told : scans.told r ≡ next s (length t) (take count t) pending at) (is : r ≡ Ok h) where
-    took : ok h ≡ next s cap (take count t) pending at
-    took = rw is at (at-cap r told)
+    module _ (r : PassResult) (told : PassesValue r s (take count t) at) where
+      pub along-error : (f : Error) → r ≡ passes-are.Err f → error (errors.told f) ≡ startsFrom s cap (between 0 [])
+      along-error f is = let e = told .0 cap word in rw is at e ∙ a .leads
 
-    pub along-less : length s - h .end < length s - at
-    along-less = let w = ahead s cap here h took in omega (arith, w .numbers, w .body, w .end)
+    module _ (end : ℕ) (r : PassResult) (told : PassesValue r s (take count t) at) (is : r ≡ passes-are.Ok end) where
+      along-ends : (at < end) × (end ≤ length s)
+      along-ends = let e = told .1 in let h : (at + 1 ≤ end) × (end ≤ length s) = rw is at e in (omega (arith, h .0), h .1)
 
-    pub along-room : Room s t start count
-    along-room =
-        let g = a .going in
-        let k = taken s cap (take count t) pending at h took in
-        let word : length (take count t) < cap = split 0 pending (g .room) (λ z. k .room (omega arith)) in
-        record { free = omega (arith, a .long, length-take-le count t (a .fits)); inside = omega (arith, g .start, g .inside) }
+      pub along-less : length s - end < length s - at
+      along-less = let h = along-ends in omega (arith, h .0, h .1)
 
-    -- the walk behind the token
-    module _ (w : Walk) (same : w ≡ passed here h) where
-      going-on : Going s cap w
-      going-on = rw same (passed-on s cap here h took (a .going))
+      -- the starts with the one of the value that is finished
+      words : take (count + 1) (set t count at) ≡ take count t ++ (at ∷ [])
+      words = rw add-one (take-suc-set t count at free)
 
-      leads-on : startsFrom s cap w ≡ startsFrom s cap (between 0 [])
-      leads-on = rw same (walk-token s cap here more h took ∙ a .leads)
+      pub along-finished : Along s (set t count at) cap end (count + 1)
+      along-finished = let h = along-ends in let e = told .0 cap word in record {
+        long = length-set t count at ∙ a .long;
+        fits = rw length-set (omega (arith, free));
+        going = rw words (going-finished s cap (between at (take count t)) (a .going) word end (h .0) (h .1));
+        leads = rw words (rw is at e ∙ a .leads);
+      }
 
-    pub along-open : (left : ℕ) → left ≡ due pending (h .items) → (left ≡ 0 → ⊥) → Along s t cap (h .end) start left count
-    unfolding passed
-    along-open left due pos =
-        let same : walkOn t (h .end) start left count ≡ passed here h = rw (← due, ne-eqb left 0 pos) in
-        record { long = a .long; fits = a .fits; going = going-on _ same; leads = leads-on _ same }
-
-    -- the starts with the one of the value that is finished
-    words : take (count + 1) (set t count start) ≡ take count t ++ (start ∷ [])
-    words = rw add-one (take-suc-set t count start (along-room .free))
-
-    pub along-finished : (left : ℕ) → left ≡ due pending (h .items) → left ≡ 0 → Along s (set t count start) cap (h .end) (h .end) left (count + 1)
-    unfolding passed
-    along-finished left due z =
-        let same : walkOn (set t count start) (h .end) (h .end) left (count + 1) ≡ passed here h = rw (← due, eq-eqb left 0 z, z, words) in
-        record {
-          long = length-set t count start ∙ a .long;
-          fits = rw length-set (omega (arith, along-room .free));
-          going = going-on _ same;
-          leads = leads-on _ same;
-        }
-
-    pub along-counts : (blocks : List ℕ) → length s ≤ LIMIT → Indexed s t blocks start count → Countable (set t count start) blocks start (count + 1) (h .end)
-    along-counts blocks short i =
-        let g = a .going in
-        let w = ahead s cap here h took in
-        let n = length-take-le count t (a .fits) in
-        let few : count ≤ start = split 0 count (λ p. omega (arith, rising-ge (take count t) (g .rising) (count - 1) (omega arith), g .below (count - 1) (omega arith))) (λ z. omega arith) in
-        record {
-          next = omega (arith, g .start, w .numbers, w .body);
-          last = omega (arith, w .end, i .long);
-          few = rw (words, length-append) (omega (arith, g .start, g .inside));
-          below = rw words (below-snoc (take count t) start _ (λ k b. omega (arith, g .below k b)) (omega arith));
-          counted = rw words (counted-snoc (take (start / BLOCK + 1) blocks) (take count t) start (omega (arith, length-take (start / BLOCK + 1) blocks)) (i .counted));
-        }
+      pub along-counts : (blocks : List ℕ) → length s ≤ LIMIT → Indexed s t blocks at count → Countable (set t count at) blocks at (count + 1) end
+      along-counts blocks short i =
+          let g = a .going in
+          let h = along-ends in
+          let n = length-take-le count t (a .fits) in
+          let few : count ≤ at = split 0 count (λ p. omega (arith, rising-ge (take count t) (g .rising) (count - 1) (omega arith), g .below (count - 1) (omega arith))) (λ z. omega arith) in
+          record {
+            next = omega (arith, h .0);
+            last = omega (arith, h .1, i .long);
+            few = rw (words, length-append) (omega (arith, g .inside));
+            below = rw words (below-snoc (take count t) at _ (λ k b. omega (arith, g .below k b)) (omega arith));
+            counted = rw words (counted-snoc (take (at / BLOCK + 1) blocks) (take count t) at (omega (arith, length-take (at / BLOCK + 1) blocks)) (i .counted));
+          }

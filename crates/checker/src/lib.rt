@@ -8,21 +8,27 @@ ghost use mathlib.Core.Bool.{not, _&&_};
 ghost use mathlib.Core.List.{[]};
 ghost use Prim.Native.Nat.{_*_, _≤_, _<_, _^_};
 ghost use lib.Dec.{eqb, leb};
-ghost use lib.ListN.{length, take, getD};
+ghost use lib.ListN.{length, getD};
 ghost use Rattle.prelude.specs.Answer.{ok, bind};
 ghost use Rattle.prelude.specs.Search.{Rising};
 ghost use Rattle.error.specs.Error.{LIMIT};
 ghost use Rattle.utf8.specs.Text.{isText};
 ghost use Rattle.table.specs.Blocks.{BLOCK, Counted};
 ghost use Rattle.scan.specs.Told as scans;
-ghost use Rattle.checker.specs.Check.{aimed, judge, between, next, due, startsFrom, entryAt, checkIn, checked, checkOf};
+ghost use Rattle.checker.specs.Check.{aimed, between, startsFrom, entryAt, checkIn, checked, checkOf};
 ghost use Rattle.checker.specs.Told.{toldCheck};
-ghost use Rattle.checker.specs.Stages.{toldList, Listed, toldIn, kept};
+ghost use Rattle.checker.specs.Stages.{PassesItems, PassesValue, toldList, Listed, toldIn, kept};
 
 // The answer of `check`.
 pub enum CheckResult {
     // How many values the file has, and the offset of its entry.
     Ok { count: usize, entry: usize },
+    Err(Error),
+}
+
+// The offset just after a value.
+enum PassResult {
+    Ok(usize),
     Err(Error),
 }
 
@@ -73,61 +79,65 @@ fn is_bad_target(starts: &[u32], blocks: &[u32], at: usize, h: Head) -> bool
     false
 }
 
-// The token of head h at `at`, after the values that begin at `starts`.
-fn judged(region: &[u8], starts: &[u32], blocks: &[u32], at: usize, h: Head) -> ScanResult
-    requires { ⌜ (h .first ≤ h .end) × (h .end ≤ length (now region)) × (Rising (now starts)) × (Counted (now blocks) (now starts)) × (at < 2 ^ 32) ⌝ }
-    ensures { λ r. ⌜ scans.told r ≡ judge (now (region .entry)) (now (starts .entry)) at h ⌝ }
-{
-    if is_bad_text(region, h) {
-        return ScanResult::Err(Error {
-            kind: ErrorKind::BadText,
-            place: at,
-        });
-    }
-    if is_bad_target(starts, blocks, at, h) {
-        return ScanResult::Err(Error {
-            kind: ErrorKind::BadTarget,
-            place: at,
-        });
-    }
-    ScanResult::Ok(h)
-}
-
-// The token at `at`, with the starts of the values before in the first `count` words of the table, counted by blocks.
-fn look(
-    region: &[u8],
-    starts: &[u32],
-    count: usize,
-    blocks: &[u32],
-    at: usize,
-    pending: u64,
-) -> ScanResult
-    requires { ⌜ (count ≤ length (now starts)) × (Rising (take count (now starts))) × (Counted (now blocks) (take count (now starts))) × (at < 2 ^ 32) ⌝ }
-    ensures { λ r. ⌜ scans.told r ≡ next (now (region .entry)) (length (now (starts .entry))) (take count (now (starts .entry))) pending at ⌝ }
-{
-    // FULL: a new value without a word
-    if (pending == 0) & (starts.len() <= count) {
-        return ScanResult::Err(Error {
-            kind: ErrorKind::Full,
-            place: at,
-        });
-    }
-    match scan::scan(region, at, 0 < pending) {
-        ScanResult::Ok(h) => judged(region, &starts[..count], blocks, at, h),
-        ScanResult::Err(e) => ScanResult::Err(e),
-    }
-}
-
 // ---- the walk
 
-// The items pending behind a token: its own where it begins a value, and else one less than before.
-fn due(pending: u64, items: u64) -> u64
-    ensures { λ r. ⌜ r ≡ due pending items ⌝ }
+// Passes so many items of a value, the first at `from`, after the values that begin at `starts`, counted by blocks. The answers are made here and
+// in `pass_value`: one handed on from a function for both costs more than the tests.
+fn pass_items(region: &[u8], starts: &[u32], blocks: &[u32], from: usize, items: u64) -> PassResult
+    requires { ⌜ (Rising (now starts)) × (Counted (now blocks) (now starts)) × (from ≤ length (now region)) × (length (now region) ≤ LIMIT) ⌝ }
+    ensures { λ r. ⌜ PassesItems r (now (region .entry)) (now (starts .entry)) from items ⌝ }
 {
-    if pending == 0 {
-        return items;
+    let mut at = from;
+    let mut pending = items;
+    while 0 < pending {
+        match scan::scan(region, at, true) {
+            ScanResult::Ok(h) => {
+                if is_bad_text(region, h) {
+                    return PassResult::Err(Error {
+                        kind: ErrorKind::BadText,
+                        place: at,
+                    });
+                }
+                if is_bad_target(starts, blocks, at, h) {
+                    return PassResult::Err(Error {
+                        kind: ErrorKind::BadTarget,
+                        place: at,
+                    });
+                }
+                at = h.end;
+                pending = pending - 1;
+            }
+            ScanResult::Err(e) => {
+                return PassResult::Err(e);
+            }
+        }
     }
-    pending - 1
+    PassResult::Ok(at)
+}
+
+// Passes the value at `at` with its items, after the values that begin at `starts`, counted by blocks.
+fn pass_value(region: &[u8], starts: &[u32], blocks: &[u32], at: usize) -> PassResult
+    requires { ⌜ (Rising (now starts)) × (Counted (now blocks) (now starts)) × (at < length (now region)) × (length (now region) ≤ LIMIT) ⌝ }
+    ensures { λ r. ⌜ PassesValue r (now (region .entry)) (now (starts .entry)) at ⌝ }
+{
+    match scan::scan(region, at, false) {
+        ScanResult::Ok(h) => {
+            if is_bad_text(region, h) {
+                return PassResult::Err(Error {
+                    kind: ErrorKind::BadText,
+                    place: at,
+                });
+            }
+            if is_bad_target(starts, blocks, at, h) {
+                return PassResult::Err(Error {
+                    kind: ErrorKind::BadTarget,
+                    place: at,
+                });
+            }
+            pass_items(region, starts, blocks, h.end, h.items)
+        }
+        ScanResult::Err(e) => PassResult::Err(e),
+    }
 }
 
 // Lists the starts of a region's values in the first words of the table, and counts them by blocks of the region.
@@ -136,31 +146,30 @@ fn walk(region: &[u8], starts: &mut [u32], blocks: &mut [u32]) -> ListResult
     ensures { λ r. ⌜ (toldList r (now (starts .exit)) ≡ startsFrom (now (region .entry)) (length (now (starts .entry))) (between 0 [])) × (Listed r (now (starts .exit))) ⌝ }
 {
     let mut at: usize = 0;
-    let mut start: usize = 0;
-    let mut pending: u64 = 0;
     let mut count: usize = 0;
-    loop {
-        if (pending == 0) & (region.len() <= at) {
-            return ListResult::Ok(count);
+    while at < region.len() {
+        // FULL: a new value without a word
+        if starts.len() <= count {
+            return ListResult::Err(Error {
+                kind: ErrorKind::Full,
+                place: at,
+            });
         }
-        // the blocks that begin at most at `start` are counted
-        let known = start / 4096 + 1;
-        match look(region, starts, count, &blocks[..known], at, pending) {
-            ScanResult::Ok(h) => {
-                at = h.end;
-                pending = due(pending, h.items);
-                if pending == 0 {
-                    starts[count] = start as u32;
-                    count = count + 1;
-                    table::count_blocks(&starts[..count], blocks, known, at / 4096);
-                    start = at;
-                }
+        // the blocks that begin at most at `at` are counted
+        let known = at / 4096 + 1;
+        match pass_value(region, &starts[..count], &blocks[..known], at) {
+            PassResult::Ok(end) => {
+                starts[count] = at as u32;
+                count = count + 1;
+                table::count_blocks(&starts[..count], blocks, known, end / 4096);
+                at = end;
             }
-            ScanResult::Err(e) => {
+            PassResult::Err(e) => {
                 return ListResult::Err(e);
             }
         }
     }
+    ListResult::Ok(count)
 }
 
 // Lists the starts of a region's values in the first words of the table. A short region has few blocks: for a small file, the zeros of the
