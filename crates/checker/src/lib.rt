@@ -90,7 +90,7 @@ fn pass_items(region: &[u8], starts: &[u32], blocks: &[u32], from: usize, items:
     let mut at = from;
     let mut pending = items;
     while 0 < pending {
-        match scan::scan(region, at, true) {
+        match scan::scan_item(region, at) {
             ScanResult::Ok(h) => {
                 if is_bad_text(region, h) {
                     return PassResult::Err(Error {

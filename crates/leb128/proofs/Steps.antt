@@ -1,19 +1,20 @@
 -- How `get` goes, as the code takes it: by a list that is known by its first element, with the bytes left counted.
 --
--- In order: each way through `get_from`; what is read has room for the bits below it; a number of one byte.
+-- In order: each way through `get_from`; what is read has room for the bits below it; a number of one byte, and of two.
 use mathlib.Core.Path.{_≡_, refl, ap}
-use mathlib.Core.Bool.{Bool, true, false}
+use mathlib.Core.Bool.{Bool, true, false, _&&_}
 use mathlib.Core.List.{List, [], _∷_}
 use Prim.Native.Nat.{ℕ, zero, suc, _-_, _*_, _+_, _%_, _^_, _<_, _≤_}
-use native.Mathlib.Nat.{one-le-pow, pow-le-pow-right}
+use native.Mathlib.Nat.{one-le-pow, pow-le-pow-right, mod-eq-of-lt}
 use native.Mathlib.Numerals.{sub-one}
 use native.Mathlib.Omega.{arith}
 use lib.Dec.{ltb, leb, lit<}
-use lib.ListN.{length, getD, drop}
-use borrow.Author.Tests.{lt-ltb, le-ltb}
+use lib.ListN.{length, getD, drop, length-drop}
+use lib.Seq.{getD-drop}
+use borrow.Author.Tests.{lt-ltb, le-ltb, le-leb, ltb-true}
 use Rattle.prelude.specs.Pick.{pick}
 use Rattle.prelude.specs.Answer.{Answer, Res, got, bad, then, ok, error, measured}
-use Rattle.prelude.proofs.Tests.{split}
+use Rattle.prelude.proofs.Tests.{split, and-l, and-r}
 use Rattle.prelude.proofs.Readers.{measured-guard, measured-ok}
 use Rattle.error.specs.Error.{TRUNC, OVERLONG}
 use Rattle.leb128.specs.Leb.{get}
@@ -64,6 +65,30 @@ last-small least b left (Ok n l) e = go (leb least b) e
     go false e = let z : _≡_ {A = ℕ} 0 1 = cc in absurd (omega arith)
 last-small least b left (Err f) e = omega arith
 
--- a number of one byte
-pub get-one : (s : List ℕ) → 8 ≤ length s → getD s 0 0 < 128 → last 0 (getD s 0 0) (length s - 1) ≡ measured (get 9 0 s)
-get-one s long h = rw (get-step 9 0 s (λ e. omega arith) (λ e. omega arith), lt-ltb _ _ h)
+-- ---- a number of one byte, and of two
+
+module _ (s : List ℕ) (long : 2 ≤ length s) where
+  pub get-one : getD s 0 0 < 128 → last 0 (getD s 0 0) (length s - 1) ≡ measured (get 9 0 s)
+  get-one h = rw (get-step 9 0 s (λ e. omega arith) (λ e. omega arith), lt-ltb _ _ h)
+
+  pub get-two : 128 ≤ getD s 0 0 → ltb 0 (getD s 1 0) && ltb (getD s 1 0) 128 ≡ true
+      → ok (getD s 0 0 % 128 + 128 * (getD s 1 0 % 128), length s - 2) ≡ measured (get 9 0 s)
+  unfolding last
+  get-two h e =
+      let pos : 0 < getD s 1 0 = ltb-true _ _ (and-l _ _ e) in
+      let small : getD s 1 0 < 128 = ltb-true _ _ (and-r (ltb 0 (getD s 1 0)) _ e) in
+      let second : getD (drop 1 s) 0 0 ≡ getD s 1 0 = getD-drop 1 s 0 0 in
+      let behind : length (drop 1 s) ≡ length s - 1 = length-drop 1 s in
+      let left : length s - 1 - 1 ≡ length s - 2 = omega arith in
+      let own : getD s 1 0 % 128 ≡ getD s 1 0 = mod-eq-of-lt small in
+      rw (
+        get-step 9 0 s (λ z. omega arith) (λ z. omega arith),
+        le-ltb _ _ h,
+        get-step 8 1 (drop 1 s) (λ z. omega arith) (λ z. omega arith),
+        second,
+        lt-ltb _ _ small,
+        behind,
+        left,
+        own,
+        le-leb 1 _ pos,
+      )

@@ -83,8 +83,8 @@ fn get_from(s: &[u8], k: usize, least: u8) -> GetResult
     with_low((b % 128) as u64, 128, get_from(&s[1..], k - 1, 1))
 }
 
-// Reads the number at the front of s, byte by byte. For numbers that are rare: `get` is faster, and larger where it is compiled in.
-pub fn get_any(s: &[u8]) -> GetResult
+// Reads the number at the front of s, byte by byte.
+fn get_any(s: &[u8]) -> GetResult
     ensures { λ r. ⌜ told r ≡ measured (get 9 0 (now (s .entry))) ⌝ }
 {
     get_from(s, 9, 0)
@@ -126,18 +126,14 @@ fn sevens(w: u64) -> u64
     sevens4(w) + 0x1000_0000 * sevens4(w / 256 / 256 / 256 / 256)
 }
 
-// Reads the number at the front of s. One of up to seven bytes with no fault is read here, eight bytes at once and with no guess at how
-// many are its own.
-pub fn get(s: &[u8]) -> GetResult
+// Reads the number at the front of s. One of up to seven bytes with no fault is read eight bytes at once, with no guess at how many are its own.
+// For numbers that are rare or long: `get` is compiled into its callers, this is called.
+pub fn get_wide(s: &[u8]) -> GetResult
     ensures { λ r. ⌜ told r ≡ measured (get 9 0 (now (s .entry))) ⌝ }
 {
     let len = s.len();
     if len < 8 {
         return get_any(s);
-    }
-    let a = s[0];
-    if a < 128 {
-        return last_byte(a, 0, len - 1);
     }
     let w = float::bits8(s);
     // the last byte is the first without its high bit
@@ -156,6 +152,28 @@ pub fn get(s: &[u8]) -> GetResult
         value: sevens(own),
         left: len - (end / 8) as usize,
     }
+}
+
+// Reads the number at the front of s. One of one or two bytes is read here, which is short enough to be compiled into its callers.
+pub fn get(s: &[u8]) -> GetResult
+    ensures { λ r. ⌜ told r ≡ measured (get 9 0 (now (s .entry))) ⌝ }
+{
+    let len = s.len();
+    if len < 2 {
+        return get_any(s);
+    }
+    let a = s[0];
+    if a < 128 {
+        return last_byte(a, 0, len - 1);
+    }
+    let b = s[1];
+    if (0 < b) & (b < 128) {
+        return GetResult::Ok {
+            value: (a % 128) as u64 + 128 * (b % 128) as u64,
+            left: len - 2,
+        };
+    }
+    get_wide(s)
 }
 
 // How many bytes n takes.

@@ -32,19 +32,19 @@ pass-items-spec =
     (λ c. (λ cap start. refl, omega arith, search needs))
     (λ c κs. search needs)
     (λ c. search needs)
-    (λ c κs. let w = scan-within _ _ _ _ (rw (c .before .h .given .1) at (c .before .before .before .scan .ensures)) in (w .body, w .end))
+    (λ c κs. let w = scan-within _ _ _ _ (rw (c .before .h .given .1) at (c .before .before .before .scan-item .ensures)) in (w .body, w .end))
     (λ c. let b = c .before in
     let h = b .before .before in
     let s = h .before .before in
     let l = s .before .before in
-    let e = token-bad-text _ _ (done l) _ _ (s .scan .ensures) _ (h .h .given .1) _ (b .is-bad-text .ensures) (c .if1 .taken) in
+    let e = token-bad-text _ _ (done l) _ _ (s .scan-item .ensures) _ (h .h .given .1) _ (b .is-bad-text .ensures) (c .if1 .taken) in
     (λ cap start. item-error _ _ _ _ (s .before .loop-test .taken) cap start _ e ∙ l .loop .inv .0 cap start, tt))
     (λ c κs. search needs)
     (λ c. let g = c .before .before in
     let b = g .before in
     let h = b .before .before in
     let s = h .before .before in
-    let e = token-bad-target _ _ _ _ _ (s .scan .ensures) _ (h .h .given .1) _ (b .is-bad-text .ensures) (g .if1 .left) _ (c .before .is-bad-target .ensures) (c .if2 .taken) in
+    let e = token-bad-target _ _ _ _ _ (s .scan-item .ensures) _ (h .h .given .1) _ (b .is-bad-text .ensures) (g .if1 .left) _ (c .before .is-bad-target .ensures) (c .if2 .taken) in
     (λ cap start. item-error _ _ _ _ (s .before .loop-test .taken) cap start _ e ∙ s .before .before .loop .inv .0 cap start, tt))
     (λ c. search needs)
     (λ c. search needs)
@@ -53,13 +53,13 @@ pass-items-spec =
     let h = b .before .before in
     let s = h .before .before in
     let i = s .before .before .loop .inv in
-    let e = token-taken _ _ _ _ _ (s .scan .ensures) _ (h .h .given .1) _ (b .is-bad-text .ensures) (g .if1 .left) _ (c .before .is-bad-target .ensures) (c .if2 .left) in
-    let w = scan-within _ _ _ _ (rw (h .h .given .1) at (s .scan .ensures)) in
+    let e = token-taken _ _ _ _ _ (s .scan-item .ensures) _ (h .h .given .1) _ (b .is-bad-text .ensures) (g .if1 .left) _ (c .before .is-bad-target .ensures) (c .if2 .left) in
+    let w = scan-within _ _ _ _ (rw (h .h .given .1) at (s .scan-item .ensures)) in
     (λ cap start. item-on _ _ _ _ (s .before .loop-test .taken) cap start _ e ∙ i .0 cap start, omega (arith, i .1, w .numbers, w .body), w .end))
     (λ c. search needs)
     (λ c. let s = c .before .before .before in
     let l = s .before .before in
-    let e = token-unscanned _ _ (done l) _ _ (s .scan .ensures) _ (c .before .e .given .1) in
+    let e = token-unscanned _ _ (done l) _ _ (s .scan-item .ensures) _ (c .before .e .given .1) in
     (λ cap start. item-error _ _ _ _ (s .before .loop-test .taken) cap start _ e ∙ l .loop .inv .0 cap start, tt))
     (λ c. let l = c .before in
     (λ cap start. items-end _ (done l) _ _ (c .loop-test .left) cap start ∙ l .loop .inv .0 cap start, (l .loop .inv .1, l .loop .inv .2))))

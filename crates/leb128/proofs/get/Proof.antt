@@ -1,11 +1,7 @@
--- `leb128::get` meets its contract: one byte, several at once, and all others as `get_any` reads them.
-use native.Mathlib.Omega.{arith}
+-- `leb128::get` meets its contract: one byte, two, and all others as `get_wide` reads them.
 use borrow.Author.Needs.{needs}
-use Prim.Native.Nat.{_+_}
-use lib.Count.{trailingZeros}
-use lib.Pow.{pow-pos}
-use Rattle.leb128.proofs.Steps.{get-one}
-use Rattle.leb128.proofs.Words.{unit-is, get-at-once}
+use native.Mathlib.Omega.{arith}
+use Rattle.leb128.proofs.Steps.{get-one, get-two}
 use Rattle.leb128.proofs.get.Statement.{statement}
 use Rattle.leb128.proofs.get.Tie as tie
 
@@ -19,19 +15,11 @@ get-spec =
     (λ c. search needs)
     (λ c κs. search needs)
     (λ c. search (needs, get-one, c .last-byte .ensures))
+    (λ c. search needs)
+    (λ c. search needs)
+    (λ c. search needs)
+    (λ c. search needs)
+    (λ c. search needs)
+    (λ c. search (needs, get-two))
     (λ c κs. search needs)
-    (λ c κs. search needs)
-    (λ c κs. search needs)
-    (λ c. search needs)
-    (λ c. search needs)
-    (λ c. search needs)
-    (λ c. search needs)
-    (λ c. rw (unit-is (trailingZeros 64 (c .before .marks .result)) (omega arith)) (pow-pos (trailingZeros 64 (c .before .marks .result) + 1)))
-    (λ c κs. search needs)
-    (λ c. search needs)
-    (λ c κs. search needs)
-    (λ c. search needs)
-    (λ c. search needs)
-    (λ c.
-    let a = c .before .before .before .before .before .before .before .before in
-    get-at-once _ (a .shared-slice-known .given) (omega arith) (c .before .before .before .before .bits8 .ensures) (c .before .before .before .marks .ensures) (omega arith) (omega arith) (c .sevens .ensures)))
+    (λ c. search needs))

@@ -47,12 +47,12 @@ number w = first (read w) _ (w .before .value .given .1)
 left-lt : (w : tie.After-known-told) → left w < 2 ^ 63
 left-lt w = omega (arith, number w .short, start (read w) .good .0 .1)
 
-second : (c : tie.After-get-any) (x : GetResult) → c .get-any .result ≡ x → let w = c .before .before .before in
+second : (c : tie.After-get-wide) (x : GetResult) → c .get-wide .result ≡ x → let w = c .before .before .before in
     let a = start (read w) .args in
     Counted (a .inner) (a .region .now) (a .at) (getD (a .region .now) (a .at) 0 / 16) (n w) x
 second c x is =
     let e = c .before .before in
-    scan-second (number (e .before)) (e .if4 .taken) (c .get-any .result) x (rw part-from at (c .get-any .ensures)) is
+    scan-second (number (e .before)) (e .if4 .taken) (c .get-wide .result) x (rw part-from at (c .get-wide .ensures)) is
 
 -- the place behind n, where no second number is
 abbrev alone : tie.After-has-room → tie.Else4
