@@ -6,6 +6,7 @@ ghost use Prim.Native.Nat.{_+_, _-_, _≤_, _<_, min};
 ghost use lib.ListN.{length};
 ghost use Rattle.prelude.specs.Bytes.{stored};
 ghost use Rattle.prelude.proofs.Parts.{Put, PutAt};
+ghost use Rattle.kind.specs.Kind.{rule};
 ghost use Rattle.token.specs.Token.{token, putIf, emit, emitInto};
 
 // What a number n has beyond the low nibble.
@@ -76,24 +77,23 @@ fn put_body(out: &mut [u8], at: usize, body: &[u8]) -> usize
     at + copy(&mut out[at..], body)
 }
 
-// Writes the header and its numbers, which have room, and answers how many bytes that took.
-pub fn put_head(out: &mut [u8], kind: u8, n: u64, args: u64) -> usize
-    requires { ⌜ (kind < 16) × (length (emit (token kind n args [])) ≤ length (now out)) ⌝ }
+// Writes the header and its numbers, which have room, and answers how many bytes that took; `second` tells whether the kind has a second number.
+pub fn put_head(out: &mut [u8], kind: u8, n: u64, second: bool, args: u64) -> usize
+    requires { ⌜ (kind < 16) × (second ≡ rule kind .args) × (length (emit (token kind n args [])) ≤ length (now out)) ⌝ }
     ensures { λ r. ⌜ Put (emit (token kind n args [])) (now (out .entry)) (now (out .exit)) r ⌝ }
 {
-    let rule = kind::rule_of(kind);
     let more = excess(n);
     out[0] = kind * 16 + nibble(n);
     let number = put_if(out, 1, 15 <= n, more);
-    put_if(out, number, rule.args, args)
+    put_if(out, number, second, args)
 }
 
 // Writes a token, which has room: the header, its number, the second number, the body. Answers how many bytes that took.
-pub fn put_within(out: &mut [u8], kind: u8, n: u64, args: u64, body: &[u8]) -> usize
-    requires { ⌜ (kind < 16) × (length (emit (token kind n args (now body))) ≤ length (now out)) ⌝ }
+pub fn put_within(out: &mut [u8], kind: u8, n: u64, second: bool, args: u64, body: &[u8]) -> usize
+    requires { ⌜ (kind < 16) × (second ≡ rule kind .args) × (length (emit (token kind n args (now body))) ≤ length (now out)) ⌝ }
     ensures { λ r. ⌜ Put (emit (token kind n args (now (body .entry)))) (now (out .entry)) (now (out .exit)) r ⌝ }
 {
-    let head = put_head(out, kind, n, args);
+    let head = put_head(out, kind, n, second, args);
     put_body(out, head, body)
 }
 
@@ -108,5 +108,6 @@ pub fn put(rest: &mut [u8], kind: u8, n: u64, args: u64, body: &[u8]) -> usize
     if rest.len() < size(kind, n, args, body) {
         return 0;
     }
-    put_within(rest, kind, n, args, body)
+    let rule = kind::rule_of(kind);
+    put_within(rest, kind, n, rule.args, args, body)
 }

@@ -49,6 +49,8 @@ struct Ask {
     good: bool,
     // Whether it is written.
     fits: bool,
+    // Whether its kind has a second number.
+    second: bool,
     // Its bytes.
     size: usize,
     // The items then pending; its own, where it has more than LIMIT, are LIMIT.
@@ -156,9 +158,11 @@ impl Writer {
             self.start,
             starts.len(),
         );
+        let rule = kind::rule_of(kind);
         Ask {
             good,
             fits: good & ready & !short,
+            second: rule.args,
             size,
             left,
         }
@@ -239,7 +243,7 @@ impl Writer {
     {
         if ask.fits {
             let written = self.written;
-            emit::put_head(&mut out[written..], kind, n, args);
+            emit::put_head(&mut out[written..], kind, n, ask.second, args);
             return WriteResult {
                 writer: self.advance(ask, starts),
                 answer: WriteAnswer::Ok,
@@ -263,7 +267,7 @@ impl Writer {
     {
         if ask.fits {
             let written = self.written;
-            emit::put_within(&mut out[written..], kind, n, 0, body);
+            emit::put_within(&mut out[written..], kind, n, ask.second, 0, body);
             return WriteResult {
                 writer: self.advance(ask, starts),
                 answer: WriteAnswer::Ok,

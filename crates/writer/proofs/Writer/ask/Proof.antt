@@ -1,5 +1,5 @@
 -- `writer::Writer::ask` meets its contract.
-use mathlib.Core.Path.{_∙_}
+use mathlib.Core.Path.{refl}
 use borrow.Author.Needs.{needs}
 use Rattle.token.specs.Token.{token}
 use Rattle.writer.proofs.Room.{room-limit}
@@ -15,7 +15,9 @@ ask-spec =
     (λ c κs. search needs)
     (λ c κs. search needs)
     (λ c κs. search needs)
-    (λ c. let h = c .before .before in
+    (λ c κs. search needs)
+    (λ c. let r = c .before in
+    let h = r .before .before in
     let l = h .before in
     let z = l .before in
     let s = z .before .before .before .before in
@@ -24,13 +26,14 @@ ask-spec =
       kind = s .pre .0;
       good = s .pre .1;
       fits = rw (
-        c .is-ready .ensures,
-        c .before .is-opening .ensures,
+        r .is-ready .ensures,
+        r .before .is-opening .ensures,
         h .is-short .ensures,
         l .left .ensures,
         z .size .ensures,
         room-limit (a .self) (token (a .kind) (a .n) (a .args) (a .body .now)) _,
       );
+      second = rw (c .rule-of .ensures) refl;
       size = z .size .ensures;
       left = l .left .ensures;
     }))
