@@ -1,8 +1,10 @@
 // One token written: how many bytes it takes, and its bytes put into a borrowed tail. The token is not judged: what its kind does not
 // allow is written as it stands, and need not read back; `args` counts for a kind with a second number alone.
+use kind::Rule;
 ghost use mathlib.Core.Path.{_≡_};
 ghost use mathlib.Core.List.{[]};
 ghost use Prim.Native.Nat.{_+_, _-_, _≤_, _<_, min};
+ghost use lib.Dec.{leb};
 ghost use lib.ListN.{length};
 ghost use Rattle.prelude.specs.Bytes.{stored};
 ghost use Rattle.prelude.proofs.Parts.{Put, PutAt};
@@ -39,12 +41,18 @@ fn size_if(wanted: bool, n: u64) -> usize
     0
 }
 
+// How many bytes a token takes of a kind with this rule.
+pub fn size_by(rule: Rule, n: u64, args: u64, body: &[u8]) -> usize
+    ensures { λ r. ⌜ r ≡ 1 + length (putIf (leb 15 n) (n - 15)) + length (putIf (rule .args) args) + length (now (body .entry)) ⌝ }
+{
+    1 + size_if(15 <= n, excess(n)) + size_if(rule.args, args) + body.len()
+}
+
 // How many bytes a token takes; of a kind over 15, which `put` does not write, as many as a reserved one.
 pub fn size(kind: u8, n: u64, args: u64, body: &[u8]) -> usize
     ensures { λ r. ⌜ r ≡ length (emit (token kind n args (now (body .entry)))) ⌝ }
 {
-    let rule = kind::rule_of(kind);
-    1 + size_if(15 <= n, excess(n)) + size_if(rule.args, args) + body.len()
+    size_by(kind::rule_of(kind), n, args, body)
 }
 
 // Writes a number that is there where `wanted` is true into out from at on, and answers the offset after it.
