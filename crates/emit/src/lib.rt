@@ -1,11 +1,14 @@
 // One token written: how many bytes it takes, and its bytes put into a borrowed tail. The token is not judged: what its kind does not
 // allow is written as it stands, and need not read back; `args` counts for a kind with a second number alone.
+use kind::Rule;
 ghost use mathlib.Core.Path.{_≡_};
 ghost use mathlib.Core.List.{[]};
 ghost use Prim.Native.Nat.{_+_, _-_, _≤_, _<_, min};
+ghost use lib.Dec.{leb};
 ghost use lib.ListN.{length};
 ghost use Rattle.prelude.specs.Bytes.{stored};
 ghost use Rattle.prelude.proofs.Parts.{Put, PutAt};
+ghost use Rattle.kind.specs.Kind.{rule};
 ghost use Rattle.token.specs.Token.{token, putIf, emit, emitInto};
 
 // What a number n has beyond the low nibble.
@@ -38,12 +41,18 @@ fn size_if(wanted: bool, n: u64) -> usize
     0
 }
 
+// How many bytes a token takes of a kind with this rule.
+pub fn size_by(rule: Rule, n: u64, args: u64, body: &[u8]) -> usize
+    ensures { λ r. ⌜ r ≡ 1 + length (putIf (leb 15 n) (n - 15)) + length (putIf (rule .args) args) + length (now (body .entry)) ⌝ }
+{
+    1 + size_if(15 <= n, excess(n)) + size_if(rule.args, args) + body.len()
+}
+
 // How many bytes a token takes; of a kind over 15, which `put` does not write, as many as a reserved one.
 pub fn size(kind: u8, n: u64, args: u64, body: &[u8]) -> usize
     ensures { λ r. ⌜ r ≡ length (emit (token kind n args (now (body .entry)))) ⌝ }
 {
-    let rule = kind::rule_of(kind);
-    1 + size_if(15 <= n, excess(n)) + size_if(rule.args, args) + body.len()
+    size_by(kind::rule_of(kind), n, args, body)
 }
 
 // Writes a number that is there where `wanted` is true into out from at on, and answers the offset after it.
@@ -76,24 +85,23 @@ fn put_body(out: &mut [u8], at: usize, body: &[u8]) -> usize
     at + copy(&mut out[at..], body)
 }
 
-// Writes the header and its numbers, which have room, and answers how many bytes that took.
-pub fn put_head(out: &mut [u8], kind: u8, n: u64, args: u64) -> usize
-    requires { ⌜ (kind < 16) × (length (emit (token kind n args [])) ≤ length (now out)) ⌝ }
+// Writes the header and its numbers, which have room, and answers how many bytes that took; `second` tells whether the kind has a second number.
+pub fn put_head(out: &mut [u8], kind: u8, n: u64, second: bool, args: u64) -> usize
+    requires { ⌜ (kind < 16) × (second ≡ rule kind .args) × (length (emit (token kind n args [])) ≤ length (now out)) ⌝ }
     ensures { λ r. ⌜ Put (emit (token kind n args [])) (now (out .entry)) (now (out .exit)) r ⌝ }
 {
-    let rule = kind::rule_of(kind);
     let more = excess(n);
     out[0] = kind * 16 + nibble(n);
     let number = put_if(out, 1, 15 <= n, more);
-    put_if(out, number, rule.args, args)
+    put_if(out, number, second, args)
 }
 
 // Writes a token, which has room: the header, its number, the second number, the body. Answers how many bytes that took.
-pub fn put_within(out: &mut [u8], kind: u8, n: u64, args: u64, body: &[u8]) -> usize
-    requires { ⌜ (kind < 16) × (length (emit (token kind n args (now body))) ≤ length (now out)) ⌝ }
+pub fn put_within(out: &mut [u8], kind: u8, n: u64, second: bool, args: u64, body: &[u8]) -> usize
+    requires { ⌜ (kind < 16) × (second ≡ rule kind .args) × (length (emit (token kind n args (now body))) ≤ length (now out)) ⌝ }
     ensures { λ r. ⌜ Put (emit (token kind n args (now (body .entry)))) (now (out .entry)) (now (out .exit)) r ⌝ }
 {
-    let head = put_head(out, kind, n, args);
+    let head = put_head(out, kind, n, second, args);
     put_body(out, head, body)
 }
 
@@ -108,5 +116,6 @@ pub fn put(rest: &mut [u8], kind: u8, n: u64, args: u64, body: &[u8]) -> usize
     if rest.len() < size(kind, n, args, body) {
         return 0;
     }
-    put_within(rest, kind, n, args, body)
+    let rule = kind::rule_of(kind);
+    put_within(rest, kind, n, rule.args, args, body)
 }

@@ -1,8 +1,9 @@
 // What a token asks for, and why a call is refused (document 01, "Writer"), on the plain numbers of a writer's state.
 use error::ErrorKind;
+use kind::Rule;
 ghost use mathlib.Core.Path.{_≡_};
 ghost use mathlib.Core.Bool.{not, _&&_, _||_};
-ghost use Prim.Native.Nat.{_+_, _-_, min};
+ghost use Prim.Native.Nat.{_+_, _-_, _≤_, min};
 ghost use lib.Dec.{eqb, ltb, leb};
 ghost use Rattle.prelude.specs.Pick.{pick};
 ghost use Rattle.error.specs.Error.{LIMIT, numberOf};
@@ -29,19 +30,20 @@ fn end(bytes: usize) -> usize
 }
 
 // How many items a token has, or LIMIT where they are more: map(2^63) has 2^64.
-fn items(kind: u8, n: u64, args: u64) -> u64
-    ensures { λ r. ⌜ r ≡ min (pending (rule kind) n args) LIMIT ⌝ }
+fn items(rule: Rule, n: u64, args: u64) -> u64
+    requires { ⌜ (rule .single ≤ 1) × (rule .each ≤ 4) ⌝ }
+    ensures { λ r. ⌜ r ≡ min (pending rule n args) LIMIT ⌝ }
 {
-    let rule = kind::rule_of(kind);
     limit(rule.single + rule.each * limit(n) + limit(args))
 }
 
 // The items pending behind a token: its own, or LIMIT where they are more, where it begins a value, and else one less than before.
-pub fn left(before: u64, kind: u8, n: u64, args: u64) -> u64
-    ensures { λ r. ⌜ r ≡ pick (eqb before 0) (min (pending (rule kind) n args) LIMIT) (before - 1) ⌝ }
+pub fn left(before: u64, rule: Rule, n: u64, args: u64) -> u64
+    requires { ⌜ (rule .single ≤ 1) × (rule .each ≤ 4) ⌝ }
+    ensures { λ r. ⌜ r ≡ pick (eqb before 0) (min (pending rule n args) LIMIT) (before - 1) ⌝ }
 {
     if before == 0 {
-        return items(kind, n, args);
+        return items(rule, n, args);
     }
     before - 1
 }

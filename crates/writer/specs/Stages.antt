@@ -21,6 +21,7 @@ use Rattle.prelude.specs.Pick.{pick}
 use Rattle.prelude.specs.Answer.{ok, error}
 use Rattle.error.specs.Error.{LIMIT}
 use Rattle.utf8.specs.Text.{isText}
+use Rattle.kind.specs.Kind.{rule}
 use Rattle.token.specs.Token.{Token, token, emit}
 use Rattle.judge.specs.Refusal.{refusal}
 use Rattle.writer.specs.Step.{opens, isListed, limit, room, pendingOf, due, judge, judgeDelta, startOf, Result, result, shut, writeShut, settled}
@@ -49,6 +50,7 @@ pub record Asked (t : Token) (x : ℕ) (s : Writer) (out table : List ℕ) (r : 
   pub kind : t .kind < 16
   pub good : Good (r .good) (t .kind) (t .body) x s table
   pub fits : r .fits ≡ r .good && ready (opens t) s (length table) && not (ltb (room s (length out)) (need t s))
+  pub second : r .second ≡ rule (t .kind) .args
   pub size : r .size ≡ length (emit t)
   pub left : r .left ≡ due (s .pending) (limit (pendingOf t))
 

@@ -1,5 +1,6 @@
 // The writer's calls (document 01, "Writer").
 use error::ErrorKind;
+use kind::Rule;
 ghost use mathlib.Core.Path.{_≡_};
 ghost use mathlib.Core.Bool.{true, not, _&&_};
 ghost use mathlib.Core.List.{[]};
@@ -49,6 +50,8 @@ struct Ask {
     good: bool,
     // Whether it is written.
     fits: bool,
+    // Whether its kind has a second number.
+    second: bool,
     // Its bytes.
     size: usize,
     // The items then pending; its own, where it has more than LIMIT, are LIMIT.
@@ -128,10 +131,11 @@ impl Writer {
         listing::lists(&starts[..count], at as u32)
     }
 
-    // What a token asks for that names the offset `target`; `good` tells of its text or target.
+    // What a token asks for that names the offset `target`; `good` tells of its text or target, `row` is the rule of its kind.
     fn ask(
         self,
         good: bool,
+        row: Rule,
         kind: u8,
         n: u64,
         args: u64,
@@ -140,15 +144,15 @@ impl Writer {
         out: &[u8],
         starts: &[u32],
     ) -> Ask
-        requires { ⌜ (kind < 16) × Good good kind (now body) target self (now starts) ⌝ }
+        requires { ⌜ (kind < 16) × (row ≡ rule kind) × Good good kind (now body) target self (now starts) ⌝ }
         ensures { λ r. ⌜ Asked (token kind n args (now (body .entry))) target self (now (out .entry)) (now (starts .entry)) r ⌝ }
     {
-        let size = emit::size(kind, n, args, body);
-        let left = judge::left(self.pending, kind, n, args);
+        let size = emit::size_by(row, n, args, body);
+        let left = judge::left(self.pending, row, n, args);
         let short = judge::is_short(self.written, size, left, out.len());
-        let alone = judge::is_opening(kind);
+        let immediate = kind::is_immediate(row);
         let ready = judge::is_ready(
-            alone,
+            !immediate,
             self.closed,
             self.written,
             self.count,
@@ -159,6 +163,7 @@ impl Writer {
         Ask {
             good,
             fits: good & ready & !short,
+            second: row.args,
             size,
             left,
         }
@@ -239,7 +244,7 @@ impl Writer {
     {
         if ask.fits {
             let written = self.written;
-            emit::put_head(&mut out[written..], kind, n, args);
+            emit::put_head(&mut out[written..], kind, n, ask.second, args);
             return WriteResult {
                 writer: self.advance(ask, starts),
                 answer: WriteAnswer::Ok,
@@ -263,7 +268,7 @@ impl Writer {
     {
         if ask.fits {
             let written = self.written;
-            emit::put_within(&mut out[written..], kind, n, 0, body);
+            emit::put_within(&mut out[written..], kind, n, ask.second, 0, body);
             return WriteResult {
                 writer: self.advance(ask, starts),
                 answer: WriteAnswer::Ok,
@@ -333,7 +338,8 @@ impl Writer {
         if 0 < self.pending {
             return self.refuse(true, true, false, !good, out.len(), starts.len());
         }
-        let ask = self.ask(good, 15, back, 0, b"", at, out, starts);
+        let rule = kind::rule_of(15);
+        let ask = self.ask(good, rule, 15, back, 0, b"", at, out, starts);
         let r = self.put(ask, 15, back, 0, at, out, starts);
         let answer = r.answer;
         let next = r.writer;
@@ -370,8 +376,9 @@ impl Writer {
     pub fn scalar(self, value: Scalar, out: &mut [u8], starts: &mut [u32]) -> WriteResult
         ensures { λ r. ⌜ wrote r (now (out .exit)) (now (starts .exit)) ≡ step (Call.scalar value) self (now (out .entry)) (now (starts .entry)) ⌝ }
     {
+        let rule = kind::rule_of(0);
         let n = number(value);
-        let ask = self.ask(true, 0, n, 0, b"", 0, out, starts);
+        let ask = self.ask(true, rule, 0, n, 0, b"", 0, out, starts);
         self.put(ask, 0, n, 0, 0, out, starts)
     }
 
@@ -379,8 +386,9 @@ impl Writer {
         ensures { λ r. ⌜ wrote r (now (out .exit)) (now (starts .exit)) ≡ step (Call.integer value) self (now (out .entry)) (now (starts .entry)) ⌝ }
     {
         let kind = sign(value);
+        let rule = kind::rule_of(kind);
         let n = magnitude(value);
-        let ask = self.ask(true, kind, n, 0, b"", 0, out, starts);
+        let ask = self.ask(true, rule, kind, n, 0, b"", 0, out, starts);
         self.put(ask, kind, n, 0, 0, out, starts)
     }
 
@@ -388,33 +396,37 @@ impl Writer {
     pub fn float32(self, bits: u32, out: &mut [u8], starts: &mut [u32]) -> WriteResult
         ensures { λ r. ⌜ wrote r (now (out .exit)) (now (starts .exit)) ≡ step (Call.float32 bits) self (now (out .entry)) (now (starts .entry)) ⌝ }
     {
+        let rule = kind::rule_of(3);
         let body = float::bytes4(bits);
-        let ask = self.ask(true, 3, 0, 0, &body, 0, out, starts);
+        let ask = self.ask(true, rule, 3, 0, 0, &body, 0, out, starts);
         self.put_body(ask, 3, 0, &body, out, starts)
     }
 
     pub fn float64(self, bits: u64, out: &mut [u8], starts: &mut [u32]) -> WriteResult
         ensures { λ r. ⌜ wrote r (now (out .exit)) (now (starts .exit)) ≡ step (Call.float64 bits) self (now (out .entry)) (now (starts .entry)) ⌝ }
     {
+        let rule = kind::rule_of(3);
         let body = float::bytes8(bits);
-        let ask = self.ask(true, 3, 1, 0, &body, 0, out, starts);
+        let ask = self.ask(true, rule, 3, 1, 0, &body, 0, out, starts);
         self.put_body(ask, 3, 1, &body, out, starts)
     }
 
     pub fn text(self, body: &[u8], out: &mut [u8], starts: &mut [u32]) -> WriteResult
         ensures { λ r. ⌜ wrote r (now (out .exit)) (now (starts .exit)) ≡ step (Call.text (now (body .entry))) self (now (out .entry)) (now (starts .entry)) ⌝ }
     {
+        let rule = kind::rule_of(4);
         let good = utf8::is_text(body);
         let n = body.len() as u64;
-        let ask = self.ask(good, 4, n, 0, body, 0, out, starts);
+        let ask = self.ask(good, rule, 4, n, 0, body, 0, out, starts);
         self.put_body(ask, 4, n, body, out, starts)
     }
 
     pub fn bytes(self, body: &[u8], out: &mut [u8], starts: &mut [u32]) -> WriteResult
         ensures { λ r. ⌜ wrote r (now (out .exit)) (now (starts .exit)) ≡ step (Call.bytes (now (body .entry))) self (now (out .entry)) (now (starts .entry)) ⌝ }
     {
+        let rule = kind::rule_of(5);
         let n = body.len() as u64;
-        let ask = self.ask(true, 5, n, 0, body, 0, out, starts);
+        let ask = self.ask(true, rule, 5, n, 0, body, 0, out, starts);
         self.put_body(ask, 5, n, body, out, starts)
     }
 
@@ -422,7 +434,8 @@ impl Writer {
     pub fn variant(self, index: u32, out: &mut [u8], starts: &mut [u32]) -> WriteResult
         ensures { λ r. ⌜ wrote r (now (out .exit)) (now (starts .exit)) ≡ step (Call.variant index) self (now (out .entry)) (now (starts .entry)) ⌝ }
     {
-        let ask = self.ask(true, 10, index as u64, 0, b"", 0, out, starts);
+        let rule = kind::rule_of(10);
+        let ask = self.ask(true, rule, 10, index as u64, 0, b"", 0, out, starts);
         self.put(ask, 10, index as u64, 0, 0, out, starts)
     }
 
@@ -430,9 +443,10 @@ impl Writer {
     pub fn reference(self, at: usize, out: &mut [u8], starts: &mut [u32]) -> WriteResult
         ensures { λ r. ⌜ wrote r (now (out .exit)) (now (starts .exit)) ≡ step (Call.reference at) self (now (out .entry)) (now (starts .entry)) ⌝ }
     {
+        let rule = kind::rule_of(14);
         let n = distance(self.written, at);
         let good = self.is_listed(starts, at);
-        let ask = self.ask(good, 14, n, 0, b"", at, out, starts);
+        let ask = self.ask(good, rule, 14, n, 0, b"", at, out, starts);
         self.put(ask, 14, n, 0, at, out, starts)
     }
 
@@ -440,9 +454,10 @@ impl Writer {
     pub fn pointer(self, at: usize, out: &mut [u8], starts: &mut [u32]) -> WriteResult
         ensures { λ r. ⌜ wrote r (now (out .exit)) (now (starts .exit)) ≡ step (Call.pointer at) self (now (out .entry)) (now (starts .entry)) ⌝ }
     {
+        let rule = kind::rule_of(15);
         let n = distance(self.written, at);
         let good = self.is_listed(starts, at);
-        let ask = self.ask(good, 15, n, 0, b"", at, out, starts);
+        let ask = self.ask(good, rule, 15, n, 0, b"", at, out, starts);
         self.put(ask, 15, n, 0, at, out, starts)
     }
 
@@ -450,7 +465,8 @@ impl Writer {
     pub fn open_array(self, n: u64, out: &mut [u8], starts: &mut [u32]) -> WriteResult
         ensures { λ r. ⌜ wrote r (now (out .exit)) (now (starts .exit)) ≡ step (Call.openArray n) self (now (out .entry)) (now (starts .entry)) ⌝ }
     {
-        let ask = self.ask(true, 6, n, 0, b"", 0, out, starts);
+        let rule = kind::rule_of(6);
+        let ask = self.ask(true, rule, 6, n, 0, b"", 0, out, starts);
         self.put(ask, 6, n, 0, 0, out, starts)
     }
 
@@ -458,7 +474,8 @@ impl Writer {
     pub fn open_map(self, n: u64, out: &mut [u8], starts: &mut [u32]) -> WriteResult
         ensures { λ r. ⌜ wrote r (now (out .exit)) (now (starts .exit)) ≡ step (Call.openMap n) self (now (out .entry)) (now (starts .entry)) ⌝ }
     {
-        let ask = self.ask(true, 7, n, 0, b"", 0, out, starts);
+        let rule = kind::rule_of(7);
+        let ask = self.ask(true, rule, 7, n, 0, b"", 0, out, starts);
         self.put(ask, 7, n, 0, 0, out, starts)
     }
 
@@ -466,7 +483,8 @@ impl Writer {
     pub fn open_tag(self, tag: u64, out: &mut [u8], starts: &mut [u32]) -> WriteResult
         ensures { λ r. ⌜ wrote r (now (out .exit)) (now (starts .exit)) ≡ step (Call.openTag tag) self (now (out .entry)) (now (starts .entry)) ⌝ }
     {
-        let ask = self.ask(true, 8, tag, 0, b"", 0, out, starts);
+        let rule = kind::rule_of(8);
+        let ask = self.ask(true, rule, 8, tag, 0, b"", 0, out, starts);
         self.put(ask, 8, tag, 0, 0, out, starts)
     }
 
@@ -474,7 +492,8 @@ impl Writer {
     pub fn open_variant1(self, index: u32, out: &mut [u8], starts: &mut [u32]) -> WriteResult
         ensures { λ r. ⌜ wrote r (now (out .exit)) (now (starts .exit)) ≡ step (Call.openVariant1 index) self (now (out .entry)) (now (starts .entry)) ⌝ }
     {
-        let ask = self.ask(true, 11, index as u64, 0, b"", 0, out, starts);
+        let rule = kind::rule_of(11);
+        let ask = self.ask(true, rule, 11, index as u64, 0, b"", 0, out, starts);
         self.put(ask, 11, index as u64, 0, 0, out, starts)
     }
 
@@ -488,7 +507,8 @@ impl Writer {
     ) -> WriteResult
         ensures { λ r. ⌜ wrote r (now (out .exit)) (now (starts .exit)) ≡ step (Call.openVariantN index n) self (now (out .entry)) (now (starts .entry)) ⌝ }
     {
-        let ask = self.ask(true, 12, index as u64, n, b"", 0, out, starts);
+        let rule = kind::rule_of(12);
+        let ask = self.ask(true, rule, 12, index as u64, n, b"", 0, out, starts);
         self.put(ask, 12, index as u64, n, 0, out, starts)
     }
 

@@ -21,10 +21,10 @@ abbrev second : tie.Start → List ℕ
 second c = putIf (rule (c .args .kind) .args) (c .args .args)
 
 room : (c : tie.Start) → 1 + length (number c) + length (second c) + 0 ≤ length (c .args .out .now)
-room c = rw length-emit at (c .pre .1)
+room c = rw length-emit at (c .pre .2)
 
 abbrev start : tie.After-nibble → tie.Start
-start c = c .before .before .before .before
+start c = c .before .before .before
 
 -- out with the header, the number behind it, and the second number
 abbrev headed : tie.After-nibble → List ℕ
@@ -38,7 +38,7 @@ first c = c .before .before .before .before
 
 two : (c : tie.After-put-if2)
     → PutAt (second (start (first c .before .before))) (first c .put-if .last .0) (first c .put-if .result) (c .put-if2 .last .0) (c .put-if2 .result)
-two c = rw (first c .before .before .before .before .rule-of .ensures) at (c .put-if2 .ensures)
+two c = rw (start (first c .before .before) .pre .1) at (c .put-if2 .ensures)
 
 -- neither changes how long out is
 same : (c : tie.After-put-if) → length (c .put-if .last .0) ≡ length (start (c .before .before) .args .out .now)
@@ -61,13 +61,12 @@ put-head-spec =
     tie.close
     (tie.spec
     (λ c κs. search needs)
-    (λ c κs. search needs)
     (λ c. search needs)
     (λ c κs. search needs)
     (λ c. search needs)
     (λ c. omega (arith, room (start c)))
     (λ c κs. rw (length-set, c .before .before .excess .ensures) (omega (arith, room (start (c .before)))))
     (λ c κs. let p = c .before .before .before in
-    rw (p .before .before .before .before .rule-of .ensures) (omega (arith, room (start (p .before .before)), one p .after, same p)))
+    rw (start (p .before .before) .pre .1) (omega (arith, room (start (p .before .before)), one p .after, same p)))
     (λ c. put-same _ (start (first (c .before .before) .before .before) .args .out .now) _ _ (returns c))
     returns)

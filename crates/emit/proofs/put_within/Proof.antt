@@ -15,7 +15,7 @@ unfolding emit
 emit-append k n a b = simp (append-assoc, append-nil)
 
 room : (c : tie.Start) → length (emit (token (c .args .kind) (c .args .n) (c .args .args) [])) + length (c .args .body .now) ≤ length (c .args .out .now)
-room c = rw (emit-append, length-append) at (c .pre .1)
+room c = rw (emit-append, length-append) at (c .pre .2)
 
 abbrev start : tie.After-put-head → tie.Start
 start c = c .before .before .before .before
@@ -24,7 +24,7 @@ pub put-within-spec : {M : Type 1} → statement M
 put-within-spec =
     tie.close
     (tie.spec
-    (λ c κs. let s = c .before .before .before in (s .pre .0, omega (arith, room s)))
+    (λ c κs. let s = c .before .before .before in (s .pre .0, s .pre .1, omega (arith, room s)))
     (λ c κs. let h = c .before .before .before in omega (arith, h .put-head .ensures .size, room (start h), put-same _ (start h .args .out .now) _ _ (h .put-head .ensures)))
     (λ c. search needs)
     (λ c. let h = c .before .before .before .before .before .before in

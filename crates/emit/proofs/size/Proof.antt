@@ -7,12 +7,4 @@ use Rattle.emit.proofs.size.Tie as tie
 pub size-spec : {M : Type 1} → statement M
 size-spec =
     tie.close
-    (tie.spec
-    (λ c κs. search needs)
-    (λ c κs. search needs)
-    (λ c κs. search needs)
-    (λ c. search needs)
-    (λ c κs. search needs)
-    (λ c. search needs)
-    (λ c. search needs)
-    (λ c. rw (length-emit, c .before .size-if .ensures .0, c .size-if2 .ensures .0, c .before .before .excess .ensures, c .before .before .before .rule-of .ensures)))
+    (tie.spec (λ c κs. search needs) (λ c κs. search needs) (λ c. rw (length-emit, c .size-by .ensures, c .before .rule-of .ensures)))

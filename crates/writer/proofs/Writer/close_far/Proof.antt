@@ -9,7 +9,7 @@ use Rattle.writer.proofs.Writer.close_far.Tie as tie
 
 -- the place where no items are pending, and the start
 abbrev none : tie.After-put → tie.Else1
-none c = c .before .before .before .before .before .before .before
+none c = c .before .before .before .before .before .before .before .before
 
 abbrev start : tie.After-put → tie.Start
 start c = none c .before .before .before .before
@@ -27,6 +27,7 @@ close-far-spec =
     (tie.spec
     (λ c κs. search needs)
     (λ c. let t = c .before in far-refused _ _ _ _ _ (t .before .before .before .before .args .good) (t .if1 .taken) _ (c .refuse .ensures))
+    (λ c κs. search needs)
     (λ c. search needs)
     (λ c κs. search needs)
     (λ c κs. search needs)

@@ -22,16 +22,18 @@ integer-spec =
     (tie.spec
     (λ c κs. search needs)
     (λ c κs. search needs)
+    (λ c κs. search needs)
     (λ c. search needs)
     -- a kind with neither text nor target
-    (λ c κs. let k = c .before .before .before .before .sign in
+    (λ c κs. let l = c .before .before .before .before in
+    let k = l .before .sign in
     let h = k .ensures .1 in
-    (omega arith, rw (lt-leb 14 (k .result) (omega arith), ne-eqb (k .result) 4 (λ q. omega arith)) refl))
+    (omega arith, l .rule-of .ensures, rw (lt-leb 14 (k .result) (omega arith), ne-eqb (k .result) 4 (λ q. omega arith)) refl))
     (λ c κs. search needs)
     (λ c. search needs)
     (λ c. search needs)
     (λ c. let p = c .before .before .before .before in
     let m = p .before .before .before .before .before .before .before in
-    let s = m .before .before .before .before in
-    rw (m .before .sign .ensures .0, m .magnitude .ensures, toZ-ofZ w64 (s .args .value) (s .fits .value), integer-token (s .args .value)) at
+    let s = m .before .before .before .before .before in
+    rw (m .before .before .sign .ensures .0, m .magnitude .ensures, toZ-ofZ w64 (s .args .value) (s .fits .value), integer-token (s .args .value)) at
     (p .put .ensures)))

@@ -18,7 +18,7 @@ put-body-spec =
     (λ c. inside (written (start c)) _ _ _ _ _ (start c .pre) (c .if1 .taken))
     (λ c. inside (written (start c)) _ _ _ _ _ (start c .pre) (c .if1 .taken))
     (λ c. search needs)
-    (λ c κs. let a = start (c .before) .pre in (a .kind, fits-rest (written (start (c .before))) _ _ _ _ _ a (c .before .if1 .taken)))
+    (λ c κs. let a = start (c .before) .pre in (a .kind, a .second, fits-rest (written (start (c .before))) _ _ _ _ _ a (c .before .if1 .taken)))
     (λ c κs. let t = c .before .before .before .before .before in may-advance (written (start t)) _ _ _ _ _ (start t .pre) (t .if1 .taken))
     (λ c. search needs)
     (λ c. search needs)
