@@ -1,4 +1,4 @@
-// A table of words: filled with zeros, searched by quarters, and its words counted by blocks, so that a search has little to look at.
+// A table of words: filled with zeros, searched, and its words counted by blocks, so that a search has little to look at.
 ghost use mathlib.Core.Path.{_≡_};
 ghost use Prim.Native.Nat.{_+_, _*_, _≤_, _<_, _^_};
 ghost use lib.Dec.{ltb};
