@@ -1,7 +1,7 @@
 -- Parts of slices, and stores into them.
 --
 -- In order: the part `&s[k..]`; `sets d i p` of `lib.Seq`, the list d with p stored from index i on; `Put`, what a function ensures that
--- stores p at the front of a part with room for it; the way between `Put` and `store`.
+-- stores p at the front of a part with room for it; the way from `Put` to `store`.
 use mathlib.Core.Path.{_≡_, refl, sym, ap, _∙_}
 use mathlib.Core.List.{List, [], _∷_, _++_, append-nil}
 use Prim.Native.Nat.{ℕ, zero, suc, _+_, _-_, _≤_, _<_}
@@ -12,7 +12,7 @@ use lib.Seq.{drop-append-seam, drop-drop, sets, sets-eq, length-sets, take-all, 
 use borrow.Author.Tests.{le-leb, lt-leb}
 use borrow.Rule.Slice.PartMut.{putMid}
 use Rattle.prelude.specs.Pick.{pick}
-use Rattle.prelude.specs.Bytes.{Bytes, Stored, stored, store}
+use Rattle.prelude.specs.Bytes.{Bytes, stored, store}
 
 -- ---- the part from k on
 
@@ -104,9 +104,3 @@ store-put p d e r h put = rw (le-leb _ _ h, put .size, put .bytes, sets-front p 
 pub store-none : (p d : List ℕ) → length d < length p → stored 0 d ≡ store p d
 unfolding store
 store-none p d h = rw (lt-leb _ _ h)
-
-pub put-store : (p d e : List ℕ) (r : ℕ) → length p ≤ length d → stored r e ≡ store p d → Put p d e r
-unfolding store
-put-store p d e r h q =
-    let same : stored r e ≡ stored (length p) (p ++ drop (length p) d) = rw (le-leb _ _ h) at q in
-    record { size = ap (λ (x : Stored). x .size) same; bytes = ap (λ (x : Stored). x .bytes) same ∙ sym (sets-front p d h) }

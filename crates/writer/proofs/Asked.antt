@@ -4,17 +4,17 @@
 use mathlib.Core.Path.{_≡_, refl, sym, _∙_}
 use mathlib.Core.Bool.{Bool, true, false, not, _&&_, _||_, true≢false}
 use mathlib.Core.List.{List}
-use Prim.Native.Nat.{ℕ, _+_, _≤_, _<_}
+use Prim.Native.Nat.{ℕ, _≤_, _<_}
 use native.Mathlib.Omega.{arith}
 use lib.Dec.{eqb, ltb, leb}
 use lib.ListN.{length}
-use borrow.Author.Tests.{ltb-true, ltb-false, leb-true, leb-false, eqb-false, not-true, not-false, lt-ltb, le-ltb, lt-leb, ne-eqb}
+use borrow.Author.Tests.{ltb-true, ltb-false, leb-true, leb-false, eqb-false, not-true, not-false, lt-ltb, lt-leb, ne-eqb}
 use Rattle.prelude.specs.Pick.{pick}
 use Rattle.prelude.specs.Answer.{ok, error}
 use Rattle.prelude.proofs.Tests.{and-l, and-r, and-false}
 use Rattle.error.specs.Error.{LIMIT}
 use Rattle.utf8.specs.Text.{isText}
-use Rattle.token.specs.Token.{Token, emit}
+use Rattle.token.specs.Token.{Token}
 use Rattle.judge.specs.Refusal.{refusal}
 use Rattle.writer.specs.Step.{Verdict, opens, bad, isListed, room, early, judge}
 use Rattle.writer.specs.Stages.{need, ready, Found, When, Good, Asked}

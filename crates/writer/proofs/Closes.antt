@@ -19,11 +19,11 @@ use Rattle.token.proofs.Laws.{length-emit}
 use Rattle.judge.specs.Refusal.{refusal}
 use Rattle.writer.specs.Step.{Verdict, opens, bad, isListed, limit, early, judge, judgeDelta, Result, result, write, writeShut, settled, put}
 use Rattle.writer.specs.Stages.{Found, Refused, Shut, shutNear, shutFar}
-use Rattle.writer.specs.Told.{told, wrote}
+use Rattle.writer.specs.Told.{wrote}
 use Rattle.writer.specs.declared.Writer.{Writer}
 use Rattle.writer.specs.declared.WriteResult.{WriteResult}
 use Rattle.writer.specs.declared.WriteAnswer.the-variants.{Ok, Err}
-use Rattle.writer.proofs.Judged.{Sound, sound, Early, early-by, early-ok, past, judge-inv, behind}
+use Rattle.writer.proofs.Judged.{sound, Early, early-by, early-ok, past, judge-inv, behind}
 use Rattle.writer.proofs.Asked.{and-none, rung, rung-last}
 
 -- ---- by the delta byte
