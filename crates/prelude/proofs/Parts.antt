@@ -12,7 +12,7 @@ use lib.Seq.{drop-append-seam, drop-drop, sets, sets-eq, length-sets, take-all, 
 use borrow.Author.Tests.{le-leb, lt-leb}
 use borrow.Rule.Slice.PartMut.{putMid}
 use Rattle.prelude.specs.Pick.{pick}
-use Rattle.prelude.specs.Bytes.{Bytes, Stored, stored, store}
+use Rattle.prelude.specs.Bytes.{Bytes, stored, store}
 
 -- ---- the part from k on
 
