@@ -203,13 +203,13 @@ pub fn scan_item(region: &[u8], at: usize) -> ScanResult
             if !room {
                 return scan(region, at, true);
             }
-            let body = rule.fixed + rule.scale * n;
+            let bytes = rule.fixed + rule.scale * n;
             ScanResult::Ok(Head {
                 kind,
                 n,
                 items: 0,
                 first,
-                end: first + body as usize,
+                end: first + bytes as usize,
             })
         }
         GetResult::Err(error) => scan(region, at, true),
