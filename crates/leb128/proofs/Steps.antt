@@ -1,22 +1,22 @@
 -- How `get` goes, as the code takes it: by a list that is known by its first element, with the bytes left counted.
 --
 -- In order: each way through `get_from`; what is read has room for the bits below it; a number of one byte, and of two.
-use mathlib.Core.Path.{_≡_, refl, ap}
-use mathlib.Core.Bool.{Bool, true, false, _&&_}
+use mathlib.Core.Path.{_≡_, refl}
+use mathlib.Core.Bool.{true, _&&_}
 use mathlib.Core.List.{List, [], _∷_}
 use Prim.Native.Nat.{ℕ, zero, suc, _-_, _*_, _+_, _%_, _^_, _<_, _≤_}
 use native.Mathlib.Nat.{one-le-pow, pow-le-pow-right, mod-eq-of-lt}
 use native.Mathlib.Numerals.{sub-one}
 use native.Mathlib.Omega.{arith}
-use lib.Dec.{ltb, leb, lit<}
+use lib.Dec.{ltb, lit<}
 use lib.ListN.{length, getD, drop, length-drop}
 use lib.Seq.{getD-drop}
 use borrow.Author.Tests.{lt-ltb, le-ltb, le-leb, ltb-true}
 use Rattle.prelude.specs.Pick.{pick}
-use Rattle.prelude.specs.Answer.{Answer, Res, got, bad, then, ok, error, measured}
+use Rattle.prelude.specs.Answer.{Res, got, bad, then, ok, error, measured}
 use Rattle.prelude.proofs.Tests.{split, and-l, and-r}
 use Rattle.prelude.proofs.Readers.{measured-guard, measured-ok}
-use Rattle.error.specs.Error.{TRUNC, OVERLONG}
+use Rattle.error.specs.Error.{TRUNC}
 use Rattle.leb128.specs.Leb.{get}
 use Rattle.leb128.specs.Told.{told}
 use Rattle.leb128.specs.Stages.{last, tenth, raised, valueOf}
@@ -55,15 +55,6 @@ pub get-small : (k least : ℕ) (s : List ℕ) (r : GetResult) → told r ≡ me
 get-small k least s (Ok n left) e j h =
     measured-ok (get k least s) e (λ rest q l. omega (arith, get-ends k least n s rest q .below, pow-le-pow-right {n = 128} (lit< tt) {i = k} {j = j} h))
 get-small k least s (Err f) e j h = omega (arith, one-le-pow j 128 (lit< tt))
-
-pub last-small : (least b left : ℕ) (r : GetResult) → told r ≡ last least b left → valueOf r ≤ b
-unfolding last
-last-small least b left (Ok n l) e = go (leb least b) e
-  where
-    go : (t : Bool) → _≡_ {A = Answer ℕ (ℕ × ℕ)} (ok (n, l)) (pick t (ok (b, left)) (error OVERLONG)) → n ≤ b
-    go true e = let same : _≡_ {A = ℕ × ℕ} (n, l) (b, left) = cc in omega (arith, ap (λ (x : ℕ × ℕ). x .0) same)
-    go false e = let z : _≡_ {A = ℕ} 0 1 = cc in absurd (omega arith)
-last-small least b left (Err f) e = omega arith
 
 -- ---- a number of one byte, and of two
 

@@ -9,8 +9,8 @@ use Prim.Native.Nat.{ℕ, zero, suc, _+_, _≤_, _<_}
 use native.Mathlib.Nat.{zero-add}
 use native.Mathlib.Omega.{arith}
 use lib.Dec.{eqb, ltb}
-use lib.ListN.{length, getD, take, length-append, length-take, List·getD-append}
-use lib.Seq.{getD-take, getD-append-seam}
+use lib.ListN.{length, getD, length-append, List·getD-append}
+use lib.Seq.{getD-append-seam}
 use borrow.Author.Tests.{lt-ltb, le-ltb, eq-eqb, ne-eqb, eqb-true}
 use Rattle.prelude.specs.Search.{among, rank, Rising}
 use Rattle.prelude.proofs.Tests.{pick-elim, split, or-true}
@@ -39,11 +39,6 @@ rising-tail y ys r i j h g = r (suc i) (suc j) (omega arith) (omega arith)
 
 pub rising-nil : Rising []
 rising-nil i j h g = absurd (omega arith)
-
-pub rising-take : (n : ℕ) (xs : List ℕ) → Rising xs → Rising (take n xs)
-rising-take n xs r i j h g =
-    let l = length-take n xs in
-    rw (getD-take n xs i 0 (omega arith), getD-take n xs j 0 (omega arith)) (r i j h (omega arith))
 
 pub rising-snoc : (xs : List ℕ) (x : ℕ) → Rising xs → ((k : ℕ) → k < length xs → getD xs k 0 < x) → Rising (xs ++ (x ∷ []))
 rising-snoc xs x r f i j h g =
@@ -107,9 +102,6 @@ unfolding among
 among-at x [] i h e = absurd (omega arith)
 among-at x (y ∷ ys) zero h e = rw (eq-eqb x y (sym e))
 among-at x (y ∷ ys) (suc i) h e = rw (among-at x ys i (omega arith) e, or-comm (eqb x y) true)
-
-pub among-getD : (xs : List ℕ) (i : ℕ) → i < length xs → among (getD xs i 0) xs ≡ true
-among-getD xs i h = among-at (getD xs i 0) xs i h refl
 
 -- where it stands
 pub among-by : (x : ℕ) (xs : List ℕ) → among x xs ≡ true → (i : ℕ) × (i < length xs) × (getD xs i 0 ≡ x)

@@ -1,7 +1,7 @@
 -- Tests as equations, both ways, and `pick`.
 --
 -- In order: a property of both arms of a `pick`, and equal arms; one order or the other, inside a term; tests joined by `&&` and `||`; tests
--- that a flag tells, and that follow from each other; the rulesets. The tests themselves (`lt-ltb`, `ltb-true`, ..) are those of `borrow.Author.Tests`.
+-- that a flag tells; the rulesets. The tests themselves (`lt-ltb`, `ltb-true`, ..) are those of `borrow.Author.Tests`.
 use mathlib.Core.Path.{_≡_, refl, sym, _∙_}
 use mathlib.Core.Bool.{Bool, true, false, not, _&&_, _||_, false≢true}
 use Prim.Native.Nat.{ℕ, _≤_, _<_}
@@ -41,10 +41,6 @@ or-true false b e f g = g e
 -- a test that a flag tells
 pub le-of-flag : (a b : ℕ) {t : Bool} → t ≡ leb a b → t ≡ true → a ≤ b
 le-of-flag a b e h = leb-true a b (sym e ∙ h)
-
--- two tests that follow from each other
-pub leb-cong : (a b c d : ℕ) → (a ≤ b → c ≤ d) → (b < a → d < c) → leb a b ≡ leb c d
-leb-cong a b c d f g = split b a (λ h. rw (lt-leb a b h, lt-leb c d (g h))) (λ h. rw (le-leb a b h, le-leb c d (f h)))
 
 -- a test joined by `&&` that failed where the first passed
 pub and-false : {X : Type 0} (a b : Bool) → a && b ≡ false → (a ≡ false → X) → (b ≡ false → X) → X
