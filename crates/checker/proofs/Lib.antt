@@ -1,4 +1,4 @@
--- the walk of check: what holds at each turn
-pub mod Walks
+-- the walk as the code makes it
+mod Along
 -- the ways through check
 pub mod Checks

@@ -1,85 +1,21 @@
--- Check (document 01, "Check and depths"): left to right, token by token, and the first fault wins.
+-- Check (document 01, "Check and depths"): the walk over the region, then the entry.
 --
---   Walk               where the walk stands: the offset, the start of the value that it is in, the items pending there, and the starts
---                      of the values before it
---   between at done    the walk between two values, at `at`
---   aimed done at h    whether the reference or pointer of head h at `at` has its target among the starts `done`
---   judge s done at h  the token of head h at `at` of the region s: BAD_TEXT, then BAD_TARGET, or itself
---   next s cap done pending at
---                      the token at `at`, where that many items are pending, with a table of cap words: FULL of a new value, then the
---                      token's own faults in their order
---   passed w h         the walk behind it: a value's start is listed when none of its items is pending
---   turn s cap w       one turn: the starts at the region's end between two values, and else a token
---   turned w a         the same by what `next` told
---   startsFrom s cap w the starts of a region's values, or the first fault; the walk goes on from w
 --   entryAt p d done   the entry that the delta byte d at the offset p names, or BAD_ENTRY
 --   checkIn file cap   the starts of a file's values, and its entry; or the first fault
---   listed cap a       the same as answer and table
+--   filled cap ws      words at the front of a table of cap words, and zeros behind them
+--   listed cap a       what `checkIn` comes to, as answer and table
 --   checkOf file cap   what check answers and leaves in a table of cap words: count and entry, and the starts and then zeros; or the first
 --                      fault, and zeros
 use Prim.Native.Nat.{ℕ, _-_}
-use mathlib.Core.Bool.{Bool, not, _&&_}
-use mathlib.Core.List.{List, [], _∷_, _++_}
-use lib.Dec.{eqb, ltb, leb}
+use mathlib.Core.Bool.{_&&_}
+use mathlib.Core.List.{List, [], _++_}
+use lib.Dec.{eqb, ltb}
 use lib.ListN.{length, take, getD, replicate}
 use Rattle.prelude.specs.Pick.{pick}
 use Rattle.prelude.specs.Answer.{Answer, ok, error, bind}
-use Rattle.prelude.specs.Loop.{Turn, go, stop, from}
 use Rattle.prelude.specs.Search.{among}
-use Rattle.error.specs.Error.{Fault, fault, LIMIT, EMPTY, TOO_LONG, BAD_TEXT, BAD_TARGET, FULL, BAD_ENTRY}
-use Rattle.utf8.specs.Text.{isText}
-use Rattle.scan.specs.Told.{scanAt, bytesOf}
-use Rattle.scan.specs.declared.Head.{Head}
-
--- ---- one token
-
-unfoldable pub aimed : List ℕ → ℕ → Head → Bool
-aimed done at h = ltb (h .n) at && among (at - h .n - 1) done
-
-unfoldable pub judge : List ℕ → List ℕ → ℕ → Head → Answer Fault Head
-judge s done at h =
-    pick (eqb (h .kind) 4 && not (isText (bytesOf s h))) (error (fault BAD_TEXT at))
-    (pick (leb 14 (h .kind) && not (aimed done at h)) (error (fault BAD_TARGET at))
-    (ok h))
-
--- ---- the walk
-
-pub record Walk : Type 0 where
-  pub at : ℕ
-  pub start : ℕ
-  pub pending : ℕ
-  pub done : List ℕ
-
-abbrev pub between : ℕ → List ℕ → Walk
-between at done = record { at = at; start = at; pending = 0; done = done }
-
-unfoldable pub next : List ℕ → ℕ → List ℕ → ℕ → ℕ → Answer Fault Head
-next s cap done pending at =
-    pick (eqb pending 0 && leb cap (length done)) (error (fault FULL at))
-    (bind (scanAt (ltb 0 pending) s at) (judge s done at))
-
--- the items pending behind a token: its own where it begins a value, and else one less than before
-abbrev pub due : ℕ → ℕ → ℕ
-due pending items = pick (eqb pending 0) items (pending - 1)
-
-unfoldable pub passed : Walk → Head → Walk
-passed w h =
-    let left = due (w .pending) (h .items) in
-    pick (eqb left 0) (between (h .end) (w .done ++ (w .start ∷ [])))
-    (record { at = h .end; start = w .start; pending = left; done = w .done })
-
-abbrev pub turned : Walk → Answer Fault Head → Turn Walk (Answer Fault (List ℕ))
-turned w (ok h) = go (passed w h)
-turned w (error e) = stop (error e)
-
-unfoldable pub turn : List ℕ → ℕ → Walk → Turn Walk (Answer Fault (List ℕ))
-turn s cap w = pick (eqb (w .pending) 0 && leb (length s) (w .at)) (stop (ok (w .done))) (turned w (next s cap (w .done) (w .pending) (w .at)))
-
--- each turn goes on in the region, so the loop stops; `fault 0 0` is never told
-unfoldable pub startsFrom : List ℕ → ℕ → Walk → Answer Fault (List ℕ)
-startsFrom s cap w = from (turn s cap) (λ v. length s - v .at) (error (fault 0 0)) w
-
--- ---- the file
+use Rattle.error.specs.Error.{Fault, fault, LIMIT, EMPTY, TOO_LONG, BAD_ENTRY}
+use Rattle.pass.specs.Walk.{between, startsFrom}
 
 unfoldable pub entryAt : ℕ → ℕ → List ℕ → Answer Fault ℕ
 entryAt p d done = pick (ltb d p && among (p - d - 1) done) (ok (p - d - 1)) (error (fault BAD_ENTRY p))
@@ -99,7 +35,6 @@ pub record Checked : Type 0 where
 abbrev pub checked : Answer Fault (ℕ × ℕ) → List ℕ → Checked
 checked a t = record { answer = a; starts = t }
 
--- words at the front of a table of cap words, and zeros behind them
 abbrev pub filled : ℕ → List ℕ → List ℕ
 filled cap ws = ws ++ replicate (cap - length ws) 0
 

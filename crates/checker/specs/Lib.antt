@@ -1,4 +1,4 @@
--- check: the walk over a region's tokens, the entry, the table
+-- check: the walk, the entry, the table
 pub mod Check
 -- what the code's answers mean
 pub mod Told

@@ -1,4 +1,2 @@
--- depths: the greatest depth of a value's targets, the tables
+-- depths: the answer and the tables
 pub mod Depths
--- what the private functions take
-pub mod Stages

@@ -13,7 +13,8 @@ use Rattle.prelude.specs.Answer.{ok}
 use Rattle.prelude.specs.Bytes.{Bytes}
 use Rattle.values.specs.Values.{Value, region, starts, Values}
 use Rattle.values.proofs.Laws.{length-starts}
-use Rattle.checker.specs.Check.{between, startsFrom, checkIn, Checked, checked, filled, listed, checkOf}
+use Rattle.pass.specs.Walk.{between, startsFrom}
+use Rattle.checker.specs.Check.{checkIn, Checked, checked, filled, listed, checkOf}
 use Rattle.guarantees.specs.Accepts.{Accepted}
 use Rattle.guarantees.proofs.Files.{bytes-whole, found-ok, answer-ok}
 use Rattle.guarantees.proofs.Taken.{stands-next}

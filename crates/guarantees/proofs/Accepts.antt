@@ -19,8 +19,9 @@ use Rattle.token.specs.Token.{Token, emit, Fits}
 use Rattle.utf8.specs.Text.{Text}
 use Rattle.values.specs.Values.{Value, tokens, bytes, region, starts, Each, Item, Formed, Aimed, Back, Values, WellFormed}
 use Rattle.values.proofs.Laws.{length-starts, fits-item, fits-head}
-use Rattle.checker.specs.Check.{between, startsFrom, checkIn, checked, filled, checkOf}
-use Rattle.checker.proofs.Walks.{walk-end}
+use Rattle.pass.specs.Walk.{between, startsFrom}
+use Rattle.checker.specs.Check.{checkIn, checked, filled, checkOf}
+use Rattle.pass.proofs.Walks.{walk-end}
 use Rattle.guarantees.proofs.Files.{Whole, entered, checkIn-whole, entered-named}
 use Rattle.guarantees.proofs.Taken.{Stands, settled, due-suc, walk-stands}
 

@@ -26,8 +26,9 @@ use Rattle.values.specs.Paths as paths
 use Rattle.values.proofs.Laws.{emit-pos, region-append, region-at, length-starts, starts-append, start-of, fits-item, fits-head}
 use Rattle.values.proofs.Depths.{length-depths, depth-is}
 use Rattle.checker.specs.Check.{filled, checkIn, checkOf}
-use Rattle.depths.specs.Depths.{reached, sight, deepestFrom, depthAt, depthsTo, Deepened, deepened, deepen, depthsOf}
-use Rattle.depths.proofs.Laws.{deepest-end, deepest-token}
+use Rattle.depth.specs.Depth.{reached, sight, deepestFrom, depthAt, depthsTo}
+use Rattle.depth.proofs.Laws.{deepest-end, deepest-token}
+use Rattle.depths.specs.Depths.{Deepened, deepened, deepen, depthsOf}
 use Rattle.guarantees.proofs.Files.{answer-error}
 use Rattle.guarantees.proofs.Accepts.{finds}
 

@@ -15,8 +15,8 @@ use Rattle.error.specs.Error.{Fault, TRUNC, FULL}
 use Rattle.utf8.specs.Text.{isText}
 use Rattle.scan.specs.Told.{scanAt, bytesOf}
 use Rattle.scan.specs.declared.Head.{Head}
-use Rattle.checker.specs.Check.{aimed, judge, Walk, between, next, passed, startsFrom}
-use Rattle.checker.proofs.Walks.{Going, going-begun, passed-on, passed-less, walk-end, walk-error, walk-token}
+use Rattle.pass.specs.Walk.{aimed, judge, Walk, between, next, passed, startsFrom}
+use Rattle.pass.proofs.Walks.{Going, going-begun, passed-on, passed-less, walk-end, walk-error, walk-token}
 use Rattle.guarantees.proofs.Faults.{Placed, scanAt-placed}
 
 -- ---- a token that is refused

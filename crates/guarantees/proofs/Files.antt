@@ -19,7 +19,8 @@ use Rattle.prelude.proofs.Tests.{pick-elim, split, and-l, and-r}
 use Rattle.prelude.proofs.Parts.{bytes-front}
 use Rattle.prelude.proofs.Readers.{bind-ok-by, bind-error-by}
 use Rattle.error.specs.Error.{Fault, fault, LIMIT, EMPTY, TOO_LONG, BAD_ENTRY}
-use Rattle.checker.specs.Check.{between, startsFrom, entryAt, checkIn, listed}
+use Rattle.pass.specs.Walk.{between, startsFrom}
+use Rattle.checker.specs.Check.{entryAt, checkIn, listed}
 
 -- ---- the shape of a file
 

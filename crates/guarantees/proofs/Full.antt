@@ -23,8 +23,9 @@ use Rattle.prelude.proofs.Readers.{bind-error}
 use Rattle.error.specs.Error.{Fault, fault, FULL}
 use Rattle.values.specs.Values.{region, starts}
 use Rattle.values.proofs.Laws.{length-starts}
-use Rattle.checker.specs.Check.{Walk, between, next, turned, turn, startsFrom, checkIn, listed, checkOf}
-use Rattle.checker.proofs.Walks.{Going, walk-error, come}
+use Rattle.pass.specs.Walk.{Walk, between, next, turned, turn, startsFrom}
+use Rattle.checker.specs.Check.{checkIn, listed, checkOf}
+use Rattle.pass.proofs.Walks.{Going, walk-error, come}
 use Rattle.guarantees.specs.Accepts.{Overfull}
 use Rattle.guarantees.proofs.Files.{Whole, whole, length-whole, bytes-whole, checkIn-whole, empty, long, at-once, Shape, refused, read, shape}
 use Rattle.guarantees.proofs.Files.{answer-error, found-ok, Failed, early, walking, last, failed}

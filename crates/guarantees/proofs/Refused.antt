@@ -20,8 +20,9 @@ use Rattle.error.specs.Error.{Fault, fault, LIMIT, EMPTY, TOO_LONG, TRUNC, FULL
 use Rattle.token.specs.Token.{Token, emit, Fits}
 use Rattle.values.specs.Values.{Value, bytes, region, starts, Values}
 use Rattle.values.proofs.Laws.{length-starts}
-use Rattle.checker.specs.Check.{Walk, between, next, startsFrom, checkIn, checkOf}
-use Rattle.checker.proofs.Walks.{Going, walk-error}
+use Rattle.pass.specs.Walk.{Walk, between, next, startsFrom}
+use Rattle.checker.specs.Check.{checkIn, checkOf}
+use Rattle.pass.proofs.Walks.{Going, walk-error}
 use Rattle.guarantees.specs.Refused.{Unnamed, Begun, Open, Faulty}
 use Rattle.guarantees.proofs.Files.{Whole, whole, length-whole, region-whole, bytes-whole, checkIn-whole, entered, entered-none}
 use Rattle.guarantees.proofs.Files.{empty, long, at-once, answer-error, Failed, early, walking, last, failed}

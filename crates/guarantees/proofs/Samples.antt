@@ -13,10 +13,12 @@ use Rattle.utf8.specs.Text.{lead, next, textFrom}
 use Rattle.region.specs.Region.{gate, inside, peek}
 use Rattle.read.specs.Read.{shown, readIn}
 use Rattle.items.specs.Items.{walk, startsIn, itemOn, itemIn}
+use Rattle.pass.specs.Walk as walks
 use Rattle.checker.specs.Check as check
-use Rattle.depths.specs.Depths as deep
+use Rattle.depth.specs.Depth as deep
+use Rattle.depths.specs.Depths.{depthsOf}
 use Rattle.guarantees.specs.Samples.{Query, Reply, ask, samples}
 
 pub the-samples : map (λ (x : (List ℕ) × Query × Reply). ask (x .0) (x .1)) samples ≡ map (λ (x : (List ℕ) × Query × Reply). x .2) samples
-unfolding ask bind guard then orError _>>_ _>>=_ run from among rank get rule getIf number body scanKind scan seen scanAt lead next textFrom gate inside peek walk shown readIn startsIn itemOn itemIn check.aimed check.judge check.next check.passed check.turn check.startsFrom check.entryAt check.checkIn check.checkOf deep.look deep.deepestFrom deep.depthAt deep.depthsTo deep.depthsOf
+unfolding ask bind guard then orError _>>_ _>>=_ run from among rank get rule getIf number body scanKind scan seen scanAt lead next textFrom gate inside peek walk shown readIn startsIn itemOn itemIn walks.aimed walks.judge walks.next walks.passed walks.turn walks.startsFrom check.entryAt check.checkIn check.checkOf deep.look deep.deepestFrom deep.depthAt deep.depthsTo depthsOf
 the-samples = refl

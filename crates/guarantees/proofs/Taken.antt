@@ -25,8 +25,8 @@ use Rattle.scan.specs.declared.Head.{Head}
 use Rattle.scan.proofs.Places.{headAt, scanAt-emit, emit-scanAt, body-read}
 use Rattle.values.specs.Values.{Reaches}
 use Rattle.values.proofs.Laws.{emit-pos}
-use Rattle.checker.specs.Check.{aimed, judge, Walk, between, next, due, passed, startsFrom}
-use Rattle.checker.proofs.Walks.{taken, walk-token}
+use Rattle.pass.specs.Walk.{aimed, judge, Walk, between, next, due, passed, startsFrom}
+use Rattle.pass.proofs.Walks.{taken, walk-token}
 
 -- ---- what is emitted at an offset
 

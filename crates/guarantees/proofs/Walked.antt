@@ -20,7 +20,7 @@ use Rattle.scan.proofs.Places.{headAt}
 use Rattle.values.specs.Values.{Value, bytes, region, starts, Each, Sound, Item, Formed, Reaches, Aimed, Values}
 use Rattle.values.proofs.Members.{each-append}
 use Rattle.values.proofs.Laws.{bytes-append, region-append, starts-append, back-append}
-use Rattle.checker.specs.Check.{Walk, between, passed}
+use Rattle.pass.specs.Walk.{Walk, between, passed}
 use Rattle.guarantees.proofs.Taken.{Stands, Stood, settled, passed-settled, due-suc}
 
 -- ---- one token more

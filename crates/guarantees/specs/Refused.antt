@@ -19,7 +19,7 @@ use Rattle.error.specs.Error.{Fault, LIMIT}
 use Rattle.kind.specs.Kind.{rule, counted, pending}
 use Rattle.token.specs.Token.{Token, emit}
 use Rattle.values.specs.Values.{Value, bytes, region, starts, Each, Sound, Item, Aimed, Values}
-use Rattle.checker.specs.Check.{next}
+use Rattle.pass.specs.Walk.{next}
 
 pub record Unnamed (file : List ℕ) (cap p : ℕ) : Type 0 where
   pub short : length file ≤ LIMIT

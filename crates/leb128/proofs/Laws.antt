@@ -2,15 +2,15 @@
 --
 -- In order: what was put is got back with the rest untouched (`get-put`); what was got is the shortest form, so it is what would be
 -- put (`put-get`); in any form, what is got is below `top`, and the rest is an end of the bytes (`get-ends`).
-use mathlib.Core.Path.{_≡_, refl, sym, ap, _∙_}
-use Prim.Native.Nat.{ℕ, zero, suc, _+_, _-_, _*_, _/_, _%_, _^_, _≤_, _<_}
+use mathlib.Core.Path.{_≡_, ap}
+use Prim.Native.Nat.{ℕ, zero, suc, _+_, _-_, _*_, _/_, _%_, _≤_, _<_}
 use mathlib.Core.List.{List, [], _∷_, _++_}
 use native.Mathlib.Nat.{one-le-pow}
 use native.Mathlib.Omega.{arith}
 use lib.Dec.{lit<, lit≤}
 use lib.ListN.{length, drop}
 use borrow.Author.Tests.{lt-ltb, le-ltb, le-leb}
-use Rattle.prelude.specs.Answer.{Res, got, bad, guard, then}
+use Rattle.prelude.specs.Answer.{got, guard, then}
 use Rattle.prelude.specs.Bytes.{Bytes}
 use Rattle.prelude.proofs.Tests.{split, facts}
 use Rattle.prelude.proofs.Readers.{guard-by, then-by, bad-got}

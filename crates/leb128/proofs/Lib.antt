@@ -2,9 +2,7 @@
 pub mod Laws
 -- how many bytes `put` gives
 pub mod Sizes
--- numbers read from several bytes at once
-mod Words
 -- how `get` goes, as the code takes it
-mod Steps
+pub mod Steps
 -- the definitions on examples
 mod Samples

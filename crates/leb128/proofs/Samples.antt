@@ -1,9 +1,8 @@
 -- The definitions on examples: what is read, and what is refused.
 use mathlib.Core.Path.{_≡_, refl}
-use mathlib.Core.List.{List, [], _∷_, map}
-use Prim.Native.Nat.{ℕ}
+use mathlib.Core.List.{[], _∷_, map}
 use lib.ListN.{length}
-use Rattle.prelude.specs.Answer.{Res, got, bad, guard, then}
+use Rattle.prelude.specs.Answer.{got, bad, guard, then}
 use Rattle.error.specs.Error.{TRUNC, OVERLONG, RANGE}
 use Rattle.leb128.specs.Leb.{get, put}
 

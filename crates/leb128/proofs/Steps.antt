@@ -1,20 +1,18 @@
 -- How `get` goes, as the code takes it: by a list that is known by its first element, with the bytes left counted.
 --
--- In order: each way through `get_from`; what is read has room for the bits below it; a number of one byte, and of two.
+-- In order: each way through `get_from`; what is read has room for the bits below it.
 use mathlib.Core.Path.{_≡_, refl}
-use mathlib.Core.Bool.{true, _&&_}
 use mathlib.Core.List.{List, [], _∷_}
 use Prim.Native.Nat.{ℕ, zero, suc, _-_, _*_, _+_, _%_, _^_, _<_, _≤_}
-use native.Mathlib.Nat.{one-le-pow, pow-le-pow-right, mod-eq-of-lt}
+use native.Mathlib.Nat.{one-le-pow, pow-le-pow-right}
 use native.Mathlib.Numerals.{sub-one}
 use native.Mathlib.Omega.{arith}
 use lib.Dec.{ltb, lit<}
-use lib.ListN.{length, getD, drop, length-drop}
-use lib.Seq.{getD-drop}
-use borrow.Author.Tests.{lt-ltb, le-ltb, le-leb, ltb-true}
+use lib.ListN.{length, getD, drop}
+use borrow.Author.Tests.{lt-ltb, le-ltb}
 use Rattle.prelude.specs.Pick.{pick}
-use Rattle.prelude.specs.Answer.{Res, got, bad, then, ok, error, measured}
-use Rattle.prelude.proofs.Tests.{split, and-l, and-r}
+use Rattle.prelude.specs.Answer.{Res, got, bad, then, error, measured}
+use Rattle.prelude.proofs.Tests.{split}
 use Rattle.prelude.proofs.Readers.{measured-guard, measured-ok}
 use Rattle.error.specs.Error.{TRUNC}
 use Rattle.leb128.specs.Leb.{get}
@@ -55,31 +53,3 @@ pub get-small : (k least : ℕ) (s : List ℕ) (r : GetResult) → told r ≡ me
 get-small k least s (Ok n left) e j h =
     measured-ok (get k least s) e (λ rest q l. omega (arith, get-ends k least n s rest q .below, pow-le-pow-right {n = 128} (lit< tt) {i = k} {j = j} h))
 get-small k least s (Err f) e j h = omega (arith, one-le-pow j 128 (lit< tt))
-
--- ---- a number of one byte, and of two
-
-module _ (s : List ℕ) (long : 2 ≤ length s) where
-  pub get-one : getD s 0 0 < 128 → last 0 (getD s 0 0) (length s - 1) ≡ measured (get 9 0 s)
-  get-one h = rw (get-step 9 0 s (λ e. omega arith) (λ e. omega arith), lt-ltb _ _ h)
-
-  pub get-two : 128 ≤ getD s 0 0 → ltb 0 (getD s 1 0) && ltb (getD s 1 0) 128 ≡ true
-      → ok (getD s 0 0 % 128 + 128 * (getD s 1 0 % 128), length s - 2) ≡ measured (get 9 0 s)
-  unfolding last
-  get-two h e =
-      let pos : 0 < getD s 1 0 = ltb-true _ _ (and-l _ _ e) in
-      let small : getD s 1 0 < 128 = ltb-true _ _ (and-r (ltb 0 (getD s 1 0)) _ e) in
-      let second : getD (drop 1 s) 0 0 ≡ getD s 1 0 = getD-drop 1 s 0 0 in
-      let behind : length (drop 1 s) ≡ length s - 1 = length-drop 1 s in
-      let left : length s - 1 - 1 ≡ length s - 2 = omega arith in
-      let own : getD s 1 0 % 128 ≡ getD s 1 0 = mod-eq-of-lt small in
-      rw (
-        get-step 9 0 s (λ z. omega arith) (λ z. omega arith),
-        le-ltb _ _ h,
-        get-step 8 1 (drop 1 s) (λ z. omega arith) (λ z. omega arith),
-        second,
-        lt-ltb _ _ small,
-        behind,
-        left,
-        own,
-        le-leb 1 _ pos,
-      )

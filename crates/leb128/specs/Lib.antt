@@ -4,5 +4,3 @@ pub mod Leb
 pub mod Told
 -- what the private functions make
 pub mod Stages
--- several bytes at once
-pub mod Word

@@ -1,6 +1,7 @@
 // The listed words, the first of a starts table (document 01, "Writer"): whether a word is among them, and one word more listed.
 ghost use mathlib.Core.Path.{_≡_};
 ghost use Prim.Native.Nat.{_+_, _≤_, _<_, _^_};
+ghost use lib.Dec.{eqb};
 ghost use lib.ListN.{length, set};
 ghost use Rattle.prelude.specs.Pick.{pick};
 ghost use Rattle.prelude.specs.Search.{among};
@@ -79,12 +80,12 @@ pub fn lists(t: &[u32], x: u32) -> bool
     has(t, x)
 }
 
-// Lists a start in the word `count` where `finished` is true, and answers how many are listed.
-pub fn list_start(finished: bool, start: usize, count: usize, starts: &mut [u32]) -> usize
+// Lists a start in the word `count` where no item is left pending, and answers how many are listed.
+pub fn list_start(left: u64, start: usize, count: usize, starts: &mut [u32]) -> usize
     requires { ⌜ (start < 2 ^ 32) × (count < length (now starts)) ⌝ }
-    ensures { λ r. ⌜ (r ≡ pick finished (count + 1) count) × (now (starts .exit) ≡ pick finished (set (now (starts .entry)) count start) (now (starts .entry))) ⌝ }
+    ensures { λ r. ⌜ (r ≡ pick (eqb left 0) (count + 1) count) × (now (starts .exit) ≡ pick (eqb left 0) (set (now (starts .entry)) count start) (now (starts .entry))) ⌝ }
 {
-    if finished {
+    if left == 0 {
         starts[count] = start as u32;
         return count + 1;
     }

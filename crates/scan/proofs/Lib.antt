@@ -1,4 +1,4 @@
 -- where a scanned token stands
 pub mod Places
 -- how `scanAt` goes, as the code takes it
-mod Steps
+pub mod Steps

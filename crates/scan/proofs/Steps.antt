@@ -29,7 +29,8 @@ use Rattle.kind.proofs.Laws.{Row, None, rule-row}
 use Rattle.token.specs.Token.{Token}
 use Rattle.token.specs.Scan.{getIf, number, body, scanKind, scan}
 use Rattle.scan.specs.Told.{seen, scanAt}
-use Rattle.scan.specs.Stages.{fitted, andThen, inRange, numbered, ranged}
+use Rattle.header.specs.Header.{inRange, numbered}
+use Rattle.scan.specs.Stages.{fitted, andThen, ranged}
 use Rattle.scan.specs.declared.Head.{Head}
 use Rattle.token.proofs.Ends.{End, end-drop, getIf-end}
 

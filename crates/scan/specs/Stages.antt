@@ -2,8 +2,6 @@
 --
 --   fitted .. left       behind its numbers, with `left` bytes left: the head, or TRUNC
 --   andThen at f a       what f makes of a number and the bytes left; the number's error, placed at `at`
---   inRange low most a   n of the low nibble and the number a behind it, with the bytes left: RANGE where it is over `most`
---   numbered low most s  the same, where the number stands in front of s if there is one
 --   ranged .. n left     behind n, with `left` bytes left: the second number, and so on
 use Prim.Native.Nat.{ℕ, _+_, _-_}
 use mathlib.Core.List.{List}
@@ -11,7 +9,7 @@ use lib.Dec.{leb}
 use lib.ListN.{length, drop}
 use Rattle.prelude.specs.Pick.{pick}
 use Rattle.prelude.specs.Answer.{Answer, ok, error, measured}
-use Rattle.error.specs.Error.{Fault, fault, TRUNC, RANGE}
+use Rattle.error.specs.Error.{Fault, fault, TRUNC}
 use Rattle.kind.specs.Kind.{size, counted, pending}
 use Rattle.kind.specs.declared.Rule.{Rule}
 use Rattle.token.specs.Scan.{getIf}
@@ -26,13 +24,6 @@ fitted len at k r n a left =
 abbrev pub andThen : ℕ → (ℕ → ℕ → Answer Fault Head) → Answer ℕ (ℕ × ℕ) → Answer Fault Head
 andThen at f (ok a) = f (a .0) (a .1)
 andThen at f (error e) = error (fault e at)
-
-abbrev pub inRange : ℕ → ℕ → Answer ℕ (ℕ × ℕ) → Answer ℕ (ℕ × ℕ)
-inRange low most (ok a) = pick (leb (low + a .0) most) (ok (low + a .0, a .1)) (error RANGE)
-inRange low most (error e) = error e
-
-unfoldable pub numbered : ℕ → ℕ → List ℕ → Answer ℕ (ℕ × ℕ)
-numbered low most s = inRange low most (measured (getIf (leb 15 low) s))
 
 abbrev pub ranged : List ℕ → ℕ → ℕ → Rule → ℕ → ℕ → Answer Fault Head
 ranged s at k r n left = andThen at (fitted (length s) at k r n) (measured (getIf (r .args) (drop (length s - left) s)))

@@ -1,17 +1,9 @@
 // One token, read at an offset of a region.
 use error::Error;
 use error::ErrorKind;
-use kind::Rule;
 use leb128::GetResult;
 ghost use mathlib.Core.Path.{_≡_};
-ghost use mathlib.Core.Bool.{true};
-ghost use Prim.Native.Nat.{_+_, _*_, _≤_, _<_, _^_};
-ghost use lib.Dec.{leb};
-ghost use Rattle.leb128.specs.Told as numbers;
-ghost use Rattle.kind.specs.Kind.{size};
-ghost use Rattle.kind.proofs.Laws.{Row};
 ghost use Rattle.scan.specs.Told.{told, scanAt};
-ghost use Rattle.scan.specs.Stages.{numbered};
 
 // A token by its offsets in a region.
 pub struct Head {
@@ -30,44 +22,6 @@ pub struct Head {
 pub enum ScanResult {
     Ok(Head),
     Err(Error),
-}
-
-// The number n of a header with this low nibble, where s stands behind it, and the bytes left behind n.
-fn number(low: u8, most: u64, s: &[u8]) -> GetResult
-    requires { ⌜ (low ≤ most) × (low < 16) ⌝ }
-    ensures { λ r. ⌜ numbers.told r ≡ numbered low most (now (s .entry)) ⌝ }
-{
-    if low < 15 {
-        return GetResult::Ok {
-            value: low as u64,
-            left: s.len(),
-        };
-    }
-    match leb128::get(s) {
-        GetResult::Ok { value, left } => {
-            // RANGE: n is over its kind's bound
-            if most - 15 < value {
-                return GetResult::Err(ErrorKind::Range);
-            }
-            GetResult::Ok {
-                value: 15 + value,
-                left,
-            }
-        }
-        GetResult::Err(error) => GetResult::Err(error),
-    }
-}
-
-// Whether the body and the items that n counts have room in the bytes left.
-fn has_room(rule: Rule, n: u64, left: u64) -> bool
-    requires { ⌜ (Row rule) × (n ≤ rule .most) × (left < 2 ^ 63) ⌝ }
-    ensures { λ r. ⌜ r ≡ leb (size rule n + rule .each * n) left ⌝ }
-{
-    let unit = rule.scale + rule.each;
-    if (0 < unit) & (left < n) {
-        return false;
-    }
-    rule.fixed + unit * n <= left
 }
 
 // Reads the token at the offset `at` of a region, as an item where `inner` is true. At the region's end and past it: TRUNC, placed at `at`.
@@ -103,13 +57,13 @@ pub fn scan(region: &[u8], at: usize, inner: bool) -> ScanResult
         });
     }
     let start = at + 1;
-    match number(low, rule.most, &region[start..]) {
+    match header::number(low, rule.most, &region[start..]) {
         GetResult::Ok { value, left } => {
             let n = value;
             let first = len - left;
             // items that a second number counts, and no body
             if rule.args {
-                return match leb128::get_wide(&region[first..]) {
+                return match leb128_word::get_wide(&region[first..]) {
                     GetResult::Ok { value, left } => {
                         // TRUNC: the items exceed the bytes left
                         if (left as u64) < value {
@@ -144,7 +98,7 @@ pub fn scan(region: &[u8], at: usize, inner: bool) -> ScanResult
                 });
             }
             // TRUNC: the body or the counted items exceed the bytes left
-            let room = has_room(rule, n, left as u64);
+            let room = header::has_room(rule, n, left as u64);
             if !room {
                 return ScanResult::Err(Error {
                     kind: ErrorKind::Trunc,
@@ -164,54 +118,5 @@ pub fn scan(region: &[u8], at: usize, inner: bool) -> ScanResult
             kind: error,
             place: at,
         }),
-    }
-}
-
-// Reads an item, as `scan` does: one without fault is read here, which is short enough to be compiled into a loop over items.
-pub fn scan_item(region: &[u8], at: usize) -> ScanResult
-    ensures { λ r. ⌜ told r ≡ scanAt true (now (region .entry)) at ⌝ }
-{
-    let len = region.len();
-    if len <= at {
-        return scan(region, at, true);
-    }
-    let header = region[at];
-    let kind = header / 16;
-    let low = header % 16;
-    let rule = kind::rule_of(kind);
-    let immediate = kind::is_immediate(rule);
-    let plain = (low < rule.lows) & immediate;
-    if !plain {
-        return scan(region, at, true);
-    }
-    let start = at + 1;
-    match number(low, rule.most, &region[start..]) {
-        GetResult::Ok { value, left } => {
-            let n = value;
-            let first = len - left;
-            // nothing behind n
-            if rule.scale == 0 {
-                return ScanResult::Ok(Head {
-                    kind,
-                    n,
-                    items: 0,
-                    first,
-                    end: first,
-                });
-            }
-            let room = has_room(rule, n, left as u64);
-            if !room {
-                return scan(region, at, true);
-            }
-            let bytes = rule.fixed + rule.scale * n;
-            ScanResult::Ok(Head {
-                kind,
-                n,
-                items: 0,
-                first,
-                end: first + bytes as usize,
-            })
-        }
-        GetResult::Err(error) => scan(region, at, true),
     }
 }

@@ -1,4 +1,2 @@
--- a search by quarters
-pub mod Quarters
 -- words counted by blocks
 pub mod Blocks

@@ -9,9 +9,10 @@ ghost use Rattle.body.specs.Body.{bodyOf};
 ghost use Rattle.lookup.specs.Lookup.{lookupOf};
 ghost use Rattle.writer.specs.Step.{Call, fresh};
 ghost use Rattle.writer.specs.declared.Scalar as Scalar;
-ghost use Rattle.reply.specs.Reply.{nameC, reply, offsetC, pairC, checkReply, checkC, depthsReply, depthsC};
-ghost use Rattle.reply.specs.Read.{readC};
-ghost use Rattle.reply.specs.State.{wordsOf, truth, called, stepC};
+ghost use Rattle.reply.specs.Reply.{nameC, reply};
+ghost use Rattle.tell.specs.Tell.{offsetC, pairC, checkReply, checkC, depthsReply, depthsC};
+ghost use Rattle.tell.specs.Read.{readC};
+ghost use Rattle.state.specs.State.{wordsOf, truth, called, stepC};
 
 // ---- names
 
@@ -30,7 +31,7 @@ pub extern "C" fn twine_spell_error(number: u32, name: &mut [u8; 11]) -> u32
 pub extern "C" fn twine_check(file: &[u8], starts: &mut [u32], out: &mut [u64; 2]) -> u32
     ensures { λ r. ⌜ checkReply (reply r (now (out .exit))) (now (starts .exit)) ≡ checkC (now (file .entry)) (length (now (starts .entry))) ⌝ }
 {
-    reply::tell_entry(checker::check(file, starts), out)
+    tell::tell_entry(checker::check(file, starts), out)
 }
 
 // `depths::depths`: count and entry.
@@ -43,7 +44,7 @@ pub extern "C" fn twine_depths(
 ) -> u32
     ensures { λ r. ⌜ depthsReply (reply r (now (out .exit))) (now (starts .exit)) (now (depths .exit)) ≡ depthsC (now (file .entry)) (length (now (starts .entry))) (length (now (depths .entry))) ⌝ }
 {
-    reply::tell_entry(depths::depths(file, starts, depths), out)
+    tell::tell_entry(depths::depths(file, starts, depths), out)
 }
 
 // ---- queries
@@ -53,7 +54,7 @@ pub extern "C" fn twine_depths(
 pub extern "C" fn twine_read(file: &[u8], at: usize, out: &mut [u64; 4]) -> u32
     ensures { λ r. ⌜ reply r (now (out .exit)) ≡ readC (now (file .entry)) at ⌝ }
 {
-    reply::read(file, at, out)
+    tell::read(file, at, out)
 }
 
 // `reader::skip`: the offset just after the value, and 0.
@@ -61,7 +62,7 @@ pub extern "C" fn twine_read(file: &[u8], at: usize, out: &mut [u64; 4]) -> u32
 pub extern "C" fn twine_skip(file: &[u8], at: usize, out: &mut [u64; 2]) -> u32
     ensures { λ r. ⌜ reply r (now (out .exit)) ≡ offsetC (skipOf (now (file .entry)) at) ⌝ }
 {
-    reply::tell_offset(reader::skip(file, at), out)
+    tell::tell_offset(reader::skip(file, at), out)
 }
 
 // `reader::item`: the item's offset, and 0.
@@ -69,7 +70,7 @@ pub extern "C" fn twine_skip(file: &[u8], at: usize, out: &mut [u64; 2]) -> u32
 pub extern "C" fn twine_item(file: &[u8], at: usize, index: usize, out: &mut [u64; 2]) -> u32
     ensures { λ r. ⌜ reply r (now (out .exit)) ≡ offsetC (itemOf (now (file .entry)) at index) ⌝ }
 {
-    reply::tell_offset(reader::item(file, at, index), out)
+    tell::tell_offset(reader::item(file, at, index), out)
 }
 
 // `reader::follow`: offset and hops.
@@ -77,7 +78,7 @@ pub extern "C" fn twine_item(file: &[u8], at: usize, index: usize, out: &mut [u6
 pub extern "C" fn twine_follow(file: &[u8], at: usize, out: &mut [u64; 2]) -> u32
     ensures { λ r. ⌜ reply r (now (out .exit)) ≡ pairC (followOf (now (file .entry)) at) ⌝ }
 {
-    reply::tell_follow(reader::follow(file, at), out)
+    tell::tell_follow(reader::follow(file, at), out)
 }
 
 // `reader::lookup`: the offset of the value, and 0.
@@ -85,7 +86,7 @@ pub extern "C" fn twine_follow(file: &[u8], at: usize, out: &mut [u64; 2]) -> u3
 pub extern "C" fn twine_lookup(file: &[u8], at: usize, key: &[u8], out: &mut [u64; 2]) -> u32
     ensures { λ r. ⌜ reply r (now (out .exit)) ≡ offsetC (lookupOf (now (file .entry)) at (now (key .entry))) ⌝ }
 {
-    reply::tell_offset(reader::lookup(file, at, key), out)
+    tell::tell_offset(reader::lookup(file, at, key), out)
 }
 
 // `reader::body_place`: first offset and length.
@@ -93,7 +94,7 @@ pub extern "C" fn twine_lookup(file: &[u8], at: usize, key: &[u8], out: &mut [u6
 pub extern "C" fn twine_body(file: &[u8], at: usize, out: &mut [u64; 2]) -> u32
     ensures { λ r. ⌜ reply r (now (out .exit)) ≡ pairC (bodyOf (now (file .entry)) at) ⌝ }
 {
-    reply::tell_body(reader::body_place(file, at), out)
+    tell::tell_body(reader::body_place(file, at), out)
 }
 
 // ---- the writer's calls: those of `writer::Writer`, on the state that the words are
@@ -115,8 +116,8 @@ pub extern "C" fn twine_write_bool(
 ) -> u32
     ensures { λ r. ⌜ called r (now (state .exit)) (now (out .exit)) (now (starts .exit)) ≡ stepC (Call.scalar (truth value)) (now (state .entry)) (now (out .entry)) (now (starts .entry)) ⌝ }
 {
-    reply::settle(
-        reply::load(state).scalar(reply::truth(value), out, starts),
+    state::settle(
+        state::load(state).scalar(state::truth(value), out, starts),
         state,
     )
 }
@@ -125,7 +126,7 @@ pub extern "C" fn twine_write_bool(
 pub extern "C" fn twine_write_null(state: &mut [u64; 5], out: &mut [u8], starts: &mut [u32]) -> u32
     ensures { λ r. ⌜ called r (now (state .exit)) (now (out .exit)) (now (starts .exit)) ≡ stepC (Call.scalar Scalar.Null) (now (state .entry)) (now (out .entry)) (now (starts .entry)) ⌝ }
 {
-    reply::settle(reply::load(state).scalar(Scalar::Null, out, starts), state)
+    state::settle(state::load(state).scalar(Scalar::Null, out, starts), state)
 }
 
 #[no_mangle]
@@ -137,7 +138,7 @@ pub extern "C" fn twine_write_integer(
 ) -> u32
     ensures { λ r. ⌜ called r (now (state .exit)) (now (out .exit)) (now (starts .exit)) ≡ stepC (Call.integer value) (now (state .entry)) (now (out .entry)) (now (starts .entry)) ⌝ }
 {
-    reply::settle(reply::load(state).integer(value, out, starts), state)
+    state::settle(state::load(state).integer(value, out, starts), state)
 }
 
 #[no_mangle]
@@ -149,7 +150,7 @@ pub extern "C" fn twine_write_float32(
 ) -> u32
     ensures { λ r. ⌜ called r (now (state .exit)) (now (out .exit)) (now (starts .exit)) ≡ stepC (Call.float32 bits) (now (state .entry)) (now (out .entry)) (now (starts .entry)) ⌝ }
 {
-    reply::settle(reply::load(state).float32(bits, out, starts), state)
+    state::settle(state::load(state).float32(bits, out, starts), state)
 }
 
 #[no_mangle]
@@ -161,7 +162,7 @@ pub extern "C" fn twine_write_float64(
 ) -> u32
     ensures { λ r. ⌜ called r (now (state .exit)) (now (out .exit)) (now (starts .exit)) ≡ stepC (Call.float64 bits) (now (state .entry)) (now (out .entry)) (now (starts .entry)) ⌝ }
 {
-    reply::settle(reply::load(state).float64(bits, out, starts), state)
+    state::settle(state::load(state).float64(bits, out, starts), state)
 }
 
 #[no_mangle]
@@ -173,7 +174,7 @@ pub extern "C" fn twine_write_text(
 ) -> u32
     ensures { λ r. ⌜ called r (now (state .exit)) (now (out .exit)) (now (starts .exit)) ≡ stepC (Call.text (now (text .entry))) (now (state .entry)) (now (out .entry)) (now (starts .entry)) ⌝ }
 {
-    reply::settle(reply::load(state).text(text, out, starts), state)
+    state::settle(state::load(state).text(text, out, starts), state)
 }
 
 #[no_mangle]
@@ -185,7 +186,7 @@ pub extern "C" fn twine_write_bytes(
 ) -> u32
     ensures { λ r. ⌜ called r (now (state .exit)) (now (out .exit)) (now (starts .exit)) ≡ stepC (Call.bytes (now (bytes .entry))) (now (state .entry)) (now (out .entry)) (now (starts .entry)) ⌝ }
 {
-    reply::settle(reply::load(state).bytes(bytes, out, starts), state)
+    state::settle(state::load(state).bytes(bytes, out, starts), state)
 }
 
 #[no_mangle]
@@ -197,7 +198,7 @@ pub extern "C" fn twine_write_variant(
 ) -> u32
     ensures { λ r. ⌜ called r (now (state .exit)) (now (out .exit)) (now (starts .exit)) ≡ stepC (Call.variant index) (now (state .entry)) (now (out .entry)) (now (starts .entry)) ⌝ }
 {
-    reply::settle(reply::load(state).variant(index, out, starts), state)
+    state::settle(state::load(state).variant(index, out, starts), state)
 }
 
 #[no_mangle]
@@ -209,7 +210,7 @@ pub extern "C" fn twine_write_reference(
 ) -> u32
     ensures { λ r. ⌜ called r (now (state .exit)) (now (out .exit)) (now (starts .exit)) ≡ stepC (Call.reference at) (now (state .entry)) (now (out .entry)) (now (starts .entry)) ⌝ }
 {
-    reply::settle(reply::load(state).reference(at, out, starts), state)
+    state::settle(state::load(state).reference(at, out, starts), state)
 }
 
 #[no_mangle]
@@ -221,7 +222,7 @@ pub extern "C" fn twine_write_pointer(
 ) -> u32
     ensures { λ r. ⌜ called r (now (state .exit)) (now (out .exit)) (now (starts .exit)) ≡ stepC (Call.pointer at) (now (state .entry)) (now (out .entry)) (now (starts .entry)) ⌝ }
 {
-    reply::settle(reply::load(state).pointer(at, out, starts), state)
+    state::settle(state::load(state).pointer(at, out, starts), state)
 }
 
 #[no_mangle]
@@ -233,7 +234,7 @@ pub extern "C" fn twine_open_array(
 ) -> u32
     ensures { λ r. ⌜ called r (now (state .exit)) (now (out .exit)) (now (starts .exit)) ≡ stepC (Call.openArray items) (now (state .entry)) (now (out .entry)) (now (starts .entry)) ⌝ }
 {
-    reply::settle(reply::load(state).open_array(items, out, starts), state)
+    state::settle(state::load(state).open_array(items, out, starts), state)
 }
 
 #[no_mangle]
@@ -245,7 +246,7 @@ pub extern "C" fn twine_open_map(
 ) -> u32
     ensures { λ r. ⌜ called r (now (state .exit)) (now (out .exit)) (now (starts .exit)) ≡ stepC (Call.openMap pairs) (now (state .entry)) (now (out .entry)) (now (starts .entry)) ⌝ }
 {
-    reply::settle(reply::load(state).open_map(pairs, out, starts), state)
+    state::settle(state::load(state).open_map(pairs, out, starts), state)
 }
 
 #[no_mangle]
@@ -257,7 +258,7 @@ pub extern "C" fn twine_open_tag(
 ) -> u32
     ensures { λ r. ⌜ called r (now (state .exit)) (now (out .exit)) (now (starts .exit)) ≡ stepC (Call.openTag tag) (now (state .entry)) (now (out .entry)) (now (starts .entry)) ⌝ }
 {
-    reply::settle(reply::load(state).open_tag(tag, out, starts), state)
+    state::settle(state::load(state).open_tag(tag, out, starts), state)
 }
 
 #[no_mangle]
@@ -269,7 +270,7 @@ pub extern "C" fn twine_open_variant1(
 ) -> u32
     ensures { λ r. ⌜ called r (now (state .exit)) (now (out .exit)) (now (starts .exit)) ≡ stepC (Call.openVariant1 index) (now (state .entry)) (now (out .entry)) (now (starts .entry)) ⌝ }
 {
-    reply::settle(reply::load(state).open_variant1(index, out, starts), state)
+    state::settle(state::load(state).open_variant1(index, out, starts), state)
 }
 
 #[no_mangle]
@@ -282,8 +283,8 @@ pub extern "C" fn twine_open_variantn(
 ) -> u32
     ensures { λ r. ⌜ called r (now (state .exit)) (now (out .exit)) (now (starts .exit)) ≡ stepC (Call.openVariantN index items) (now (state .entry)) (now (out .entry)) (now (starts .entry)) ⌝ }
 {
-    reply::settle(
-        reply::load(state).open_variant_n(index, items, out, starts),
+    state::settle(
+        state::load(state).open_variant_n(index, items, out, starts),
         state,
     )
 }
@@ -297,5 +298,5 @@ pub extern "C" fn twine_close(
 ) -> u32
     ensures { λ r. ⌜ called r (now (state .exit)) (now (out .exit)) (now (starts .exit)) ≡ stepC (Call.close at) (now (state .entry)) (now (out .entry)) (now (starts .entry)) ⌝ }
 {
-    reply::settle(reply::load(state).close(at, out, starts), state)
+    state::settle(state::load(state).close(at, out, starts), state)
 }

@@ -177,7 +177,7 @@ impl Writer {
         let left = ask.left;
         let first = self.pending == 0;
         let start = pick(first, self.written, self.start);
-        let count = listing::list_start(left == 0, start, self.count, starts);
+        let count = listing::list_start(left, start, self.count, starts);
         Writer {
             written: self.written + ask.size,
             count,

@@ -5,7 +5,7 @@ use lib.ListN.{length, length-set}
 use lib.Seq.{length-take-le}
 use borrow.Author.Needs.{needs}
 use native.Mathlib.Omega.{arith}
-use Rattle.checker.proofs.Walks.{Along, Indexed, along-start, indexed-start, known-fits, along-end, along-full, along-error, along-less, along-finished, along-counts}
+use Rattle.checker.proofs.Along.{Along, Indexed, along-start, indexed-start, known-fits, along-end, along-full, along-error, along-less, along-finished, along-counts}
 use Rattle.checker.proofs.walk.Statement.{statement}
 use Rattle.checker.proofs.walk.Tie as tie
 

@@ -5,8 +5,8 @@ use lib.ListN.{length, take}
 use lib.Seq.{length-take-le}
 use borrow.Author.Needs.{needs}
 use native.Mathlib.Omega.{arith}
-use Rattle.depths.specs.Depths.{depthsTo}
-use Rattle.depths.proofs.Laws.{depths-more, depths-all}
+use Rattle.depth.specs.Depth.{depthsTo}
+use Rattle.depth.proofs.Laws.{depths-more, depths-all}
 use Rattle.depths.proofs.measure_by.Statement.{statement}
 use Rattle.depths.proofs.measure_by.Tie as tie
 

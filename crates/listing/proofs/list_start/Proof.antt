@@ -1,6 +1,7 @@
 -- `listing::list_start` meets its contract.
 use mathlib.Core.Path.{refl}
 use borrow.Author.Needs.{needs}
+use borrow.Author.Tests.{eq-eqb, ne-eqb}
 use Rattle.listing.proofs.list_start.Statement.{statement}
 use Rattle.listing.proofs.list_start.Tie as tie
 
@@ -13,5 +14,5 @@ list-start-spec =
     (λ c. search needs)
     (λ c. search needs)
     (λ c. search needs)
-    (λ c. rw (c .if1 .taken) (refl, refl))
-    (λ c. rw (c .if1 .left) (refl, refl)))
+    (λ c. rw (eq-eqb _ _ (c .if1 .taken)) (refl, refl))
+    (λ c. rw (ne-eqb _ _ (c .if1 .left)) (refl, refl)))

@@ -1,7 +1,7 @@
 -- `twine::twine_body` meets its contract.
 use mathlib.Core.Path.{ap, _∙_}
 use borrow.Author.Needs.{needs}
-use Rattle.reply.specs.Reply.{pairC}
+use Rattle.tell.specs.Tell.{pairC}
 use Rattle.twine.proofs.twine_body.Statement.{statement}
 use Rattle.twine.proofs.twine_body.Tie as tie
 

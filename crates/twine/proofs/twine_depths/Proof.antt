@@ -2,7 +2,8 @@
 use mathlib.Core.Path.{ap, _∙_}
 use borrow.Author.Needs.{needs}
 use Rattle.depths.specs.Depths.{Deepened}
-use Rattle.reply.specs.Reply.{Reply, pairC, depthsReply}
+use Rattle.reply.specs.Reply.{Reply}
+use Rattle.tell.specs.Tell.{pairC, depthsReply}
 use Rattle.twine.proofs.twine_depths.Statement.{statement}
 use Rattle.twine.proofs.twine_depths.Tie as tie
 

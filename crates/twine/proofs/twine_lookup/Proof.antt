@@ -1,7 +1,7 @@
 -- `twine::twine_lookup` meets its contract.
 use mathlib.Core.Path.{ap, _∙_}
 use borrow.Author.Needs.{needs}
-use Rattle.reply.specs.Reply.{offsetC}
+use Rattle.tell.specs.Tell.{offsetC}
 use Rattle.twine.proofs.twine_lookup.Statement.{statement}
 use Rattle.twine.proofs.twine_lookup.Tie as tie
 

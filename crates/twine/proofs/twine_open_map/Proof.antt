@@ -1,6 +1,6 @@
 -- `twine::twine_open_map` meets its contract.
 use borrow.Author.Needs.{needs}
-use Rattle.reply.proofs.Calls.{step-called}
+use Rattle.state.proofs.Calls.{step-called}
 use Rattle.twine.proofs.twine_open_map.Statement.{statement}
 use Rattle.twine.proofs.twine_open_map.Tie as tie
 

@@ -1,6 +1,6 @@
 -- `twine::twine_open_variantn` meets its contract.
 use borrow.Author.Needs.{needs}
-use Rattle.reply.proofs.Calls.{step-called}
+use Rattle.state.proofs.Calls.{step-called}
 use Rattle.twine.proofs.twine_open_variantn.Statement.{statement}
 use Rattle.twine.proofs.twine_open_variantn.Tie as tie
 

@@ -1,6 +1,6 @@
 -- `twine::twine_write_bool` meets its contract: `truth` is the scalar that is put.
 use borrow.Author.Needs.{needs}
-use Rattle.reply.proofs.Calls.{step-called}
+use Rattle.state.proofs.Calls.{step-called}
 use Rattle.twine.proofs.twine_write_bool.Statement.{statement}
 use Rattle.twine.proofs.twine_write_bool.Tie as tie
 

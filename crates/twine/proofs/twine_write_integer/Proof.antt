@@ -2,7 +2,7 @@
 use borrow.Author.Needs.{needs}
 use mir.Syntax.{w64}
 use mir.ValLaws.{toZ-ofZ}
-use Rattle.reply.proofs.Calls.{step-called}
+use Rattle.state.proofs.Calls.{step-called}
 use Rattle.twine.proofs.twine_write_integer.Statement.{statement}
 use Rattle.twine.proofs.twine_write_integer.Tie as tie
 

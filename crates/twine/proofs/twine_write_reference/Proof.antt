@@ -1,6 +1,6 @@
 -- `twine::twine_write_reference` meets its contract.
 use borrow.Author.Needs.{needs}
-use Rattle.reply.proofs.Calls.{step-called}
+use Rattle.state.proofs.Calls.{step-called}
 use Rattle.twine.proofs.twine_write_reference.Statement.{statement}
 use Rattle.twine.proofs.twine_write_reference.Tie as tie
 

@@ -1,6 +1,6 @@
 -- `twine::twine_write_variant` meets its contract.
 use borrow.Author.Needs.{needs}
-use Rattle.reply.proofs.Calls.{step-called}
+use Rattle.state.proofs.Calls.{step-called}
 use Rattle.twine.proofs.twine_write_variant.Statement.{statement}
 use Rattle.twine.proofs.twine_write_variant.Tie as tie
 

@@ -1,0 +1,2 @@
+-- the depth of a value
+pub mod Laws

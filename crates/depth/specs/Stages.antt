@@ -1,0 +1,11 @@
+-- What the functions of depths take. No contract for users cites this file.
+--
+--   Starts s ss    ss rise and are offsets of the region s
+use Prim.Native.Nat.{ℕ, _<_}
+use mathlib.Core.List.{List}
+use lib.ListN.{length, getD}
+use Rattle.prelude.specs.Search.{Rising}
+
+pub record Starts (s ss : List ℕ) : Type 0 where
+  pub rising : Rising ss
+  pub inside : (i : ℕ) → i < length ss → getD ss i 0 < length s

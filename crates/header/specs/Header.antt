@@ -1,0 +1,18 @@
+-- The number n of a header. No contract for users cites this file.
+--
+--   inRange low most a   n of the low nibble and the number a behind it, with the bytes left: RANGE where it is over `most`
+--   numbered low most s  the same, where the number stands in front of s if there is one
+use Prim.Native.Nat.{ℕ, _+_}
+use mathlib.Core.List.{List}
+use lib.Dec.{leb}
+use Rattle.prelude.specs.Pick.{pick}
+use Rattle.prelude.specs.Answer.{Answer, ok, error, measured}
+use Rattle.error.specs.Error.{RANGE}
+use Rattle.token.specs.Scan.{getIf}
+
+abbrev pub inRange : ℕ → ℕ → Answer ℕ (ℕ × ℕ) → Answer ℕ (ℕ × ℕ)
+inRange low most (ok a) = pick (leb (low + a .0) most) (ok (low + a .0, a .1)) (error RANGE)
+inRange low most (error e) = error e
+
+unfoldable pub numbered : ℕ → ℕ → List ℕ → Answer ℕ (ℕ × ℕ)
+numbered low most s = inRange low most (measured (getIf (leb 15 low) s))

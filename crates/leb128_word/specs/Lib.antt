@@ -1,0 +1,2 @@
+-- several bytes at once
+pub mod Word

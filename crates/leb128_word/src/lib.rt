@@ -1,0 +1,97 @@
+// LEB128 numbers read fast: one or two bytes in the caller, up to seven from one word. The reader of crate leb128 takes what is left.
+use leb128::GetResult;
+ghost use mathlib.Core.Path.{_≡_};
+ghost use Prim.Native.Nat.{_<_, _^_};
+ghost use Rattle.prelude.specs.Answer.{measured};
+ghost use Rattle.leb128.specs.Leb.{get};
+ghost use Rattle.leb128.specs.Told.{told};
+ghost use Rattle.leb128_word.specs.Word.{marks, sevens};
+
+// Of the four lowest bytes of w: 128 in the place of each that is below 128, and 0 in that of each other.
+fn marks4(w: u64) -> u64
+    ensures { λ r. ⌜ (r ≡ marks 4 w) × (r < 2 ^ 32) ⌝ }
+{
+    let a = 128 - w / 128 % 2 * 128;
+    let b = 128 - w / 256 / 128 % 2 * 128;
+    let c = 128 - w / 256 / 256 / 128 % 2 * 128;
+    let d = 128 - w / 256 / 256 / 256 / 128 % 2 * 128;
+    a + 256 * (b + 256 * (c + 256 * d))
+}
+
+// The same of all eight.
+fn marks(w: u64) -> u64
+    ensures { λ r. ⌜ r ≡ marks 8 w ⌝ }
+{
+    marks4(w) + 0x1_0000_0000 * marks4(w / 256 / 256 / 256 / 256)
+}
+
+// The number of which the four lowest bytes of w have seven bits each, the lowest first.
+fn sevens4(w: u64) -> u64
+    ensures { λ r. ⌜ (r ≡ sevens 4 w) × (r < 2 ^ 28) ⌝ }
+{
+    let a = w % 128;
+    let b = w / 256 % 128;
+    let c = w / 256 / 256 % 128;
+    let d = w / 256 / 256 / 256 % 128;
+    a + 128 * (b + 128 * (c + 128 * d))
+}
+
+// The same of all eight.
+fn sevens(w: u64) -> u64
+    ensures { λ r. ⌜ r ≡ sevens 8 w ⌝ }
+{
+    sevens4(w) + 0x1000_0000 * sevens4(w / 256 / 256 / 256 / 256)
+}
+
+// Reads the number at the front of s. One of up to seven bytes with no fault is read eight bytes at once, with no guess at how many are its own.
+// For numbers that are rare or long: `get` is compiled into its callers, this is called.
+pub fn get_wide(s: &[u8]) -> GetResult
+    ensures { λ r. ⌜ told r ≡ measured (get 9 0 (now (s .entry))) ⌝ }
+{
+    let len = s.len();
+    if len < 8 {
+        return leb128::get(s);
+    }
+    let w = float::bits8(s);
+    // the last byte is the first without its high bit
+    let t = u64::trailing_zeros(marks(w));
+    if 55 < t {
+        return leb128::get(s);
+    }
+    let end = t + 1;
+    let unit = 1u64 << end;
+    let own = w % unit;
+    // OVERLONG: the last byte is 0
+    if own < unit / 256 {
+        return leb128::get(s);
+    }
+    GetResult::Ok {
+        value: sevens(own),
+        left: len - (end / 8) as usize,
+    }
+}
+
+// Reads the number at the front of s. One of one or two bytes is read here, which is short enough to be compiled into its callers.
+pub fn get(s: &[u8]) -> GetResult
+    ensures { λ r. ⌜ told r ≡ measured (get 9 0 (now (s .entry))) ⌝ }
+{
+    let len = s.len();
+    if len < 2 {
+        return leb128::get(s);
+    }
+    let a = s[0];
+    if a < 128 {
+        return GetResult::Ok {
+            value: a as u64,
+            left: len - 1,
+        };
+    }
+    let b = s[1];
+    if (0 < b) & (b < 128) {
+        return GetResult::Ok {
+            value: (a % 128) as u64 + 128 * (b % 128) as u64,
+            left: len - 2,
+        };
+    }
+    get_wide(s)
+}

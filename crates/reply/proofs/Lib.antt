@@ -1,6 +1,0 @@
--- the rows of `twine_read`
-pub mod Rows
--- the writer's calls
-pub mod Calls
--- what holds of C's calls beside their contracts
-pub mod Theorems

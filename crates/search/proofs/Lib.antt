@@ -1,0 +1,2 @@
+-- a search by quarters
+mod Quarters

@@ -1,0 +1,14 @@
+-- `search::below` meets its contract.
+use borrow.Author.Needs.{needs}
+use Rattle.search.proofs.Quarters.{is-past, not-past}
+use Rattle.search.proofs.below.Statement.{statement}
+use Rattle.search.proofs.below.Tie as tie
+
+pub below-spec : {M : Type 1} → statement M
+below-spec =
+    tie.close
+    (tie.spec
+    (λ c. search needs)
+    (λ c. search needs)
+    (λ c. search (is-past, needs))
+    (λ c. search (not-past, needs)))

@@ -1,0 +1,19 @@
+-- `show::name` is safe: a name has its place in its ten bytes.
+use mathlib.Core.Path.{sym}
+use borrow.Author.Needs.{needs}
+use lib.Seq.{length-take-le}
+use Rattle.error.proofs.Laws.{name-within}
+use Rattle.show.proofs.name.Statement.{statement}
+use Rattle.show.proofs.name.Tie as tie
+
+pub name-spec : {M : Type 1} → statement M
+name-spec =
+    tie.close
+    (tie.spec
+    (λ c κs. search needs)
+    (λ c. search needs)
+    (λ c κs. search needs)
+    (λ c. name-within _ (c .before .before .before .name .ensures))
+    (λ c. sym (length-take-le _ _ (name-within _ (c .before .before .before .before .name .ensures))))
+    (λ c κs. search needs)
+    (λ c. search needs))

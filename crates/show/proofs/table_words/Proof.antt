@@ -1,0 +1,27 @@
+-- `show::table_words` is safe and ends.
+use Prim.Native.Nat.{_-_, _≤_}
+use lib.ListN.{length}
+use borrow.Author.Needs.{needs}
+use Rattle.show.proofs.table_words.Statement.{statement}
+use Rattle.show.proofs.table_words.Tie as tie
+
+abbrev Inv-loop : tie.InvT-loop
+Inv-loop t i₀ i = i ≤ length t
+
+abbrev μ-loop : tie.MeasureT-loop
+μ-loop t i₀ i = length t - i
+
+pub table-words-spec : {M : Type 1} → statement M
+table-words-spec =
+    tie.close
+    (tie.spec
+    Inv-loop
+    μ-loop
+    (λ c. search needs)
+    (λ c. search needs)
+    (λ c. search needs)
+    (λ c κs. search needs)
+    (λ c. search needs)
+    (λ c. search needs)
+    (λ c. search needs)
+    (λ c. search needs))

@@ -1,0 +1,2 @@
+-- the rows of `twine_read`
+pub mod Rows
