@@ -1,22 +1,25 @@
--- `words::find` is safe, ends, and answers an offset of s.
+-- `samples::same` is safe and ends.
+use mathlib.Core.Path.{_≡_}
 use Prim.Native.Nat.{_-_, _≤_}
 use lib.ListN.{length}
 use borrow.Author.Needs.{needs}
-use Rattle.words.proofs.find.Statement.{statement}
-use Rattle.words.proofs.find.Tie as tie
+use Rattle.samples.proofs.same.Statement.{statement}
+use Rattle.samples.proofs.same.Tie as tie
 
 abbrev Inv-loop : tie.InvT-loop
-Inv-loop s at b i₀ i = (at ≤ i) × (i ≤ length s)
+Inv-loop a b i₀ i = (i ≤ length a) × (length a ≡ length b)
 
 abbrev μ-loop : tie.MeasureT-loop
-μ-loop s at b i₀ i = length s - i
+μ-loop a b i₀ i = length a - i
 
-pub find-spec : {M : Type 1} → statement M
-find-spec =
+pub same-spec : {M : Type 1} → statement M
+same-spec =
     tie.close
     (tie.spec
     Inv-loop
     μ-loop
+    (λ c. search needs)
+    (λ c. search needs)
     (λ c. search needs)
     (λ c. search needs)
     (λ c. search needs)

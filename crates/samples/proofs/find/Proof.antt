@@ -1,25 +1,25 @@
--- `show::hex` is safe and ends.
+-- `samples::find` is safe, ends, and answers an offset of s.
 use Prim.Native.Nat.{_-_, _≤_}
 use lib.ListN.{length}
 use borrow.Author.Needs.{needs}
-use Rattle.show.proofs.hex.Statement.{statement}
-use Rattle.show.proofs.hex.Tie as tie
+use Rattle.samples.proofs.find.Statement.{statement}
+use Rattle.samples.proofs.find.Tie as tie
 
 abbrev Inv-loop : tie.InvT-loop
-Inv-loop part i₀ i = i ≤ length part
+Inv-loop s at b i₀ i = (at ≤ i) × (i ≤ length s)
 
 abbrev μ-loop : tie.MeasureT-loop
-μ-loop part i₀ i = length part - i
+μ-loop s at b i₀ i = length s - i
 
-pub hex-spec : {M : Type 1} → statement M
-hex-spec =
+pub find-spec : {M : Type 1} → statement M
+find-spec =
     tie.close
     (tie.spec
     Inv-loop
     μ-loop
     (λ c. search needs)
     (λ c. search needs)
-    (λ c κs. search needs)
+    (λ c. search needs)
     (λ c. search needs)
     (λ c. search needs)
     (λ c. search needs)

@@ -1,4 +1,4 @@
--- `words::negative` is safe: -n-1 of an n below 2^63 fits.
+-- `samples::negative` is safe: -n-1 of an n below 2^63 fits.
 use mathlib.Core.Path.{_≡_, refl, ap, _∙_}
 use Prim.Native.Nat.{ℕ, zero, suc, _<_, _^_}
 use native.Mathlib.Nat.{zero-add}
@@ -7,8 +7,8 @@ use borrow.Author.Needs.{needs}
 use mir.Syntax.{w64}
 use mir.Val.{toZ}
 use mir.ValLaws.{toZ-ofZ}
-use Rattle.words.proofs.negative.Statement.{statement}
-use Rattle.words.proofs.negative.Tie as tie
+use Rattle.samples.proofs.negative.Statement.{statement}
+use Rattle.samples.proofs.negative.Tie as tie
 
 minus : (n : ℕ) → negsuc 0 -ℤ pos n ≡ negsuc n
 minus zero = refl

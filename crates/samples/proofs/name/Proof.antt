@@ -1,10 +1,10 @@
--- `show::name` is safe: a name has its place in its ten bytes.
+-- `samples::name` is safe: a name has its place in its ten bytes.
 use mathlib.Core.Path.{sym}
 use borrow.Author.Needs.{needs}
 use lib.Seq.{length-take-le}
 use Rattle.error.proofs.Laws.{name-within}
-use Rattle.show.proofs.name.Statement.{statement}
-use Rattle.show.proofs.name.Tie as tie
+use Rattle.samples.proofs.name.Statement.{statement}
+use Rattle.samples.proofs.name.Tie as tie
 
 pub name-spec : {M : Type 1} → statement M
 name-spec =

@@ -1,26 +1,24 @@
--- `words::number` is safe and ends.
+-- `samples::hex` is safe and ends.
 use Prim.Native.Nat.{_-_, _≤_}
 use lib.ListN.{length}
 use borrow.Author.Needs.{needs}
-use Rattle.words.proofs.number.Statement.{statement}
-use Rattle.words.proofs.number.Tie as tie
+use Rattle.samples.proofs.hex.Statement.{statement}
+use Rattle.samples.proofs.hex.Tie as tie
 
 abbrev Inv-loop : tie.InvT-loop
-Inv-loop s end i₀ n₀ i n = (i ≤ end) × (end ≤ length s)
+Inv-loop part i₀ i = i ≤ length part
 
 abbrev μ-loop : tie.MeasureT-loop
-μ-loop s end i₀ n₀ i n = end - i
+μ-loop part i₀ i = length part - i
 
-pub number-spec : {M : Type 1} → statement M
-number-spec =
+pub hex-spec : {M : Type 1} → statement M
+hex-spec =
     tie.close
     (tie.spec
     Inv-loop
     μ-loop
-    (λ c κs. search needs)
     (λ c. search needs)
     (λ c. search needs)
-    (λ c κs. search needs)
     (λ c κs. search needs)
     (λ c. search needs)
     (λ c. search needs)

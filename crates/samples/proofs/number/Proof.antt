@@ -1,25 +1,26 @@
--- `show::table_words` is safe and ends.
+-- `samples::number` is safe and ends.
 use Prim.Native.Nat.{_-_, _≤_}
 use lib.ListN.{length}
 use borrow.Author.Needs.{needs}
-use Rattle.show.proofs.table_words.Statement.{statement}
-use Rattle.show.proofs.table_words.Tie as tie
+use Rattle.samples.proofs.number.Statement.{statement}
+use Rattle.samples.proofs.number.Tie as tie
 
 abbrev Inv-loop : tie.InvT-loop
-Inv-loop t i₀ i = i ≤ length t
+Inv-loop s end i₀ n₀ i n = (i ≤ end) × (end ≤ length s)
 
 abbrev μ-loop : tie.MeasureT-loop
-μ-loop t i₀ i = length t - i
+μ-loop s end i₀ n₀ i n = end - i
 
-pub table-words-spec : {M : Type 1} → statement M
-table-words-spec =
+pub number-spec : {M : Type 1} → statement M
+number-spec =
     tie.close
     (tie.spec
     Inv-loop
     μ-loop
+    (λ c κs. search needs)
     (λ c. search needs)
     (λ c. search needs)
-    (λ c. search needs)
+    (λ c κs. search needs)
     (λ c κs. search needs)
     (λ c. search needs)
     (λ c. search needs)

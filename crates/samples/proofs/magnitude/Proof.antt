@@ -1,8 +1,8 @@
--- `show::magnitude` is safe: neither form of a number of 64 bits is out of reach.
+-- `samples::magnitude` is safe: neither form of a number of 64 bits is out of reach.
 use native.Mathlib.Omega.{arith}
 use Rattle.prelude.proofs.Signs.{flipped, kept, reread}
-use Rattle.show.proofs.magnitude.Statement.{statement}
-use Rattle.show.proofs.magnitude.Tie as tie
+use Rattle.samples.proofs.magnitude.Statement.{statement}
+use Rattle.samples.proofs.magnitude.Tie as tie
 
 pub magnitude-spec : {M : Type 1} → statement M
 magnitude-spec =

@@ -1,11 +1,11 @@
--- `words::unhex` is safe and ends, and answers a count of its bytes.
+-- `samples::unhex` is safe and ends, and answers a count of its bytes.
 use mathlib.Core.Path.{_≡_}
 use Prim.Native.Nat.{_-_, _≤_}
 use lib.ListN.{length}
 use Rattle.io.proofs.Counting.{counts}
 use borrow.Author.Needs.{needs}
-use Rattle.words.proofs.unhex.Statement.{statement}
-use Rattle.words.proofs.unhex.Tie as tie
+use Rattle.samples.proofs.unhex.Statement.{statement}
+use Rattle.samples.proofs.unhex.Tie as tie
 
 abbrev Inv-loop : tie.InvT-loop
 Inv-loop s out₀ i₀ n₀ out i n = (i ≤ length s) × (n ≤ length out₀) × (length out ≡ length out₀)

@@ -1,9 +1,9 @@
--- `words::last` is safe, ends, and answers an offset of s.
+-- `samples::last` is safe, ends, and answers an offset of s.
 use Prim.Native.Nat.{_≤_}
 use lib.ListN.{length}
 use borrow.Author.Needs.{needs}
-use Rattle.words.proofs.last.Statement.{statement}
-use Rattle.words.proofs.last.Tie as tie
+use Rattle.samples.proofs.last.Statement.{statement}
+use Rattle.samples.proofs.last.Tie as tie
 
 abbrev Inv-loop : tie.InvT-loop
 Inv-loop s i₀ i = i ≤ length s

@@ -1,19 +1,18 @@
--- `words::same` is safe and ends.
-use mathlib.Core.Path.{_≡_}
+-- `samples::table_words` is safe and ends.
 use Prim.Native.Nat.{_-_, _≤_}
 use lib.ListN.{length}
 use borrow.Author.Needs.{needs}
-use Rattle.words.proofs.same.Statement.{statement}
-use Rattle.words.proofs.same.Tie as tie
+use Rattle.samples.proofs.table_words.Statement.{statement}
+use Rattle.samples.proofs.table_words.Tie as tie
 
 abbrev Inv-loop : tie.InvT-loop
-Inv-loop a b i₀ i = (i ≤ length a) × (length a ≡ length b)
+Inv-loop t i₀ i = i ≤ length t
 
 abbrev μ-loop : tie.MeasureT-loop
-μ-loop a b i₀ i = length a - i
+μ-loop t i₀ i = length t - i
 
-pub same-spec : {M : Type 1} → statement M
-same-spec =
+pub table-words-spec : {M : Type 1} → statement M
+table-words-spec =
     tie.close
     (tie.spec
     Inv-loop
@@ -21,8 +20,7 @@ same-spec =
     (λ c. search needs)
     (λ c. search needs)
     (λ c. search needs)
-    (λ c. search needs)
-    (λ c. search needs)
+    (λ c κs. search needs)
     (λ c. search needs)
     (λ c. search needs)
     (λ c. search needs)
