@@ -1,4 +1,4 @@
--- what check, depths and the queries tell
+-- what an answer is in C
 pub mod Tell
 -- what `twine_read` tells: a row for each kind
 pub mod Read

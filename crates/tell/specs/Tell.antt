@@ -1,16 +1,11 @@
--- What check, depths and the queries tell in C.
+-- What an answer is in C.
 --
 --   offsetC a        an offset and 0, or the error
 --   pairC a          two numbers, or the error
---   checkC file cap  what `twine_check` answers, and leaves in a table of cap words
---   depthsC file cap room
---                    what `twine_depths` answers, and leaves in tables of cap and of room words
 use Prim.Native.Nat.{ℕ}
-use mathlib.Core.List.{List, [], _∷_}
+use mathlib.Core.List.{[], _∷_}
 use Rattle.prelude.specs.Answer.{Answer, ok, error}
 use Rattle.error.specs.Error.{Fault}
-use Rattle.checker.specs.Check.{checkOf}
-use Rattle.depths.specs.Depths.{depthsOf}
 use Rattle.reply.specs.Reply.{Reply, reply, refused}
 
 abbrev pub offsetC : Answer Fault ℕ → Reply
@@ -20,26 +15,3 @@ offsetC (error e) = refused e
 abbrev pub pairC : Answer Fault (ℕ × ℕ) → Reply
 pairC (ok p) = reply 0 (p .0 ∷ p .1 ∷ [])
 pairC (error e) = refused e
-
--- ---- check and depths
-
-pub record CheckReply : Type 0 where
-  pub reply : Reply
-  pub starts : List ℕ
-
-abbrev pub checkReply : Reply → List ℕ → CheckReply
-checkReply r t = record { reply = r; starts = t }
-
-abbrev pub checkC : List ℕ → ℕ → CheckReply
-checkC file cap = let c = checkOf file cap in checkReply (pairC (c .answer)) (c .starts)
-
-pub record DepthsReply : Type 0 where
-  pub reply : Reply
-  pub starts : List ℕ
-  pub depths : List ℕ
-
-abbrev pub depthsReply : Reply → List ℕ → List ℕ → DepthsReply
-depthsReply r t d = record { reply = r; starts = t; depths = d }
-
-abbrev pub depthsC : List ℕ → ℕ → ℕ → DepthsReply
-depthsC file cap room = let d = depthsOf file cap room in depthsReply (pairC (d .answer)) (d .starts) (d .depths)

@@ -1,4 +1,4 @@
-// The answers of check, depths and the queries, as C gets them.
+// The answers of check and of the queries, as C gets them.
 use body::BodyResult;
 use checker::CheckResult;
 use pointers::FollowResult;

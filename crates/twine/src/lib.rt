@@ -10,7 +10,8 @@ ghost use Rattle.lookup.specs.Lookup.{lookupOf};
 ghost use Rattle.writer.specs.Step.{Call, fresh};
 ghost use Rattle.writer.specs.declared.Scalar as Scalar;
 ghost use Rattle.reply.specs.Reply.{nameC, reply};
-ghost use Rattle.tell.specs.Tell.{offsetC, pairC, checkReply, checkC, depthsReply, depthsC};
+ghost use Rattle.tell.specs.Tell.{offsetC, pairC};
+ghost use Rattle.twine.specs.Tables.{checkReply, checkC, depthsReply, depthsC};
 ghost use Rattle.tell.specs.Read.{readC};
 ghost use Rattle.state.specs.State.{wordsOf, truth, called, stepC};
 

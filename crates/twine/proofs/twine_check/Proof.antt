@@ -3,7 +3,8 @@ use mathlib.Core.Path.{ap, _∙_}
 use borrow.Author.Needs.{needs}
 use Rattle.checker.specs.Check.{Checked}
 use Rattle.reply.specs.Reply.{Reply}
-use Rattle.tell.specs.Tell.{pairC, checkReply}
+use Rattle.tell.specs.Tell.{pairC}
+use Rattle.twine.specs.Tables.{checkReply}
 use Rattle.twine.proofs.twine_check.Statement.{statement}
 use Rattle.twine.proofs.twine_check.Tie as tie
 

@@ -3,7 +3,8 @@ use mathlib.Core.Path.{ap, _∙_}
 use borrow.Author.Needs.{needs}
 use Rattle.depths.specs.Depths.{Deepened}
 use Rattle.reply.specs.Reply.{Reply}
-use Rattle.tell.specs.Tell.{pairC, depthsReply}
+use Rattle.tell.specs.Tell.{pairC}
+use Rattle.twine.specs.Tables.{depthsReply}
 use Rattle.twine.proofs.twine_depths.Statement.{statement}
 use Rattle.twine.proofs.twine_depths.Tie as tie
 
