@@ -19,13 +19,14 @@ use Rattle.error.specs.Error.{Fault, LIMIT}
 use Rattle.error.specs.declared.Error.{Error}
 use Rattle.checker.specs.declared.CheckResult.{CheckResult}
 use Rattle.checker.specs.declared.CheckResult.the-variants.{Ok, Err}
-use Rattle.checker.specs.declared.ListResult as lists
-use Rattle.checker.specs.declared.ListResult.the-variants as lists-are
 use Rattle.pass.specs.Walk.{between, startsFrom}
 use Rattle.pass.proofs.Walks.{come}
+use Rattle.starts.specs.declared.ListResult as lists
+use Rattle.starts.specs.declared.ListResult.the-variants as lists-are
+use Rattle.starts.specs.Told.{toldList, Listed}
 use Rattle.checker.specs.Check.{entryAt, checkIn, filled, checked, listed, checkOf}
 use Rattle.checker.specs.Told.{toldCheck}
-use Rattle.checker.specs.Stages.{toldList, Listed, toldIn, kept}
+use Rattle.checker.specs.Stages.{toldIn, kept}
 
 -- starts in the first words of t, and the entry behind them
 pub record Entered (q : CheckResult) (t : List ℕ) (a : Answer Fault ((List ℕ) × ℕ)) : Type 0 where

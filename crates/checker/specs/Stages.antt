@@ -1,27 +1,15 @@
 -- What this crate's private functions make. No public contract cites this file.
 --
---   toldList r t      a `ListResult` with the table t that it left: the starts, or the error's number and place
---   Listed r t        the starts that it tells are words of t
---   toldIn r t        the same of a `CheckResult`: starts and entry
+--   toldIn r t        a `CheckResult` with the table t that it left: starts and entry, or the error's number and place
 --   kept r            how many words of the table it keeps
-use Prim.Native.Nat.{ℕ, _≤_}
+use Prim.Native.Nat.{ℕ}
 use mathlib.Core.List.{List}
-use lib.ListN.{length, take}
+use lib.ListN.{take}
 use Rattle.prelude.specs.Answer.{Answer, ok, error}
 use Rattle.error.specs.Error as errors
 use Rattle.error.specs.Error.{Fault}
 use Rattle.checker.specs.declared.CheckResult as checks
 use Rattle.checker.specs.declared.CheckResult.the-variants as checks-are
-use Rattle.checker.specs.declared.ListResult as lists
-use Rattle.checker.specs.declared.ListResult.the-variants as lists-are
-
-abbrev pub toldList : lists.ListResult → List ℕ → Answer Fault (List ℕ)
-toldList (lists-are.Ok n) t = ok (take n t)
-toldList (lists-are.Err e) t = error (errors.told e)
-
-abbrev pub Listed : lists.ListResult → List ℕ → Type 0
-Listed (lists-are.Ok n) t = n ≤ length t
-Listed (lists-are.Err e) t = Unit {0}
 
 abbrev pub toldIn : checks.CheckResult → List ℕ → Answer Fault ((List ℕ) × ℕ)
 toldIn (checks-are.Ok count entry) t = ok (take count t, entry)

@@ -1,19 +1,15 @@
 // Check (document 01, "Check and depths").
 use error::Error;
 use error::ErrorKind;
-use pass::PassResult;
+use starts::ListResult;
 ghost use mathlib.Core.Path.{_≡_};
-ghost use mathlib.Core.List.{[]};
-ghost use Prim.Native.Nat.{_*_, _≤_, _<_, _^_};
-ghost use lib.ListN.{length, getD};
+ghost use Prim.Native.Nat.{_≤_, _<_, _^_};
+ghost use lib.ListN.{length};
 ghost use Rattle.prelude.specs.Answer.{ok, bind};
 ghost use Rattle.prelude.specs.Search.{Rising};
-ghost use Rattle.error.specs.Error.{LIMIT};
-ghost use Rattle.table.specs.Blocks.{BLOCK};
-ghost use Rattle.pass.specs.Walk.{between, startsFrom};
 ghost use Rattle.checker.specs.Check.{entryAt, checkIn, checked, checkOf};
 ghost use Rattle.checker.specs.Told.{toldCheck};
-ghost use Rattle.checker.specs.Stages.{toldList, Listed, toldIn, kept};
+ghost use Rattle.checker.specs.Stages.{toldIn, kept};
 
 // The answer of `check`.
 pub enum CheckResult {
@@ -21,62 +17,6 @@ pub enum CheckResult {
     Ok { count: usize, entry: usize },
     Err(Error),
 }
-
-// How many values a region has.
-enum ListResult {
-    Ok(usize),
-    Err(Error),
-}
-
-// ---- the walk
-
-// Lists the starts of a region's values in the first words of the table, and counts them by blocks of the region.
-fn walk(region: &[u8], starts: &mut [u32], blocks: &mut [u32]) -> ListResult
-    requires { ⌜ (length (now region) ≤ LIMIT) × (length (now region) < length (now blocks) * BLOCK) × (getD (now blocks) 0 0 ≡ 0) ⌝ }
-    ensures { λ r. ⌜ (toldList r (now (starts .exit)) ≡ startsFrom (now (region .entry)) (length (now (starts .entry))) (between 0 [])) × (Listed r (now (starts .exit))) ⌝ }
-{
-    let mut at: usize = 0;
-    let mut count: usize = 0;
-    while at < region.len() {
-        // FULL: a new value without a word
-        if starts.len() <= count {
-            return ListResult::Err(Error {
-                kind: ErrorKind::Full,
-                place: at,
-            });
-        }
-        // the blocks that begin at most at `at` are counted
-        let known = at / 4096 + 1;
-        match pass::pass_value(region, &starts[..count], &blocks[..known], at) {
-            PassResult::Ok(end) => {
-                starts[count] = at as u32;
-                count = count + 1;
-                table::count_blocks(&starts[..count], blocks, known, end / 4096);
-                at = end;
-            }
-            PassResult::Err(e) => {
-                return ListResult::Err(e);
-            }
-        }
-    }
-    ListResult::Ok(count)
-}
-
-// Lists the starts of a region's values in the first words of the table. A short region has few blocks: for a small file, the zeros of the
-// large array would take longer than the walk.
-fn list_starts(region: &[u8], starts: &mut [u32]) -> ListResult
-    requires { ⌜ length (now region) < LIMIT ⌝ }
-    ensures { λ r. ⌜ (toldList r (now (starts .exit)) ≡ startsFrom (now (region .entry)) (length (now (starts .entry))) (between 0 [])) × (Listed r (now (starts .exit))) ⌝ }
-{
-    if region.len() < 65536 {
-        let mut few = [0u32; 16];
-        return walk(region, starts, &mut few);
-    }
-    let mut blocks = [0u32; 4096];
-    walk(region, starts, &mut blocks)
-}
-
-// ---- check
 
 // The entry that the delta byte d at the offset p names, among the starts of a file's values.
 fn entry_at(starts: &[u32], p: usize, d: u8) -> CheckResult
@@ -119,7 +59,7 @@ fn check_in(file: &[u8], starts: &mut [u32]) -> CheckResult
         });
     }
     let p = len - 1;
-    match list_starts(&file[..p], starts) {
+    match starts::list_starts(&file[..p], starts) {
         ListResult::Ok(count) => entry_at(&starts[..count], p, file[p]),
         ListResult::Err(e) => CheckResult::Err(e),
     }

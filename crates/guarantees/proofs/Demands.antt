@@ -11,14 +11,14 @@ use lib.Seq.{getD-at, drop-append-add}
 use Rattle.prelude.specs.Answer.{ok, error}
 use Rattle.prelude.specs.Bytes.{Bytes}
 use Rattle.error.specs.Error.{CLOSED}
-use Rattle.values.specs.Values.{Value, starts, Each, WellFormed}
+use Rattle.values.specs.Values.{Each}
 use Rattle.checker.specs.Check.{checkOf}
 use Rattle.writer.specs.Step.{Call, close, fresh}
 use Rattle.writer.specs.Given.{Given}
 use Rattle.guarantees.specs.Model.{ends, Model, blank, judgeOf, takenOf}
 use Rattle.guarantees.specs.History.{runs, Noted, notes}
 use Rattle.guarantees.specs.ReadsBack.{ReadsBack}
-use Rattle.guarantees.specs.Rewrites.{rewriting, AllOk}
+use Rattle.guarantees.specs.Rewrites.{rewriting, AllOk, Rewritten}
 use Rattle.guarantees.proofs.Accepted.{accepted}
 use Rattle.guarantees.proofs.History.{history}
 use Rattle.guarantees.proofs.Lists.{notes-append, length-answers, ended-same, ended-answers}
@@ -26,16 +26,6 @@ use Rattle.guarantees.proofs.Rewrites.{model-rewrites, calls-given}
 use Rattle.guarantees.proofs.ReadsBack.{model-reads-back}
 
 -- ---- written again
-
--- the file has these values, a new writer accepts each call that writes them again in order and closes at the entry, and what it has written then
--- is the file
-pub record Rewritten (file : List ℕ) (entry : ℕ) (out table : List ℕ) : Type 0 where
-  pub values : List Value
-  pub wellFormed : WellFormed file values entry
-  pub given : Each Given (rewriting values entry)
-  pub accepted : AllOk (runs (rewriting values entry) fresh out table .answers)
-  pub same : let r = runs (rewriting values entry) fresh out table in take (r .writer .written) (r .out) ≡ file
-  pub listed : let r = runs (rewriting values entry) fresh out table in take (r .writer .count) (r .table) ≡ starts 0 values
 
 -- of every accepted file, with an output at least as long and a word for each value
 pub rewrites : (file : List ℕ) (cap count entry : ℕ) → Bytes file → checkOf file cap .answer ≡ ok (count, entry)

@@ -9,19 +9,24 @@
 --   again v s        the call that writes a value again which the reader tells as v, with the body s where it is a text or byte string: what
 --                    is told is enough
 --   AllOk as         each of the answers is `ok`
+--   Rewritten file entry out table
+--                    the file has values, a new writer accepts each call that writes them again in order and closes at the entry, and what it has
+--                    written then is the file
 use Prim.Native.Nat.{ℕ, _+_, _-_}
 use mathlib.Core.Path.{_≡_}
 use mathlib.Core.List.{List, [], _∷_, _++_}
 use lib.Dec.{eqb}
 use lib.IntN.{pos, negsuc}
-use lib.ListN.{length, getD}
+use lib.ListN.{length, take, getD}
 use Rattle.prelude.specs.Pick.{pick}
 use Rattle.prelude.specs.Answer.{ok}
 use Rattle.float.specs.Bits.{value}
 use Rattle.token.specs.Token.{Token, emit}
-use Rattle.values.specs.Values.{Value, tokens, bytes, Each}
-use Rattle.writer.specs.Step.{Call, scalar, integer, float32, float64, text, bytes as byteString, variant, reference, pointer, openArray, openMap, openTag, openVariant1, openVariantN, close, Verdict}
+use Rattle.values.specs.Values.{Value, tokens, bytes, starts, Each, WellFormed}
+use Rattle.writer.specs.Step.{Call, scalar, integer, float32, float64, text, bytes as byteString, variant, reference, pointer, openArray, openMap, openTag, openVariant1, openVariantN, close, Verdict, fresh}
+use Rattle.writer.specs.Given.{Given}
 use Rattle.writer.specs.declared.Scalar.the-variants.{False, True, Null}
+use Rattle.guarantees.specs.History.{runs}
 use Rattle.read.specs.declared.Value.{Value as Told}
 use Rattle.read.specs.declared.Value.the-variants.{False as TellsFalse, True as TellsTrue, Null as TellsNull, Integer, Float32, Float64, Text, Bytes, Array, Map, Tag, Variant, Variant1, VariantN, Reference, Pointer}
 
@@ -79,3 +84,11 @@ again (Pointer x) s = pointer x
 
 abbrev pub AllOk : List Verdict → Type 0
 AllOk vs = Each (λ v. v ≡ ok tt) vs
+
+pub record Rewritten (file : List ℕ) (entry : ℕ) (out table : List ℕ) : Type 0 where
+  pub values : List Value
+  pub wellFormed : WellFormed file values entry
+  pub given : Each Given (rewriting values entry)
+  pub accepted : AllOk (runs (rewriting values entry) fresh out table .answers)
+  pub same : let r = runs (rewriting values entry) fresh out table in take (r .writer .written) (r .out) ≡ file
+  pub listed : let r = runs (rewriting values entry) fresh out table in take (r .writer .count) (r .table) ≡ starts 0 values

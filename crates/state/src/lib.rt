@@ -6,7 +6,16 @@ use writer::Writer;
 ghost use mathlib.Core.Path.{_≡_};
 ghost use Rattle.prelude.specs.Pick.{pick};
 ghost use Rattle.reply.specs.Reply.{reply};
-ghost use Rattle.state.specs.State.{writerOf, truth, settleC};
+ghost use Rattle.writer.specs.Step.{fresh};
+ghost use Rattle.state.specs.State.{writerOf, wordsOf, truth, settleC};
+
+// The words of a new writer.
+pub fn begin(state: &mut [u64; 5]) -> u32
+    ensures { λ r. ⌜ reply r (now (state .exit)) ≡ reply 0 (wordsOf fresh) ⌝ }
+{
+    *state = [0, 0, 0, 0, 0];
+    0
+}
 
 // The writer that five words are.
 pub fn load(state: &[u64; 5]) -> Writer

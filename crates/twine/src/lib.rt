@@ -104,8 +104,7 @@ pub extern "C" fn twine_body(file: &[u8], at: usize, out: &mut [u64; 2]) -> u32
 pub extern "C" fn twine_writer_new(state: &mut [u64; 5]) -> u32
     ensures { λ r. ⌜ reply r (now (state .exit)) ≡ reply 0 (wordsOf fresh) ⌝ }
 {
-    *state = [0, 0, 0, 0, 0];
-    0
+    state::begin(state)
 }
 
 #[no_mangle]

@@ -1,13 +1,13 @@
--- `checker::walk` meets its contract.
+-- `starts::walk` meets its contract.
 use mathlib.Core.Path.{_≡_, refl, sym, _∙_}
 use Prim.Native.Nat.{_-_}
 use lib.ListN.{length, length-set}
 use lib.Seq.{length-take-le}
 use borrow.Author.Needs.{needs}
 use native.Mathlib.Omega.{arith}
-use Rattle.checker.proofs.Along.{Along, Indexed, along-start, indexed-start, known-fits, along-end, along-full, along-error, along-less, along-finished, along-counts}
-use Rattle.checker.proofs.walk.Statement.{statement}
-use Rattle.checker.proofs.walk.Tie as tie
+use Rattle.starts.proofs.Along.{Along, Indexed, along-start, indexed-start, known-fits, along-end, along-full, along-error, along-less, along-finished, along-counts}
+use Rattle.starts.proofs.walk.Statement.{statement}
+use Rattle.starts.proofs.walk.Tie as tie
 
 abbrev Inv-loop : tie.InvT-loop
 Inv-loop region starts₀ blocks₀ at₀ count₀ starts blocks at count =
