@@ -77,7 +77,7 @@ fn kept(answer: CheckResult) -> usize
 
 // Checks a file. The table gets the offsets where its values start, in rising order, and 0 in every other word; on an error 0 in every word. The
 // first value starts at 0, so that the count tells how many words are starts.
-// A table with as many words as the file has bytes is never too short. Besides it, check takes some 16 KB of the stack.
+// A table with as many words as the file has bytes is never too short. Besides it, check takes some 17 KB of the stack.
 pub fn check(file: &[u8], starts: &mut [u32]) -> CheckResult
     ensures { λ r. ⌜ checked (toldCheck r) (now (starts .exit)) ≡ checkOf (now (file .entry)) (length (now (starts .entry))) ⌝ }
 {

@@ -1,4 +1,4 @@
--- What the functions of depths take. No contract for users cites this file.
+-- What the functions of depth and depths take. No contract for users cites this file.
 --
 --   Starts s ss    ss rise and are offsets of the region s
 use Prim.Native.Nat.{ℕ, _<_}

@@ -25,7 +25,7 @@ fn measure_by(region: &[u8], starts: &[u32], blocks: &mut [u32], depths: &mut [u
     }
 }
 
-// The depths of all values, in the first words of the table. A short region has few blocks, as in `check`.
+// The depths of all values, in the first words of the table. A short region has few blocks, as in `starts::list_starts`.
 fn measure(region: &[u8], starts: &[u32], depths: &mut [u32])
     requires { ⌜ (length (now starts) ≤ length (now depths)) × (length (now region) ≤ LIMIT) × (Starts (now region) (now starts)) ⌝ }
     ensures { λ _. ⌜ take (length (now (starts .entry))) (now (depths .exit)) ≡ depthsTo (now (region .entry)) (now (starts .entry)) (length (now (starts .entry))) ⌝ }

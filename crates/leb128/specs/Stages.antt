@@ -3,7 +3,7 @@
 --   last, tenth       what a last byte makes, with `left` bytes after it; and what a last allowed one makes
 --   raised d u a      the answer a with its number u times, and d more
 --   valueOf r         the number of an answer, or 0
---   leftOf r          the bytes left of an answer, or 0
+--   leftOf r          the bytes left of an answer, or 0; for the laws of crate scan
 use Prim.Native.Nat.{ℕ, _+_, _*_}
 use lib.Dec.{ltb, leb}
 use Rattle.prelude.specs.Pick.{pick}
