@@ -3,6 +3,9 @@ ghost use mathlib.Core.Path.{_≡_};
 ghost use Prim.Native.Nat.{_<_};
 ghost use Rattle.error.specs.Error.{numberOf, nameOf, padded};
 
+// The most bytes that a file has.
+pub const LIMIT: usize = 16777216;
+
 // What went wrong. The variants stand in the order of their numbers, from 1.
 pub enum ErrorKind {
     // The file has no bytes.

@@ -16,10 +16,10 @@ ghost use Rattle.judge.specs.Refusal.{bad, refusal};
 fn limit(n: u64) -> u64
     ensures { λ r. ⌜ r ≡ min n LIMIT ⌝ }
 {
-    if n < 16777216 {
+    if n < error::LIMIT as u64 {
         return n;
     }
-    16777216
+    error::LIMIT as u64
 }
 
 // The bytes that may be written into an output of so many.
@@ -116,7 +116,7 @@ fn is_bad(
 {
     // an open value without a free word, or that does not start before the bytes written
     let astray = (0 < pending) & ((words <= count) | (written <= start));
-    (bytes < written) | ((16777216 < written) | ((words < count) | astray))
+    (bytes < written) | ((error::LIMIT < written) | ((words < count) | astray))
 }
 
 // Whether a state allows the delta byte of a close.

@@ -96,6 +96,48 @@ fn unpacked(c: u16) -> Rule
     }
 }
 
+// False, true, null.
+pub const KIND_SCALAR: u8 = 0;
+
+// The integer n.
+pub const KIND_INTEGER: u8 = 1;
+
+// The integer -n-1.
+pub const KIND_NEGATIVE: u8 = 2;
+
+// A float of 4 or 8 bytes.
+pub const KIND_FLOAT: u8 = 3;
+
+// Text.
+pub const KIND_TEXT: u8 = 4;
+
+// Byte string.
+pub const KIND_BYTES: u8 = 5;
+
+// Array.
+pub const KIND_ARRAY: u8 = 6;
+
+// Map.
+pub const KIND_MAP: u8 = 7;
+
+// Tag.
+pub const KIND_TAG: u8 = 8;
+
+// Variant of none.
+pub const KIND_VARIANT: u8 = 10;
+
+// Variant of one.
+pub const KIND_VARIANT1: u8 = 11;
+
+// Variant of many.
+pub const KIND_VARIANTN: u8 = 12;
+
+// Reference.
+pub const KIND_REFERENCE: u8 = 14;
+
+// Pointer.
+pub const KIND_POINTER: u8 = 15;
+
 // The rule of a kind; of a number over 15 that of a reserved one.
 pub fn rule_of(kind: u8) -> Rule
     ensures { λ r. ⌜ r ≡ rule kind ⌝ }

@@ -86,9 +86,9 @@ fn sign(z: i64) -> u8
     ensures { λ r. ⌜ (r ≡ integerOf z .kind) × (r < 4) ⌝ }
 {
     if z < 0 {
-        return 2;
+        return kind::KIND_NEGATIVE;
     }
-    1
+    kind::KIND_INTEGER
 }
 
 // The number of an integer: z, and -z - 1 of a negative one.
@@ -119,7 +119,7 @@ impl Writer {
         ensures { λ r. ⌜ Found r at self (now (starts .entry)) ⌝ }
     {
         let count = self.count;
-        if 16777216 < self.written {
+        if error::LIMIT < self.written {
             return false;
         }
         if starts.len() < count {
@@ -223,8 +223,8 @@ impl Writer {
         ensures { λ r. ⌜ Refused (not (immediate (rule kind))) true (eqb kind 4 && not good) (leb 14 kind && not good) self bytes words r ⌝ }
     {
         let alone = judge::is_opening(kind);
-        let text = (kind == 4) & !good;
-        let target = (14 <= kind) & !good;
+        let text = (kind == kind::KIND_TEXT) & !good;
+        let target = (kind::KIND_REFERENCE <= kind) & !good;
         self.refuse(alone, true, text, target, bytes, words)
     }
 
@@ -338,9 +338,10 @@ impl Writer {
         if 0 < self.pending {
             return self.refuse(true, true, false, !good, out.len(), starts.len());
         }
-        let rule = kind::rule_of(15);
-        let ask = self.ask(good, rule, 15, back, 0, b"", at, out, starts);
-        let r = self.put(ask, 15, back, 0, at, out, starts);
+        let kind = kind::KIND_POINTER;
+        let rule = kind::rule_of(kind);
+        let ask = self.ask(good, rule, kind, back, 0, b"", at, out, starts);
+        let r = self.put(ask, kind, back, 0, at, out, starts);
         let answer = r.answer;
         let next = r.writer;
         match answer {
@@ -376,10 +377,11 @@ impl Writer {
     pub fn scalar(self, value: Scalar, out: &mut [u8], starts: &mut [u32]) -> WriteResult
         ensures { λ r. ⌜ wrote r (now (out .exit)) (now (starts .exit)) ≡ step (Call.scalar value) self (now (out .entry)) (now (starts .entry)) ⌝ }
     {
-        let rule = kind::rule_of(0);
+        let kind = kind::KIND_SCALAR;
+        let rule = kind::rule_of(kind);
         let n = number(value);
-        let ask = self.ask(true, rule, 0, n, 0, b"", 0, out, starts);
-        self.put(ask, 0, n, 0, 0, out, starts)
+        let ask = self.ask(true, rule, kind, n, 0, b"", 0, out, starts);
+        self.put(ask, kind, n, 0, 0, out, starts)
     }
 
     pub fn integer(self, value: i64, out: &mut [u8], starts: &mut [u32]) -> WriteResult
@@ -396,105 +398,116 @@ impl Writer {
     pub fn float32(self, bits: u32, out: &mut [u8], starts: &mut [u32]) -> WriteResult
         ensures { λ r. ⌜ wrote r (now (out .exit)) (now (starts .exit)) ≡ step (Call.float32 bits) self (now (out .entry)) (now (starts .entry)) ⌝ }
     {
-        let rule = kind::rule_of(3);
+        let kind = kind::KIND_FLOAT;
+        let rule = kind::rule_of(kind);
         let body = float::bytes4(bits);
-        let ask = self.ask(true, rule, 3, 0, 0, &body, 0, out, starts);
-        self.put_body(ask, 3, 0, &body, out, starts)
+        let ask = self.ask(true, rule, kind, 0, 0, &body, 0, out, starts);
+        self.put_body(ask, kind, 0, &body, out, starts)
     }
 
     pub fn float64(self, bits: u64, out: &mut [u8], starts: &mut [u32]) -> WriteResult
         ensures { λ r. ⌜ wrote r (now (out .exit)) (now (starts .exit)) ≡ step (Call.float64 bits) self (now (out .entry)) (now (starts .entry)) ⌝ }
     {
-        let rule = kind::rule_of(3);
+        let kind = kind::KIND_FLOAT;
+        let rule = kind::rule_of(kind);
         let body = float::bytes8(bits);
-        let ask = self.ask(true, rule, 3, 1, 0, &body, 0, out, starts);
-        self.put_body(ask, 3, 1, &body, out, starts)
+        let ask = self.ask(true, rule, kind, 1, 0, &body, 0, out, starts);
+        self.put_body(ask, kind, 1, &body, out, starts)
     }
 
     pub fn text(self, body: &[u8], out: &mut [u8], starts: &mut [u32]) -> WriteResult
         ensures { λ r. ⌜ wrote r (now (out .exit)) (now (starts .exit)) ≡ step (Call.text (now (body .entry))) self (now (out .entry)) (now (starts .entry)) ⌝ }
     {
-        let rule = kind::rule_of(4);
+        let kind = kind::KIND_TEXT;
+        let rule = kind::rule_of(kind);
         let good = utf8::is_text(body);
         let n = body.len() as u64;
-        let ask = self.ask(good, rule, 4, n, 0, body, 0, out, starts);
-        self.put_body(ask, 4, n, body, out, starts)
+        let ask = self.ask(good, rule, kind, n, 0, body, 0, out, starts);
+        self.put_body(ask, kind, n, body, out, starts)
     }
 
     pub fn bytes(self, body: &[u8], out: &mut [u8], starts: &mut [u32]) -> WriteResult
         ensures { λ r. ⌜ wrote r (now (out .exit)) (now (starts .exit)) ≡ step (Call.bytes (now (body .entry))) self (now (out .entry)) (now (starts .entry)) ⌝ }
     {
-        let rule = kind::rule_of(5);
+        let kind = kind::KIND_BYTES;
+        let rule = kind::rule_of(kind);
         let n = body.len() as u64;
-        let ask = self.ask(true, rule, 5, n, 0, body, 0, out, starts);
-        self.put_body(ask, 5, n, body, out, starts)
+        let ask = self.ask(true, rule, kind, n, 0, body, 0, out, starts);
+        self.put_body(ask, kind, n, body, out, starts)
     }
 
     // A variant with no argument.
     pub fn variant(self, index: u32, out: &mut [u8], starts: &mut [u32]) -> WriteResult
         ensures { λ r. ⌜ wrote r (now (out .exit)) (now (starts .exit)) ≡ step (Call.variant index) self (now (out .entry)) (now (starts .entry)) ⌝ }
     {
-        let rule = kind::rule_of(10);
-        let ask = self.ask(true, rule, 10, index as u64, 0, b"", 0, out, starts);
-        self.put(ask, 10, index as u64, 0, 0, out, starts)
+        let kind = kind::KIND_VARIANT;
+        let rule = kind::rule_of(kind);
+        let ask = self.ask(true, rule, kind, index as u64, 0, b"", 0, out, starts);
+        self.put(ask, kind, index as u64, 0, 0, out, starts)
     }
 
     // A reference to the value that starts at `at`.
     pub fn reference(self, at: usize, out: &mut [u8], starts: &mut [u32]) -> WriteResult
         ensures { λ r. ⌜ wrote r (now (out .exit)) (now (starts .exit)) ≡ step (Call.reference at) self (now (out .entry)) (now (starts .entry)) ⌝ }
     {
-        let rule = kind::rule_of(14);
+        let kind = kind::KIND_REFERENCE;
+        let rule = kind::rule_of(kind);
         let n = distance(self.written, at);
         let good = self.is_listed(starts, at);
-        let ask = self.ask(good, rule, 14, n, 0, b"", at, out, starts);
-        self.put(ask, 14, n, 0, at, out, starts)
+        let ask = self.ask(good, rule, kind, n, 0, b"", at, out, starts);
+        self.put(ask, kind, n, 0, at, out, starts)
     }
 
     // A pointer to the value that starts at `at`.
     pub fn pointer(self, at: usize, out: &mut [u8], starts: &mut [u32]) -> WriteResult
         ensures { λ r. ⌜ wrote r (now (out .exit)) (now (starts .exit)) ≡ step (Call.pointer at) self (now (out .entry)) (now (starts .entry)) ⌝ }
     {
-        let rule = kind::rule_of(15);
+        let kind = kind::KIND_POINTER;
+        let rule = kind::rule_of(kind);
         let n = distance(self.written, at);
         let good = self.is_listed(starts, at);
-        let ask = self.ask(good, rule, 15, n, 0, b"", at, out, starts);
-        self.put(ask, 15, n, 0, at, out, starts)
+        let ask = self.ask(good, rule, kind, n, 0, b"", at, out, starts);
+        self.put(ask, kind, n, 0, at, out, starts)
     }
 
     // An array of n items, which are the next immediates.
     pub fn open_array(self, n: u64, out: &mut [u8], starts: &mut [u32]) -> WriteResult
         ensures { λ r. ⌜ wrote r (now (out .exit)) (now (starts .exit)) ≡ step (Call.openArray n) self (now (out .entry)) (now (starts .entry)) ⌝ }
     {
-        let rule = kind::rule_of(6);
-        let ask = self.ask(true, rule, 6, n, 0, b"", 0, out, starts);
-        self.put(ask, 6, n, 0, 0, out, starts)
+        let kind = kind::KIND_ARRAY;
+        let rule = kind::rule_of(kind);
+        let ask = self.ask(true, rule, kind, n, 0, b"", 0, out, starts);
+        self.put(ask, kind, n, 0, 0, out, starts)
     }
 
     // A map of n pairs, key and value by turns.
     pub fn open_map(self, n: u64, out: &mut [u8], starts: &mut [u32]) -> WriteResult
         ensures { λ r. ⌜ wrote r (now (out .exit)) (now (starts .exit)) ≡ step (Call.openMap n) self (now (out .entry)) (now (starts .entry)) ⌝ }
     {
-        let rule = kind::rule_of(7);
-        let ask = self.ask(true, rule, 7, n, 0, b"", 0, out, starts);
-        self.put(ask, 7, n, 0, 0, out, starts)
+        let kind = kind::KIND_MAP;
+        let rule = kind::rule_of(kind);
+        let ask = self.ask(true, rule, kind, n, 0, b"", 0, out, starts);
+        self.put(ask, kind, n, 0, 0, out, starts)
     }
 
     // A tag of the next immediate.
     pub fn open_tag(self, tag: u64, out: &mut [u8], starts: &mut [u32]) -> WriteResult
         ensures { λ r. ⌜ wrote r (now (out .exit)) (now (starts .exit)) ≡ step (Call.openTag tag) self (now (out .entry)) (now (starts .entry)) ⌝ }
     {
-        let rule = kind::rule_of(8);
-        let ask = self.ask(true, rule, 8, tag, 0, b"", 0, out, starts);
-        self.put(ask, 8, tag, 0, 0, out, starts)
+        let kind = kind::KIND_TAG;
+        let rule = kind::rule_of(kind);
+        let ask = self.ask(true, rule, kind, tag, 0, b"", 0, out, starts);
+        self.put(ask, kind, tag, 0, 0, out, starts)
     }
 
     // A variant whose one argument is the next immediate.
     pub fn open_variant1(self, index: u32, out: &mut [u8], starts: &mut [u32]) -> WriteResult
         ensures { λ r. ⌜ wrote r (now (out .exit)) (now (starts .exit)) ≡ step (Call.openVariant1 index) self (now (out .entry)) (now (starts .entry)) ⌝ }
     {
-        let rule = kind::rule_of(11);
-        let ask = self.ask(true, rule, 11, index as u64, 0, b"", 0, out, starts);
-        self.put(ask, 11, index as u64, 0, 0, out, starts)
+        let kind = kind::KIND_VARIANT1;
+        let rule = kind::rule_of(kind);
+        let ask = self.ask(true, rule, kind, index as u64, 0, b"", 0, out, starts);
+        self.put(ask, kind, index as u64, 0, 0, out, starts)
     }
 
     // A variant of n arguments.
@@ -507,9 +520,10 @@ impl Writer {
     ) -> WriteResult
         ensures { λ r. ⌜ wrote r (now (out .exit)) (now (starts .exit)) ≡ step (Call.openVariantN index n) self (now (out .entry)) (now (starts .entry)) ⌝ }
     {
-        let rule = kind::rule_of(12);
-        let ask = self.ask(true, rule, 12, index as u64, n, b"", 0, out, starts);
-        self.put(ask, 12, index as u64, n, 0, out, starts)
+        let kind = kind::KIND_VARIANTN;
+        let rule = kind::rule_of(kind);
+        let ask = self.ask(true, rule, kind, index as u64, n, b"", 0, out, starts);
+        self.put(ask, kind, index as u64, n, 0, out, starts)
     }
 
     // Closes at the value that starts at `at`: the file's entry is that value, or a pointer to it, added where one delta byte does not reach it.
