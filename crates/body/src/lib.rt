@@ -21,7 +21,7 @@ fn body_at(at: usize, h: Head) -> BodyResult
     ensures { λ r. ⌜ toldBody r ≡ bodyAt at h ⌝ }
 {
     let kind = h.kind;
-    if (kind == 4) | (kind == 5) {
+    if (kind == kind::KIND_TEXT) | (kind == kind::KIND_BYTES) {
         return BodyResult::Ok {
             first: h.first,
             len: h.end - h.first,

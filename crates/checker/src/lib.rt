@@ -52,7 +52,7 @@ fn check_in(file: &[u8], starts: &mut [u32]) -> CheckResult
             place: 0,
         });
     }
-    if 16777216 < len {
+    if error::LIMIT < len {
         return CheckResult::Err(Error {
             kind: ErrorKind::TooLong,
             place: 0,

@@ -26,7 +26,7 @@ fn reached(starts: &[u32], blocks: &[u32], before: &[u32], at: usize, h: Head) -
     ensures { λ r. ⌜ r ≡ reached (now (starts .entry)) (now (before .entry)) at h ⌝ }
 {
     let q = at as u64;
-    if (14 <= h.kind) & (h.n < q) {
+    if (kind::KIND_REFERENCE <= h.kind) & (h.n < q) {
         let target = q - h.n - 1;
         let i = search::rank(starts, blocks, target as u32);
         if i < before.len() {

@@ -30,12 +30,12 @@ fn measure(region: &[u8], starts: &[u32], depths: &mut [u32])
     requires { ⌜ (length (now starts) ≤ length (now depths)) × (length (now region) ≤ LIMIT) × (Starts (now region) (now starts)) ⌝ }
     ensures { λ _. ⌜ take (length (now (starts .entry))) (now (depths .exit)) ≡ depthsTo (now (region .entry)) (now (starts .entry)) (length (now (starts .entry))) ⌝ }
 {
-    if region.len() < 65536 {
-        let mut few = [0u32; 16];
+    if region.len() < table::LONG {
+        let mut few = [0u32; table::FEW];
         measure_by(region, starts, &mut few, depths);
         return;
     }
-    let mut blocks = [0u32; 4096];
+    let mut blocks = [0u32; table::BLOCKS];
     measure_by(region, starts, &mut blocks, depths);
 }
 

@@ -15,20 +15,20 @@ ghost use Rattle.token.specs.Token.{token, putIf, emit, emitInto};
 fn excess(n: u64) -> u64
     ensures { λ r. ⌜ r ≡ n - 15 ⌝ }
 {
-    if n < 15 {
+    if n < kind::EXTENDED {
         return 0;
     }
-    n - 15
+    n - kind::EXTENDED
 }
 
 // The header's low nibble.
 fn nibble(n: u64) -> u8
     ensures { λ r. ⌜ (r ≡ min n 15) × (r < 16) ⌝ }
 {
-    if n < 15 {
+    if n < kind::EXTENDED {
         return n as u8;
     }
-    15
+    kind::EXTENDED as u8
 }
 
 // How many bytes a number takes that is there where `wanted` is true.
@@ -45,7 +45,7 @@ fn size_if(wanted: bool, n: u64) -> usize
 pub fn size_by(rule: Rule, n: u64, args: u64, body: &[u8]) -> usize
     ensures { λ r. ⌜ r ≡ 1 + length (putIf (leb 15 n) (n - 15)) + length (putIf (rule .args) args) + length (now (body .entry)) ⌝ }
 {
-    1 + size_if(15 <= n, excess(n)) + size_if(rule.args, args) + body.len()
+    1 + size_if(kind::EXTENDED <= n, excess(n)) + size_if(rule.args, args) + body.len()
 }
 
 // How many bytes a token takes; of a kind over 15, which `put` does not write, as many as a reserved one.
@@ -92,7 +92,7 @@ pub fn put_head(out: &mut [u8], kind: u8, n: u64, second: bool, args: u64) -> us
 {
     let more = excess(n);
     out[0] = kind * 16 + nibble(n);
-    let number = put_if(out, 1, 15 <= n, more);
+    let number = put_if(out, 1, kind::EXTENDED <= n, more);
     put_if(out, number, second, args)
 }
 

@@ -15,7 +15,7 @@ pub fn number(low: u8, most: u64, s: &[u8]) -> GetResult
     requires { ⌜ (low ≤ most) × (low < 16) ⌝ }
     ensures { λ r. ⌜ numbers.told r ≡ numbered low most (now (s .entry)) ⌝ }
 {
-    if low < 15 {
+    if low < kind::EXTENDED as u8 {
         return GetResult::Ok {
             value: low as u64,
             left: s.len(),
@@ -24,11 +24,11 @@ pub fn number(low: u8, most: u64, s: &[u8]) -> GetResult
     match leb128_word::get(s) {
         GetResult::Ok { value, left } => {
             // RANGE: n is over its kind's bound
-            if most - 15 < value {
+            if most - kind::EXTENDED < value {
                 return GetResult::Err(ErrorKind::Range);
             }
             GetResult::Ok {
-                value: 15 + value,
+                value: kind::EXTENDED + value,
                 left,
             }
         }

@@ -96,6 +96,9 @@ fn unpacked(c: u16) -> Rule
     }
 }
 
+// The low nibble that says that a number follows the header (document 01: "extension").
+pub const EXTENDED: u64 = 15;
+
 // False, true, null.
 pub const KIND_SCALAR: u8 = 0;
 

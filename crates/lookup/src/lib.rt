@@ -41,7 +41,7 @@ fn is_key(region: &[u8], key: &[u8], h: Head) -> bool
 {
     let first = h.first;
     let end = h.end;
-    if h.kind == 4 {
+    if h.kind == kind::KIND_TEXT {
         return same(&region[first..end], key);
     }
     false
@@ -105,7 +105,7 @@ fn pairs(region: &[u8], at: usize, key: &[u8], count: u64, first: usize) -> Offs
 fn lookup_on(region: &[u8], at: usize, key: &[u8], h: Head) -> OffsetResult
     ensures { λ r. ⌜ toldOffset r ≡ lookupOn (now (region .entry)) at (now (key .entry)) h ⌝ }
 {
-    if h.kind == 7 {
+    if h.kind == kind::KIND_MAP {
         return pairs(region, at, key, h.n, h.end);
     }
     // WRONG_KIND: no map

@@ -31,7 +31,7 @@ fn is_bad_text(region: &[u8], h: Head) -> bool
 {
     let first = h.first;
     let end = h.end;
-    if h.kind == 4 {
+    if h.kind == kind::KIND_TEXT {
         let text = utf8::is_text(&region[first..end]);
         return !text;
     }
@@ -56,7 +56,7 @@ fn is_bad_target(starts: &[u32], blocks: &[u32], at: usize, h: Head) -> bool
     requires { ⌜ (Rising (now starts)) × (Counted (now blocks) (now starts)) × (at < 2 ^ 32) ⌝ }
     ensures { λ r. ⌜ r ≡ leb 14 (h .kind) && not (aimed (now (starts .entry)) at h) ⌝ }
 {
-    if 14 <= h.kind {
+    if kind::KIND_REFERENCE <= h.kind {
         let good = is_aimed(starts, blocks, at, h);
         return !good;
     }

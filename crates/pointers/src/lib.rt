@@ -29,7 +29,7 @@ pub fn trail(region: &[u8], at: usize) -> TrailResult
     loop {
         match region::look(region, q, false) {
             ScanResult::Ok(h) => {
-                if h.kind != 15 {
+                if h.kind != kind::KIND_POINTER {
                     return TrailResult::Ok {
                         at: q,
                         hops,

@@ -118,45 +118,45 @@ fn value_of(region: &[u8], at: usize, h: Head) -> Value
     let n = h.n;
     let first = h.first;
     match kind {
-        0 => scalar_of(n),
-        1 => positive(n),
-        2 => negative(n),
-        3 => float_of(region, h),
-        4 => Value::Text {
+        kind::KIND_SCALAR => scalar_of(n),
+        kind::KIND_INTEGER => positive(n),
+        kind::KIND_NEGATIVE => negative(n),
+        kind::KIND_FLOAT => float_of(region, h),
+        kind::KIND_TEXT => Value::Text {
             first,
             len: h.end - first,
         },
-        5 => Value::Bytes {
+        kind::KIND_BYTES => Value::Bytes {
             first,
             len: h.end - first,
         },
-        6 => Value::Array {
+        kind::KIND_ARRAY => Value::Array {
             items: h.items,
             first,
         },
-        7 => Value::Map {
+        kind::KIND_MAP => Value::Map {
             pairs: n,
             items: h.items,
             first,
         },
-        8 => Value::Tag {
+        kind::KIND_TAG => Value::Tag {
             tag: n,
             item: first,
         },
-        10 => Value::Variant { index: n as u32 },
-        11 => Value::Variant1 {
+        kind::KIND_VARIANT => Value::Variant { index: n as u32 },
+        kind::KIND_VARIANT1 => Value::Variant1 {
             index: n as u32,
             item: first,
         },
-        12 => Value::VariantN {
+        kind::KIND_VARIANTN => Value::VariantN {
             index: n as u32,
             items: h.items,
             first,
         },
-        14 => Value::Reference {
+        kind::KIND_REFERENCE => Value::Reference {
             target: at - n as usize - 1,
         },
-        15 => Value::Pointer {
+        kind::KIND_POINTER => Value::Pointer {
             target: at - n as usize - 1,
         },
         _ => Value::Null,

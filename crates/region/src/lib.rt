@@ -30,7 +30,7 @@ pub fn enter(len: usize, at: usize) -> OffsetResult
             place: 0,
         });
     }
-    if 16777216 < len {
+    if error::LIMIT < len {
         return OffsetResult::Err(Error {
             kind: ErrorKind::TooLong,
             place: 0,
@@ -50,7 +50,7 @@ fn aimed(at: usize, h: Head) -> ScanResult
     ensures { λ r. ⌜ scans.told r ≡ pick (below at h) (error (fault BAD_TARGET at)) (ok h) ⌝ }
 {
     let q = at as u64;
-    if (14 <= h.kind) & (q <= h.n) {
+    if (kind::KIND_REFERENCE <= h.kind) & (q <= h.n) {
         return ScanResult::Err(Error {
             kind: ErrorKind::BadTarget,
             place: at,

@@ -23,7 +23,7 @@ fn low(t: &[u32], blocks: &[u32], x: u32) -> usize
     requires { ⌜ (Rising (now t)) × (Counted (now blocks) (now t)) ⌝ }
     ensures { λ r. ⌜ r ≤ rank x (now (t .entry)) ⌝ }
 {
-    let b = (x / 4096) as usize;
+    let b = (x / table::BLOCK_WORD) as usize;
     if b < blocks.len() {
         return blocks[b] as usize;
     }
@@ -35,7 +35,7 @@ fn high(t: &[u32], blocks: &[u32], x: u32) -> usize
     requires { ⌜ (Rising (now t)) × (Counted (now blocks) (now t)) ⌝ }
     ensures { λ r. ⌜ (rank x (now (t .entry)) ≤ r) × (r ≤ length (now (t .entry))) ⌝ }
 {
-    let b = (x / 4096) as usize + 1;
+    let b = (x / table::BLOCK_WORD) as usize + 1;
     if b < blocks.len() {
         return blocks[b] as usize;
     }

@@ -33,12 +33,12 @@ fn walk(region: &[u8], starts: &mut [u32], blocks: &mut [u32]) -> ListResult
             });
         }
         // the blocks that begin at most at `at` are counted
-        let known = at / 4096 + 1;
+        let known = at / table::BLOCK + 1;
         match pass::pass_value(region, &starts[..count], &blocks[..known], at) {
             PassResult::Ok(end) => {
                 starts[count] = at as u32;
                 count = count + 1;
-                table::count_blocks(&starts[..count], blocks, known, end / 4096);
+                table::count_blocks(&starts[..count], blocks, known, end / table::BLOCK);
                 at = end;
             }
             PassResult::Err(e) => {
@@ -55,10 +55,10 @@ pub fn list_starts(region: &[u8], starts: &mut [u32]) -> ListResult
     requires { ⌜ length (now region) < LIMIT ⌝ }
     ensures { λ r. ⌜ (toldList r (now (starts .exit)) ≡ startsFrom (now (region .entry)) (length (now (starts .entry))) (between 0 [])) × (Listed r (now (starts .exit))) ⌝ }
 {
-    if region.len() < 65536 {
-        let mut few = [0u32; 16];
+    if region.len() < table::LONG {
+        let mut few = [0u32; table::FEW];
         return walk(region, starts, &mut few);
     }
-    let mut blocks = [0u32; 4096];
+    let mut blocks = [0u32; table::BLOCKS];
     walk(region, starts, &mut blocks)
 }

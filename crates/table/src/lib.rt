@@ -5,6 +5,20 @@ ghost use lib.ListN.{length, take, replicate};
 ghost use Rattle.prelude.specs.Search.{Rising};
 ghost use Rattle.table.specs.Blocks.{BLOCK, Counted, Below};
 
+// The size of a block, for an offset and for a word.
+pub const BLOCK: usize = 4096;
+
+pub const BLOCK_WORD: u32 = BLOCK as u32;
+
+// How many blocks the longest region has.
+pub const BLOCKS: usize = 4096;
+
+// How many a short region has.
+pub const FEW: usize = 16;
+
+// The length from which a region is not short: FEW blocks.
+pub const LONG: usize = 65536;
+
 // Makes every word 0.
 pub fn zero(t: &mut [u32])
     ensures { λ _. ⌜ now (t .exit) ≡ replicate (length (now (t .entry))) 0 ⌝ }
@@ -36,7 +50,7 @@ pub fn index(t: &[u32], blocks: &mut [u32]) -> usize
     let mut known: usize = 0;
     let mut i: usize = 0;
     while i < t.len() {
-        let last = (t[i] / 4096) as usize;
+        let last = (t[i] / BLOCK_WORD) as usize;
         count_blocks(&t[..i], blocks, known, last);
         known = last + 1;
         i += 1;

@@ -97,26 +97,26 @@ fn row_of(file: &[u8], at: usize, h: Head) -> Row
     let n = h.n;
     let items = h.items;
     let body = (h.end - h.first) as u64;
-    if kind < 2 {
+    if kind < kind::KIND_NEGATIVE {
         return Row {
             number: n,
             count: 0,
         };
     }
-    if kind < 3 {
+    if kind < kind::KIND_FLOAT {
         // -n-1 in two's complement
         return Row {
             number: 18446744073709551615 - n,
             count: 0,
         };
     }
-    if kind < 4 {
+    if kind < kind::KIND_TEXT {
         return Row {
             number: float_bits(file, h),
             count: body,
         };
     }
-    if kind < 6 {
+    if kind < kind::KIND_ARRAY {
         return Row {
             number: body,
             count: body,
@@ -128,13 +128,13 @@ fn row_of(file: &[u8], at: usize, h: Head) -> Row
             count: items,
         };
     }
-    if kind < 11 {
+    if kind < kind::KIND_VARIANT1 {
         return Row {
             number: n,
             count: 0,
         };
     }
-    if kind < 14 {
+    if kind < kind::KIND_REFERENCE {
         return Row {
             number: n,
             count: items,

@@ -43,6 +43,7 @@ pub number-spec : {M : Type 1} → statement M
 number-spec =
     tie.close
     (tie.spec
+    (λ c. search needs)
     (λ c. search (numbered-low, arith))
     (λ c κs. search needs)
     (λ c. search needs)
