@@ -15,7 +15,7 @@ use Rattle.prelude.specs.Pick.{pick}
 use Rattle.prelude.specs.Answer.{Answer, ok, error, bind}
 use Rattle.prelude.specs.Search.{among}
 use Rattle.error.specs.Error.{Fault, fault, LIMIT, EMPTY, TOO_LONG, BAD_ENTRY}
-use Rattle.pass.specs.Walk.{between, startsFrom}
+use Rattle.checker_value.specs.Walk.{between, startsFrom}
 
 unfoldable pub entryAt : ℕ → ℕ → List ℕ → Answer Fault ℕ
 entryAt p d done = pick (ltb d p && among (p - d - 1) done) (ok (p - d - 1)) (error (fault BAD_ENTRY p))

@@ -1,6 +1,6 @@
 -- check: the walk, the entry, the table
 pub mod Check
 -- what the code's answers mean
-pub mod Told
+pub mod Answers
 -- what the private functions make
-pub mod Stages
+pub mod Internal

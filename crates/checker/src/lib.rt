@@ -1,15 +1,15 @@
 // Check (document 01, "Check and depths").
+use checker_starts::ListResult;
 use error::Error;
 use error::ErrorKind;
-use starts::ListResult;
 ghost use mathlib.Core.Path.{_≡_};
 ghost use Prim.Native.Nat.{_≤_, _<_, _^_};
 ghost use lib.ListN.{length};
 ghost use Rattle.prelude.specs.Answer.{ok, bind};
 ghost use Rattle.prelude.specs.Search.{Rising};
 ghost use Rattle.checker.specs.Check.{entryAt, checkIn, checked, checkOf};
-ghost use Rattle.checker.specs.Told.{toldCheck};
-ghost use Rattle.checker.specs.Stages.{toldIn, kept};
+ghost use Rattle.checker.specs.Answers.{checkAnswer};
+ghost use Rattle.checker.specs.Internal.{checkInAnswer, keptWords};
 
 // The answer of `check`.
 pub enum CheckResult {
@@ -21,13 +21,13 @@ pub enum CheckResult {
 // The entry that the delta byte d at the offset p names, among the starts of a file's values.
 fn entry_at(starts: &[u32], p: usize, d: u8) -> CheckResult
     requires { ⌜ (Rising (now starts)) × (p < 2 ^ 32) ⌝ }
-    ensures { λ r. ⌜ toldCheck r ≡ bind (entryAt p d (now (starts .entry))) (λ e. ok (length (now (starts .entry)), e)) ⌝ }
+    ensures { λ r. ⌜ checkAnswer r ≡ bind (entryAt p d (now (starts .entry))) (λ e. ok (length (now (starts .entry)), e)) ⌝ }
 {
     let delta = d as usize;
     if delta < p {
         let entry = p - delta - 1;
         // by no block: one search a file
-        if search::has(starts, &starts[..0], entry as u32) {
+        if table_search::is_among(starts, &starts[..0], entry as u32) {
             return CheckResult::Ok {
                 count: starts.len(),
                 entry,
@@ -43,7 +43,7 @@ fn entry_at(starts: &[u32], p: usize, d: u8) -> CheckResult
 
 // Lists the starts of a file's values in the first words of the table, and finds its entry.
 fn check_in(file: &[u8], starts: &mut [u32]) -> CheckResult
-    ensures { λ r. ⌜ (toldIn r (now (starts .exit)) ≡ checkIn (now (file .entry)) (length (now (starts .entry)))) × (kept r ≤ length (now (starts .exit))) ⌝ }
+    ensures { λ r. ⌜ (checkInAnswer r (now (starts .exit)) ≡ checkIn (now (file .entry)) (length (now (starts .entry)))) × (keptWords r ≤ length (now (starts .exit))) ⌝ }
 {
     let len = file.len();
     if len == 0 {
@@ -59,15 +59,15 @@ fn check_in(file: &[u8], starts: &mut [u32]) -> CheckResult
         });
     }
     let p = len - 1;
-    match starts::list_starts(&file[..p], starts) {
+    match checker_starts::list_starts(&file[..p], starts) {
         ListResult::Ok(count) => entry_at(&starts[..count], p, file[p]),
         ListResult::Err(e) => CheckResult::Err(e),
     }
 }
 
 // How many words of the table an answer keeps: a start for each value, none on an error.
-fn kept(answer: CheckResult) -> usize
-    ensures { λ r. ⌜ r ≡ kept answer ⌝ }
+fn kept_words(answer: CheckResult) -> usize
+    ensures { λ r. ⌜ r ≡ keptWords answer ⌝ }
 {
     match answer {
         CheckResult::Ok { count, entry: _ } => count,
@@ -79,10 +79,10 @@ fn kept(answer: CheckResult) -> usize
 // first value starts at 0, so that the count tells how many words are starts.
 // A table with as many words as the file has bytes is never too short. Besides it, check takes some 17 KB of the stack.
 pub fn check(file: &[u8], starts: &mut [u32]) -> CheckResult
-    ensures { λ r. ⌜ checked (toldCheck r) (now (starts .exit)) ≡ checkOf (now (file .entry)) (length (now (starts .entry))) ⌝ }
+    ensures { λ r. ⌜ checked (checkAnswer r) (now (starts .exit)) ≡ checkOf (now (file .entry)) (length (now (starts .entry))) ⌝ }
 {
     let answer = check_in(file, starts);
-    let words = kept(answer);
+    let words = kept_words(answer);
     table::zero(&mut starts[words..]);
     answer
 }

@@ -15,15 +15,15 @@ use Rattle.prelude.proofs.Tests.{pick-elim, facts}
 use Rattle.error.specs.Error as errors
 use Rattle.error.specs.Error.{Fault, fault, LIMIT, FULL}
 use Rattle.error.specs.declared.Error.{Error}
-use Rattle.pass.specs.Walk.{between, startsFrom}
-use Rattle.pass.proofs.Walks.{come}
-use Rattle.depth.specs.Depth.{depthsTo}
-use Rattle.depth.specs.Stages.{Starts}
+use Rattle.checker_value.specs.Walk.{between, startsFrom}
+use Rattle.checker_value.proofs.Walks.{come}
+use Rattle.depths_value.specs.Depth.{depthsTo}
+use Rattle.depths_value.specs.Internal.{Starts}
 use Rattle.checker.specs.declared.CheckResult.{CheckResult}
 use Rattle.checker.specs.declared.CheckResult.the-variants as checks-are
 use Rattle.checker.specs.Check.{entryAt, checkIn, filled, Checked, checked, listed, checkOf}
-use Rattle.checker.specs.Told.{toldCheck}
-use Rattle.checker.proofs.Checks.{zeros-behind}
+use Rattle.checker.specs.Answers.{checkAnswer}
+use Rattle.checker.proofs.Checks.{zeros-after}
 use Rattle.depths.specs.Depths.{deepened, deepen, depthsOf}
 
 -- ---- what check found
@@ -72,14 +72,14 @@ pub record Found (file t : List ℕ) (cap count entry : ℕ) : Type 0 where
   pub table : t ≡ filled cap (take count t)
   pub starts : Starts (take (length file - 1) file) (take count t)
 
-module _ (file t : List ℕ) (cap : ℕ) (r : CheckResult) (left : checked (toldCheck r) t ≡ checkOf file cap) where
+module _ (file t : List ℕ) (cap : ℕ) (r : CheckResult) (left : checked (checkAnswer r) t ≡ checkOf file cap) where
   pub accepted : (count entry : ℕ) → r ≡ checks-are.Ok count entry → Found file t cap count entry
   unfolding checkOf
   accepted count entry is = by-cases (checkIn file cap) refl (finds file cap) (rw is at left)
     where
       by-cases : (a : Answer Fault ((List ℕ) × ℕ)) → checkIn file cap ≡ a → Finds file cap a → checked (ok (count, entry)) t ≡ listed cap a → Found file t cap count entry
       by-cases (ok p) e i q =
-          let told : _≡_ {A = Answer Fault (ℕ × ℕ)} (ok (count, entry)) (ok (length (p .0), p .1)) = ap (λ (x : Checked). x .answer) q in
+          let reported : _≡_ {A = Answer Fault (ℕ × ℕ)} (ok (count, entry)) (ok (length (p .0), p .1)) = ap (λ (x : Checked). x .answer) q in
           let both : _≡_ {A = ℕ × ℕ} (count, entry) (length (p .0), p .1) = cc in
           let many : count ≡ length (p .0) = ap (λ (x : ℕ × ℕ). x .0) both in
           let words : t ≡ filled cap (p .0) = ap (λ (x : Checked). x .starts) q in
@@ -96,12 +96,12 @@ module _ (file t : List ℕ) (cap : ℕ) (r : CheckResult) (left : checked (told
       by-cases (error f) e i q = ok-error (ap (λ (x : Checked). x .answer) q)
 
   pub depths-refused : (f : Error) → r ≡ checks-are.Err f → (room : ℕ) (z : List ℕ) → z ≡ replicate room 0
-      → deepened (error (errors.told f)) t z ≡ depthsOf file cap room
+      → deepened (error (errors.faultOf f)) t z ≡ depthsOf file cap room
   unfolding checkOf depthsOf
   depths-refused f is room z zeros = by-cases (checkIn file cap) (rw is at left)
     where
-      by-cases : (a : Answer Fault ((List ℕ) × ℕ)) → checked (error (errors.told f)) t ≡ listed cap a
-          → deepened (error (errors.told f)) t z ≡ deepen (take (length file - 1) file) cap room a
+      by-cases : (a : Answer Fault ((List ℕ) × ℕ)) → checked (error (errors.faultOf f)) t ≡ listed cap a
+          → deepened (error (errors.faultOf f)) t z ≡ deepen (take (length file - 1) file) cap room a
       by-cases (ok p) q = ok-error (sym (ap (λ (x : Checked). x .answer) q))
       by-cases (error g) q =
           let words : t ≡ replicate cap 0 = ap (λ (x : Checked). x .starts) q in
@@ -114,12 +114,12 @@ module _ (file t : List ℕ) (cap room count entry : ℕ) (f : Found file t cap 
   depths-full h y z ey ez =
       rw (f .found, length-take-le count t (f .fits), lt-ltb room count h, ey, ez, f .long, getD-take count t room 0 h)
 
-  pub depths-told : count ≤ room → (d : List ℕ) → length d ≡ room
+  pub depths-answer : count ≤ room → (d : List ℕ) → length d ≡ room
       → take (length (take count t)) d ≡ depthsTo (take (length file - 1) file) (take count t) (length (take count t))
       → (z : List ℕ) → z ≡ replicate (length (take (length d - count) (drop count d))) 0
       → deepened (ok (count, entry)) t (putMid count (length d - count) d z) ≡ depthsOf file cap room
   unfolding depthsOf
-  depths-told h d long told z ez =
-      let e : take count d ≡ depthsTo (take (length file - 1) file) (take count t) count = rw (length-take-le count t (f .fits)) at told in
+  depths-answer h d long reported z ez =
+      let e : take count d ≡ depthsTo (take (length file - 1) file) (take count t) count = rw (length-take-le count t (f .fits)) at reported in
       ap (λ x. deepened (ok (count, entry)) x (putMid count (length d - count) d z)) (f .table)
-      ∙ rw (f .found, length-take-le count t (f .fits), le-ltb room count h, ez, zeros-behind d count (omega arith), e, long)
+      ∙ rw (f .found, length-take-le count t (f .fits), le-ltb room count h, ez, zeros-after d count (omega arith), e, long)

@@ -10,7 +10,7 @@ use lib.ListN.{length, take, getD, replicate}
 use Rattle.prelude.specs.Pick.{pick}
 use Rattle.prelude.specs.Answer.{Answer, ok, error}
 use Rattle.error.specs.Error.{Fault, fault, FULL}
-use Rattle.depth.specs.Depth.{depthsTo}
+use Rattle.depths_value.specs.Depth.{depthsTo}
 use Rattle.checker.specs.Check.{checkIn, filled}
 
 pub record Deepened : Type 0 where
@@ -21,15 +21,15 @@ pub record Deepened : Type 0 where
 abbrev pub deepened : Answer Fault (ℕ × ℕ) → List ℕ → List ℕ → Deepened
 deepened a t d = record { answer = a; starts = t; depths = d }
 
-abbrev pub refused : ℕ → ℕ → Fault → Deepened
-refused cap room e = deepened (error e) (replicate cap 0) (replicate room 0)
+abbrev pub depthsRefused : ℕ → ℕ → Fault → Deepened
+depthsRefused cap room e = deepened (error e) (replicate cap 0) (replicate room 0)
 
 abbrev pub deepen : List ℕ → ℕ → ℕ → Answer Fault ((List ℕ) × ℕ) → Deepened
 deepen s cap room (ok r) =
     let ss = r .0 in
-    pick (ltb room (length ss)) (refused cap room (fault FULL (getD ss room 0)))
+    pick (ltb room (length ss)) (depthsRefused cap room (fault FULL (getD ss room 0)))
     (deepened (ok (length ss, r .1)) (filled cap ss) (filled room (depthsTo s ss (length ss))))
-deepen s cap room (error e) = refused cap room e
+deepen s cap room (error e) = depthsRefused cap room e
 
 unfoldable pub depthsOf : List ℕ → ℕ → ℕ → Deepened
 depthsOf file cap room = deepen (take (length file - 1) file) cap room (checkIn file cap)

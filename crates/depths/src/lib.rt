@@ -7,36 +7,36 @@ ghost use Prim.Native.Nat.{_*_, _≤_};
 ghost use lib.ListN.{length, take};
 ghost use Rattle.error.specs.Error.{LIMIT};
 ghost use Rattle.table.specs.Blocks.{BLOCK, Below};
-ghost use Rattle.depth.specs.Depth.{depthsTo};
-ghost use Rattle.depth.specs.Stages.{Starts};
-ghost use Rattle.checker.specs.Told.{toldCheck};
+ghost use Rattle.depths_value.specs.Depth.{depthsTo};
+ghost use Rattle.depths_value.specs.Internal.{Starts};
+ghost use Rattle.checker.specs.Answers.{checkAnswer};
 ghost use Rattle.depths.specs.Depths.{deepened, depthsOf};
 
 // The depths of all values, in the first words of the table, by an index of their starts.
-fn measure_by(region: &[u8], starts: &[u32], blocks: &mut [u32], depths: &mut [u32])
+fn depths_to_by(region: &[u8], starts: &[u32], blocks: &mut [u32], depths: &mut [u32])
     requires { ⌜ (length (now starts) ≤ length (now depths)) × (length (now region) ≤ LIMIT) × (Starts (now region) (now starts)) × (Below (length (now blocks) * BLOCK) (now starts)) ⌝ }
     ensures { λ _. ⌜ take (length (now (starts .entry))) (now (depths .exit)) ≡ depthsTo (now (region .entry)) (now (starts .entry)) (length (now (starts .entry))) ⌝ }
 {
     let known = table::index(starts, blocks);
     let mut i: usize = 0;
     while i < starts.len() {
-        depths[i] = depth::depth_at(region, starts, &blocks[..known], depths, i);
+        depths[i] = depths_value::depth_at(region, starts, &blocks[..known], depths, i);
         i = i + 1;
     }
 }
 
-// The depths of all values, in the first words of the table. A short region has few blocks, as in `starts::list_starts`.
-fn measure(region: &[u8], starts: &[u32], depths: &mut [u32])
+// The depths of all values, in the first words of the table. A short region has few blocks, as in `checker_starts::list_starts`.
+fn depths_to(region: &[u8], starts: &[u32], depths: &mut [u32])
     requires { ⌜ (length (now starts) ≤ length (now depths)) × (length (now region) ≤ LIMIT) × (Starts (now region) (now starts)) ⌝ }
     ensures { λ _. ⌜ take (length (now (starts .entry))) (now (depths .exit)) ≡ depthsTo (now (region .entry)) (now (starts .entry)) (length (now (starts .entry))) ⌝ }
 {
     if region.len() < table::LONG {
         let mut few = [0u32; table::FEW];
-        measure_by(region, starts, &mut few, depths);
+        depths_to_by(region, starts, &mut few, depths);
         return;
     }
     let mut blocks = [0u32; table::BLOCKS];
-    measure_by(region, starts, &mut blocks, depths);
+    depths_to_by(region, starts, &mut blocks, depths);
 }
 
 // Checks a file, and tells how deep its values are: the depth of a value is the number of values on the longest path from it, a path going
@@ -44,7 +44,7 @@ fn measure(region: &[u8], starts: &[u32], depths: &mut [u32])
 // and 0 in every other word; on an error 0 in every word. Check's errors come first; then FULL where the second table has fewer words than the
 // file has values, at the start of the first value without a word.
 pub fn depths(file: &[u8], starts: &mut [u32], depths: &mut [u32]) -> CheckResult
-    ensures { λ r. ⌜ deepened (toldCheck r) (now (starts .exit)) (now (depths .exit)) ≡ depthsOf (now (file .entry)) (length (now (starts .entry))) (length (now (depths .entry))) ⌝ }
+    ensures { λ r. ⌜ deepened (checkAnswer r) (now (starts .exit)) (now (depths .exit)) ≡ depthsOf (now (file .entry)) (length (now (starts .entry))) (length (now (depths .entry))) ⌝ }
 {
     match checker::check(file, starts) {
         CheckResult::Ok { count, entry } => {
@@ -60,7 +60,7 @@ pub fn depths(file: &[u8], starts: &mut [u32], depths: &mut [u32]) -> CheckResul
                 });
             }
             let p = file.len() - 1;
-            measure(&file[..p], &starts[..count], depths);
+            depths_to(&file[..p], &starts[..count], depths);
             table::zero(&mut depths[count..]);
             CheckResult::Ok { count, entry }
         }

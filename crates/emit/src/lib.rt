@@ -12,7 +12,7 @@ ghost use Rattle.kind.specs.Kind.{rule};
 ghost use Rattle.token.specs.Token.{token, putIf, emit, emitInto};
 
 // What a number n has beyond the low nibble.
-fn excess(n: u64) -> u64
+fn above_15(n: u64) -> u64
     ensures { λ r. ⌜ r ≡ n - 15 ⌝ }
 {
     if n < kind::EXTENDED {
@@ -45,7 +45,7 @@ fn size_if(wanted: bool, n: u64) -> usize
 pub fn size_by(rule: Rule, n: u64, args: u64, body: &[u8]) -> usize
     ensures { λ r. ⌜ r ≡ 1 + length (putIf (leb 15 n) (n - 15)) + length (putIf (rule .args) args) + length (now (body .entry)) ⌝ }
 {
-    1 + size_if(kind::EXTENDED <= n, excess(n)) + size_if(rule.args, args) + body.len()
+    1 + size_if(kind::EXTENDED <= n, above_15(n)) + size_if(rule.args, args) + body.len()
 }
 
 // How many bytes a token takes; of a kind over 15, which `put` does not write, as many as a reserved one.
@@ -90,7 +90,7 @@ pub fn put_head(out: &mut [u8], kind: u8, n: u64, second: bool, args: u64) -> us
     requires { ⌜ (kind < 16) × (second ≡ rule kind .args) × (length (emit (token kind n args [])) ≤ length (now out)) ⌝ }
     ensures { λ r. ⌜ Put (emit (token kind n args [])) (now (out .entry)) (now (out .exit)) r ⌝ }
 {
-    let more = excess(n);
+    let more = above_15(n);
     out[0] = kind * 16 + nibble(n);
     let number = put_if(out, 1, kind::EXTENDED <= n, more);
     put_if(out, number, second, args)

@@ -7,7 +7,7 @@
 --   padded s         the name s as the code tells it, filled up with spaces
 --   Fault            an error as the paper tells it: its number and its place
 --   fault f p        the error f at the place p
---   told e           the code's error e as the paper tells it
+--   faultOf e        the code's error e as the paper tells it
 --   LIMIT            the most bytes that a file may have: one with more is TOO_LONG
 use Prim.Native.Nat.{ℕ}
 use mathlib.Core.List.{List, [], _∷_, _++_}
@@ -101,8 +101,8 @@ pub record Fault : Type 0 where
 abbrev pub fault : ℕ → ℕ → Fault
 fault f p = record { number = f; place = p }
 
-abbrev pub told : Error → Fault
-told e = fault (numberOf (e .kind)) (e .place)
+abbrev pub faultOf : Error → Fault
+faultOf e = fault (numberOf (e .kind)) (e .place)
 
 abbrev pub names : List (List ℕ)
 names =

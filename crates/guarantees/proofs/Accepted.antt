@@ -13,13 +13,13 @@ use Rattle.prelude.specs.Answer.{ok}
 use Rattle.prelude.specs.Bytes.{Bytes}
 use Rattle.values.specs.Values.{Value, region, starts, Values}
 use Rattle.values.proofs.Laws.{length-starts}
-use Rattle.pass.specs.Walk.{between, startsFrom}
+use Rattle.checker_value.specs.Walk.{between, startsFrom}
 use Rattle.checker.specs.Check.{checkIn, Checked, checked, filled, listed, checkOf}
 use Rattle.guarantees.specs.Accepts.{Accepted}
 use Rattle.guarantees.proofs.Files.{bytes-whole, found-ok, answer-ok}
-use Rattle.guarantees.proofs.Taken.{stands-next}
+use Rattle.guarantees.proofs.WalkTokens.{taken-next}
 use Rattle.guarantees.proofs.Accepts.{accepts}
-use Rattle.guarantees.proofs.Walked.{Walked, idle, passed-walked, walked-between}
+use Rattle.guarantees.proofs.WalkValues.{WalkedValues, idle, after-walked, walked-between}
 use Rattle.guarantees.proofs.Ends.{Ends, walk-ends}
 
 -- ---- a region that was walked to its end
@@ -33,15 +33,15 @@ pub record Listed (s : List ℕ) (cap : ℕ) (done : List ℕ) : Type 0 where
   pub room : length values ≤ cap
 
 module _ (s : List ℕ) (cap : ℕ) (b : Bytes s) where
-  pub walked-ends : Ends s cap (Walked s) (startsFrom s cap (between 0 []))
+  pub walked-ends : Ends s cap (WalkedValues s) (startsFrom s cap (between 0 []))
   unfolding region starts
   walked-ends =
-      walk-ends s cap (Walked s) (λ w h e i. passed-walked s cap w h (stands-next s cap w h b e) i)
-      (idle {vs = []} s (record { formed = tt; aimed = tt }) refl)
+      walk-ends s cap (WalkedValues s) (λ w h e i. after-walked s cap w h (taken-next s cap w h b e) i)
+      (idle {vs = []} s (record { formed = tt; targets = tt }) refl)
 
   pub walked-region : (done : List ℕ) → ok done ≡ startsFrom s cap (between 0 []) → Listed s cap done
   walked-region done e =
-      let r = subst (Ends s cap (Walked s)) (sym e) walked-ends in
+      let r = subst (Ends s cap (WalkedValues s)) (sym e) walked-ends in
       let p = walked-between s (r .walk) (r .between) (r .holds) in
       let long = length-append (region (p .values)) (p .rest) in
       let none : p .rest ≡ [] = length-nil (p .rest) (omega (arith, r .end, p .at, ap length (p .same))) in

@@ -17,56 +17,56 @@ use Rattle.prelude.proofs.Parts.{drop-past, length-past}
 use Rattle.kind.specs.Kind.{rule, pending}
 use Rattle.token.specs.Token.{Token, emit, Fits}
 use Rattle.utf8.specs.Text.{Text}
-use Rattle.values.specs.Values.{Value, tokens, bytes, region, starts, Each, Item, Formed, Aimed, Back, Values, WellFormed}
+use Rattle.values.specs.Values.{Value, tokens, bytes, region, starts, Each, Item, Formed, HasTargets, TargetsEarlier, Values, WellFormed}
 use Rattle.values.proofs.Laws.{length-starts, fits-item, fits-head}
-use Rattle.pass.specs.Walk.{between, startsFrom}
+use Rattle.checker_value.specs.Walk.{between, startsFrom}
 use Rattle.checker.specs.Check.{checkIn, checked, filled, checkOf}
-use Rattle.pass.proofs.Walks.{walk-end}
+use Rattle.checker_value.proofs.Walks.{walk-end}
 use Rattle.guarantees.proofs.Files.{Whole, entered, checkIn-whole, entered-named}
-use Rattle.guarantees.proofs.Taken.{Stands, settled, due-suc, walk-stands}
+use Rattle.guarantees.proofs.WalkTokens.{TakenToken, settled, due-suc, walk-taken}
 
 -- ---- values
 
 module _ (s : List ℕ) (cap : ℕ) (done : List ℕ) where
   -- the items `is`, and k more are pending behind them
-  walks-items : (start at k : ℕ) (is : List Token) (rest : List ℕ) → drop at s ≡ bytes is ++ rest → Each Item is → Aimed done at is
+  walks-items : (start at k : ℕ) (is : List Token) (rest : List ℕ) → drop at s ≡ bytes is ++ rest → Each Item is → HasTargets done at is
       → startsFrom s cap (settled start done at (length is + k)) ≡ startsFrom s cap (settled start done (at + length (bytes is)) k)
   unfolding bytes
   walks-items start at k [] rest same f a = rw (add-zero, zero-add)
   walks-items start at k (i ∷ is) rest same f a =
       let here = same ∙ append-assoc (emit i) (bytes is) rest in
       let left : length (i ∷ is) + k ≡ suc (length is + k) = omega arith in
-      let st : Stands s cap (settled start done at (suc (length is + k))) i (bytes is ++ rest) = record {
+      let st : TakenToken s cap (settled start done at (suc (length is + k))) i (bytes is ++ rest) = record {
         same = here;
         fits = rw (lt-ltb 0 (suc (length is + k)) (omega arith)) (fits-item i (f .0) (bytes is ++ rest));
         text = f .0 .sound .text;
-        reaches = a .0;
+        target = a .0;
         word = λ e. absurd (omega arith);
       } in
-      rw left (walk-stands s cap _ i (bytes is ++ rest) (length is + k) st (due-suc (length is + k) _)
+      rw left (walk-taken s cap _ i (bytes is ++ rest) (length is + k) st (due-suc (length is + k) _)
       ∙ walks-items start (at + length (emit i)) k is rest (drop-past s at (emit i) _ here) (f .1) (a .1)
       ∙ rw (length-past at (emit i) (bytes is)))
 
   -- a head and the items `is`, and k more are pending behind them
   pub walks-open : (at k : ℕ) (t : Token) (is : List Token) (rest : List ℕ) → drop at s ≡ bytes (t ∷ is) ++ rest → Fits false t (bytes is ++ rest)
-      → (t .kind ≡ 4 → Text (t .body)) → Each Item is → length is + k ≡ pending (rule (t .kind)) (t .n) (t .args) → Aimed done at (t ∷ is)
+      → (t .kind ≡ 4 → Text (t .body)) → Each Item is → length is + k ≡ pending (rule (t .kind)) (t .n) (t .args) → HasTargets done at (t ∷ is)
       → length done < cap
       → startsFrom s cap (between at done) ≡ startsFrom s cap (settled at done (at + length (bytes (t ∷ is))) k)
   unfolding bytes
   walks-open at k t is rest same fits text items count a room =
       let here = same ∙ append-assoc (emit t) (bytes is) rest in
-      let st : Stands s cap (between at done) t (bytes is ++ rest) = record {
+      let st : TakenToken s cap (between at done) t (bytes is ++ rest) = record {
         same = here;
         fits = fits;
         text = text;
-        reaches = a .0;
+        target = a .0;
         word = λ e. room;
       } in
-      walk-stands s cap _ t (bytes is ++ rest) (length is + k) st (sym count)
+      walk-taken s cap _ t (bytes is ++ rest) (length is + k) st (sym count)
       ∙ walks-items at (at + length (emit t)) k is rest (drop-past s at (emit t) _ here) items (a .1)
       ∙ rw (length-past at (emit t) (bytes is))
 
-  walks-value : (at : ℕ) (v : Value) (rest : List ℕ) → drop at s ≡ bytes (tokens v) ++ rest → Formed v → Aimed done at (tokens v)
+  walks-value : (at : ℕ) (v : Value) (rest : List ℕ) → drop at s ≡ bytes (tokens v) ++ rest → Formed v → HasTargets done at (tokens v)
       → length done < cap
       → startsFrom s cap (between at done) ≡ startsFrom s cap (between (at + length (bytes (tokens v))) (done ++ (at ∷ [])))
   walks-value at v rest same f a room =
@@ -74,7 +74,7 @@ module _ (s : List ℕ) (cap : ℕ) (done : List ℕ) where
 
 -- values from `at` on, behind those whose starts are `done`, and before any bytes
 pub walks-prefix : (s : List ℕ) (cap : ℕ) (done : List ℕ) (at : ℕ) (vs : List Value) (rest : List ℕ) → drop at s ≡ region vs ++ rest
-    → Each Formed vs → Back done at vs → length done + length vs ≤ cap
+    → Each Formed vs → TargetsEarlier done at vs → length done + length vs ≤ cap
     → startsFrom s cap (between at done) ≡ startsFrom s cap (between (at + length (region vs)) (done ++ starts at vs))
 unfolding region starts
 walks-prefix s cap done at [] rest same f b room = rw (add-zero, append-nil)
@@ -90,7 +90,7 @@ pub walks-all : (vs : List Value) (cap : ℕ) → Values vs → length vs ≤ ca
 walks-all vs cap v room =
     let s = region vs in
     let end : ok (starts 0 vs) ≡ startsFrom s cap (between (0 + length s) (starts 0 vs)) = walk-end s cap _ (le-leb (length s) (0 + length s) (omega arith)) in
-    end ∙ sym (walks-prefix s cap [] 0 vs [] (sym (append-nil s)) (v .formed) (v .aimed) (omega arith))
+    end ∙ sym (walks-prefix s cap [] 0 vs [] (sym (append-nil s)) (v .formed) (v .targets) (omega arith))
 
 -- ---- the file
 

@@ -15,9 +15,9 @@ use Rattle.prelude.specs.Pick.{pick}
 use Rattle.prelude.specs.Answer.{ok, error}
 use Rattle.prelude.proofs.Tests.{pick-elim}
 use Rattle.token.specs.Token.{Token, token, emit}
-use Rattle.writer.specs.Step.{Call, Move, puts, closes, moveOf, opens, limit, pendingOf, due, Verdict, judge, judgeDelta, Result, result, startOf, write, shut, writeShut, settled, put, closeAt, move, step}
+use Rattle.writer.specs.Step.{Call, Move, puts, closes, moveOf, opens, limit, pendingOf, due, Verdict, refusalOf, refusalOfDelta, Result, result, startOf, write, writeDelta, writePointerDelta, settled, putToken, closeAt, move, step}
 use Rattle.writer.specs.declared.Writer.{Writer}
-use Rattle.writer.proofs.Judged.{Accepted, judge-inv, behind, emit-pos}
+use Rattle.writer.proofs.Accepted.{Accepted, refusalOf-inv, room-after, emit-pos}
 use Rattle.writer.proofs.Closes.{Near, delta-inv}
 use Rattle.writer.proofs.Refused.{pointerTo}
 
@@ -30,25 +30,25 @@ module _ (s : Writer) (out table : List ℕ) (P : Result → Type 0) where
 
   -- an accepted token
   pub put-by : (t : Token) (target : ℕ) → (Accepted (opens t) t target s out table → P (write t s out table))
-      → put t target s out table .answer ≡ ok tt → P (put t target s out table)
-  unfolding put
-  put-by t target f e = settled-ok (judge (opens t) t target s out table) (write t s out table) e (λ j. f (judge-inv _ _ _ _ _ _ j))
+      → putToken t target s out table .answer ≡ ok tt → P (putToken t target s out table)
+  unfolding putToken
+  put-by t target f e = settled-ok (refusalOf (opens t) t target s out table) (write t s out table) e (λ j. f (refusalOf-inv _ _ _ _ _ _ j))
 
   -- an accepted close, by the delta byte or by a pointer
-  pub close-by : (x : ℕ) → (s .written - x - 1 ≤ 255 → Near x s out table → P (shut (s .written - x - 1) s out table))
-      → (255 < s .written - x - 1 → Accepted true (pointerTo x s) x s out table → P (writeShut (pointerTo x s) s out table))
+  pub close-by : (x : ℕ) → (s .written - x - 1 ≤ 255 → Near x s out table → P (writeDelta (s .written - x - 1) s out table))
+      → (255 < s .written - x - 1 → Accepted true (pointerTo x s) x s out table → P (writePointerDelta (pointerTo x s) s out table))
       → closeAt x s out table .answer ≡ ok tt → P (closeAt x s out table)
   unfolding closeAt
   close-by x near far =
       pick-elim (λ r. r .answer ≡ ok tt → P r) (leb (s .written - x - 1) 255)
-      (λ b e. settled-ok (judgeDelta x s out table) (shut (s .written - x - 1) s out table) e (λ j. near (leb-true _ _ b) (delta-inv x s out table j)))
-      (λ b e. settled-ok (judge true (pointerTo x s) x s out table) (writeShut (pointerTo x s) s out table) e (λ j.
-      far (leb-false _ _ b) (judge-inv _ _ _ _ _ _ j)))
+      (λ b e. settled-ok (refusalOfDelta x s out table) (writeDelta (s .written - x - 1) s out table) e (λ j. near (leb-true _ _ b) (delta-inv x s out table j)))
+      (λ b e. settled-ok (refusalOf true (pointerTo x s) x s out table) (writePointerDelta (pointerTo x s) s out table) e (λ j.
+      far (leb-false _ _ b) (refusalOf-inv _ _ _ _ _ _ j)))
 
   -- an accepted call
   module _ (token-put : (t : Token) (target : ℕ) → Accepted (opens t) t target s out table → P (write t s out table))
-      (near : (x : ℕ) → Near x s out table → P (shut (s .written - x - 1) s out table))
-      (far : (x : ℕ) → Accepted true (pointerTo x s) x s out table → P (writeShut (pointerTo x s) s out table)) where
+      (near : (x : ℕ) → Near x s out table → P (writeDelta (s .written - x - 1) s out table))
+      (far : (x : ℕ) → Accepted true (pointerTo x s) x s out table → P (writePointerDelta (pointerTo x s) s out table)) where
     by-move : (m : Move) → move m s out table .answer ≡ ok tt → P (move m s out table)
     by-move (puts t target) = put-by t target (token-put t target)
     by-move (closes x) = close-by x (λ _. near x) (λ _. far x)
@@ -98,9 +98,9 @@ module _ (s : Writer) (out table : List ℕ) where
     others = pick-set-other (eqb (due (s .pending) (pendingOf t)) 0) table (s .count) (startOf s);
   }
 
-  shut-only : (d : ℕ) → s .written < limit (length out) → Only s out table (shut d s out table)
-  unfolding shut
-  shut-only d h = record {
+  delta-only : (d : ℕ) → s .written < limit (length out) → Only s out table (writeDelta d s out table)
+  unfolding writeDelta
+  delta-only d h = record {
     grows = omega arith;
     within = omega arith;
     bytes = length-sets out (s .written) (d ∷ []);
@@ -135,19 +135,19 @@ then-only s out table r q one two same =
     }
 
 -- a pointer, and the delta byte behind it
-writeShut-only : (s : Writer) (out table : List ℕ) (t : Token) → s .written + length (emit t) < limit (length out)
-    → Only s out table (writeShut t s out table)
-unfolding writeShut write shut
-writeShut-only s out table t h =
+writePointerDelta-only : (s : Writer) (out table : List ℕ) (t : Token) → s .written + length (emit t) < limit (length out)
+    → Only s out table (writePointerDelta t s out table)
+unfolding writePointerDelta write writeDelta
+writePointerDelta-only s out table t h =
     let r = write t s out table in
     let one = write-only s out table t (omega arith) in
-    then-only s out table r _ one (shut-only (r .writer) (r .out) (r .table) (length (emit t) - 1) (omega (arith, one .bytes))) refl
+    then-only s out table r _ one (delta-only (r .writer) (r .out) (r .table) (length (emit t) - 1) (omega (arith, one .bytes))) refl
 
 -- an accepted call changes only the bytes from the old to the new `written`, and the one word
 pub accepted-only : (c : Call) (s : Writer) (out table : List ℕ) → step c s out table .answer ≡ ok tt → Only s out table (step c s out table)
 accepted-only c s out table =
     accepted-by s out table (Only s out table)
-    (λ t x a. write-only s out table t (omega (arith, behind _ t x s out table a)))
-    (λ e n. shut-only s out table _ (n .byte))
-    (λ e a. writeShut-only s out table (pointerTo e s) (behind _ (pointerTo e s) e s out table a))
+    (λ t x a. write-only s out table t (omega (arith, room-after _ t x s out table a)))
+    (λ e n. delta-only s out table _ (n .byte))
+    (λ e a. writePointerDelta-only s out table (pointerTo e s) (room-after _ (pointerTo e s) e s out table a))
     c

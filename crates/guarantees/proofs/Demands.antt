@@ -15,13 +15,13 @@ use Rattle.values.specs.Values.{Each}
 use Rattle.checker.specs.Check.{checkOf}
 use Rattle.writer.specs.Step.{Call, close, fresh}
 use Rattle.writer.specs.Given.{Given}
-use Rattle.guarantees.specs.Model.{ends, Model, blank, judgeOf, takenOf}
-use Rattle.guarantees.specs.History.{runs, Noted, notes}
+use Rattle.guarantees.specs.Model.{ends, Model, emptyModel, modelAnswer, modelAfter}
+use Rattle.guarantees.specs.History.{runs, ModelRan, modelRun}
 use Rattle.guarantees.specs.ReadsBack.{ReadsBack}
 use Rattle.guarantees.specs.Rewrites.{rewriting, AllOk, Rewritten}
 use Rattle.guarantees.proofs.Accepted.{accepted}
 use Rattle.guarantees.proofs.History.{history}
-use Rattle.guarantees.proofs.Lists.{notes-append, length-answers, ended-same, ended-answers}
+use Rattle.guarantees.proofs.Lists.{modelRun-append, length-answers, ended-same, ended-answers}
 use Rattle.guarantees.proofs.Rewrites.{model-rewrites, calls-given}
 use Rattle.guarantees.proofs.ReadsBack.{model-reads-back}
 
@@ -59,30 +59,30 @@ module _ (cs more : List Call) (e : ℕ) (out table : List ℕ) where
 
   -- the model before the close
   abbrev b : Model
-  b = notes cs blank n m .model
+  b = modelRun cs emptyModel n m .model
 
   -- the close was accepted
   module _ (accepted : getD (runs all fresh out table .answers) (length cs) (error 0) ≡ ok tt) where
-    judged : judgeOf (ends e) b n m ≡ ok tt
-    unfolding notes
-    judged =
-        let a = notes cs blank n m .answers in
-        sym (getD-at a (judgeOf (ends e) b n m) _ (error 0) (length cs) (length-answers cs blank n m))
-        ∙ ap (λ l. getD l (length cs) (error 0)) (sym (history all out table .0 ∙ ap (λ (k : Noted). k .answers) (notes-append cs (close e ∷ more) blank n m)))
+    answered : modelAnswer (ends e) b n m ≡ ok tt
+    unfolding modelRun
+    answered =
+        let a = modelRun cs emptyModel n m .answers in
+        sym (getD-at a (modelAnswer (ends e) b n m) _ (error 0) (length cs) (length-answers cs emptyModel n m))
+        ∙ ap (λ l. getD l (length cs) (error 0)) (sym (history all out table .0 ∙ ap (λ (k : ModelRan). k .answers) (modelRun-append cs (close e ∷ more) emptyModel n m)))
         ∙ accepted
 
-    ended : notes all blank n m .model ≡ takenOf (ends e) b
-    unfolding notes
-    ended = ap (λ (k : Noted). k .model) (notes-append cs (close e ∷ more) blank n m) ∙ rw judged (ended-same e b n m more)
+    ended : modelRun all emptyModel n m .model ≡ modelAfter (ends e) b
+    unfolding modelRun
+    ended = ap (λ (k : ModelRan). k .model) (modelRun-append cs (close e ∷ more) emptyModel n m) ∙ rw answered (ended-same e b n m more)
 
     -- of every list of calls with an accepted close among them, whatever came before it and after it: the output's first w bytes are a file that is
     -- read back as the model's finished values
-    pub reads-back : Each Given cs → let r = runs all fresh out table in ReadsBack b e (notes all blank n m .model) (take (r .writer .written) (r .out))
-    reads-back given = rw (history all out table .1 .bytes, ended) (model-reads-back cs given n m e judged)
+    pub reads-back : Each Given cs → let r = runs all fresh out table in ReadsBack b e (modelRun all emptyModel n m .model) (take (r .writer .written) (r .out))
+    reads-back given = rw (history all out table .1 .bytes, ended) (model-reads-back cs given n m e answered)
 
     pub closed-after : Each (λ v. v ≡ error CLOSED) (drop (length cs + 1) (runs all fresh out table .answers))
-    unfolding notes
+    unfolding modelRun
     closed-after =
-        let a = notes cs blank n m .answers in
-        let same = history all out table .0 ∙ ap (λ (k : Noted). k .answers) (notes-append cs (close e ∷ more) blank n m) in
-        rw (same, judged, ← length-answers cs blank n m, drop-append-add a (ok tt ∷ notes more (takenOf (ends e) b) n m .answers) 1) (ended-answers e b n m more)
+        let a = modelRun cs emptyModel n m .answers in
+        let same = history all out table .0 ∙ ap (λ (k : ModelRan). k .answers) (modelRun-append cs (close e ∷ more) emptyModel n m) in
+        rw (same, answered, ← length-answers cs emptyModel n m, drop-append-add a (ok tt ∷ modelRun more (modelAfter (ends e) b) n m .answers) 1) (ended-answers e b n m more)

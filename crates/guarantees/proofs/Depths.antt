@@ -17,17 +17,17 @@ use Rattle.prelude.specs.Search.{rank}
 use Rattle.prelude.proofs.Tests.{pick-elim}
 use Rattle.error.specs.Error.{Fault, fault, FULL}
 use Rattle.token.specs.Token.{Token, emit, Fits}
-use Rattle.scan.specs.Told.{scanAt}
+use Rattle.scan.specs.Answers.{scanAt}
 use Rattle.scan.specs.declared.ScanResult.the-variants.{Ok}
 use Rattle.scan.proofs.Places.{headAt, scanAt-emit, scanAt-item}
-use Rattle.values.specs.Values.{Value, tokens, bytes, region, starts, Each, Item, Formed, Aimed, Reaches, Back, Values, WellFormed}
-use Rattle.values.specs.Paths.{targets, targetsOf, deepest, pass, Depth}
+use Rattle.values.specs.Values.{Value, tokens, bytes, region, starts, Each, Item, Formed, HasTargets, HasTarget, TargetsEarlier, Values, WellFormed}
+use Rattle.values.specs.Paths.{targets, targetsOf, deepest, depthsFrom, Depth}
 use Rattle.values.specs.Paths as paths
 use Rattle.values.proofs.Laws.{emit-pos, region-append, region-at, length-starts, starts-append, start-of, fits-item, fits-head}
 use Rattle.values.proofs.Depths.{length-depths, depth-is}
 use Rattle.checker.specs.Check.{filled, checkIn, checkOf}
-use Rattle.depth.specs.Depth.{reached, sight, deepestFrom, depthAt, depthsTo}
-use Rattle.depth.proofs.Laws.{deepest-end, deepest-token}
+use Rattle.depths_value.specs.Depth.{targetDepth, depthState, deepestFrom, depthAt, depthsTo}
+use Rattle.depths_value.proofs.Laws.{deepest-end, deepest-token}
 use Rattle.depths.specs.Depths.{Deepened, deepened, deepen, depthsOf}
 use Rattle.guarantees.proofs.Files.{answer-error}
 use Rattle.guarantees.proofs.Accepts.{finds}
@@ -64,8 +64,8 @@ aim ss ds q t = pick (leb 14 (t .kind)) (getD ds (rank (q - t .n - 1) ss) 0) 0
 
 module _ (ss ds : List ℕ) where
   -- a token is reached as its target is not below 0
-  reached-aim : (done : List ℕ) (q : ℕ) (t : Token) → Reaches done q t → reached ss ds q (headAt q t) ≡ aim ss ds q t
-  reached-aim done q t r = by-cases (leb 14 (t .kind)) refl
+  target-depth-is : (done : List ℕ) (q : ℕ) (t : Token) → HasTarget done q t → targetDepth ss ds q (headAt q t) ≡ aim ss ds q t
+  target-depth-is done q t r = by-cases (leb 14 (t .kind)) refl
     where
       by-cases : (k : Bool) → leb 14 (t .kind) ≡ k
           → pick (k && ltb (t .n) q) (getD ds (rank (q - t .n - 1) ss) 0) 0 ≡ pick k (getD ds (rank (q - t .n - 1) ss) 0) 0
@@ -88,20 +88,20 @@ module _ (ss ds : List ℕ) where
 
   module _ (end : ℕ) where
     -- one token
-    token-deep : (inner : Bool) (done p : List ℕ) (t : Token) (rest : List ℕ) (deep : ℕ) → Fits inner t rest → Reaches done (length p) t → length p < end
-        → deepestFrom (p ++ (emit t ++ rest)) ss ds end (sight (length p + length (emit t)) (max deep (aim ss ds (length p) t)))
-        ≡ deepestFrom (p ++ (emit t ++ rest)) ss ds end (sight (length p) deep)
+    token-deep : (inner : Bool) (done p : List ℕ) (t : Token) (rest : List ℕ) (deep : ℕ) → Fits inner t rest → HasTarget done (length p) t → length p < end
+        → deepestFrom (p ++ (emit t ++ rest)) ss ds end (depthState (length p + length (emit t)) (max deep (aim ss ds (length p) t)))
+        ≡ deepestFrom (p ++ (emit t ++ rest)) ss ds end (depthState (length p) deep)
     token-deep inner done p t rest deep f r lt =
         deepest-token (p ++ (emit t ++ rest)) ss ds end (length p) deep lt (Ok (headAt (length p) t)) (by-cases inner f) (headAt (length p) t) refl _ _
-        (sym (reached-aim done (length p) t r)) refl
+        (sym (target-depth-is done (length p) t r)) refl
       where
         by-cases : (inner : Bool) → Fits inner t rest → ok (headAt (length p) t) ≡ scanAt false (p ++ (emit t ++ rest)) (length p)
         by-cases false f = sym (scanAt-emit false p t rest f)
         by-cases true f = scanAt-item (p ++ (emit t ++ rest)) (length p) (headAt (length p) t) (sym (scanAt-emit true p t rest f)) .value
 
     -- the items of a value
-    items-deep : (done p : List ℕ) (ts : List Token) (rest : List ℕ) (deep : ℕ) → Each Item ts → Aimed done (length p) ts → end ≡ length p + length (bytes ts)
-        → deepestFrom (p ++ (bytes ts ++ rest)) ss ds end (sight (length p) deep) ≡ max deep (deepest ds (map (λ x. rank x ss) (targets (length p) ts)))
+    items-deep : (done p : List ℕ) (ts : List Token) (rest : List ℕ) (deep : ℕ) → Each Item ts → HasTargets done (length p) ts → end ≡ length p + length (bytes ts)
+        → deepestFrom (p ++ (bytes ts ++ rest)) ss ds end (depthState (length p) deep) ≡ max deep (deepest ds (map (λ x. rank x ss) (targets (length p) ts)))
     unfolding bytes targets deepest
     items-deep done p [] rest deep is a e = sym (deepest-end (p ++ rest) ss ds end (length p) deep (omega arith)) ∙ omega arith
     items-deep done p (t ∷ ts) rest deep is a e =
@@ -114,8 +114,8 @@ module _ (ss ds : List ℕ) where
         ∙ omega (arith, targets-deepest (length p) t ts))
 
     -- a value
-    value-deep : (done p : List ℕ) (v : Value) (rest : List ℕ) → Formed v → Aimed done (length p) (tokens v) → end ≡ length p + length (bytes (tokens v))
-        → deepestFrom (p ++ (bytes (tokens v) ++ rest)) ss ds end (sight (length p) 0) ≡ deepest ds (map (λ x. rank x ss) (targets (length p) (tokens v)))
+    value-deep : (done p : List ℕ) (v : Value) (rest : List ℕ) → Formed v → HasTargets done (length p) (tokens v) → end ≡ length p + length (bytes (tokens v))
+        → deepestFrom (p ++ (bytes (tokens v) ++ rest)) ss ds end (depthState (length p) 0) ≡ deepest ds (map (λ x. rank x ss) (targets (length p) (tokens v)))
     unfolding bytes
     value-deep done p v rest f a e =
         let t = v .head in
@@ -132,27 +132,27 @@ module _ (ss ds : List ℕ) where
 
 module _ (vs : List Value) where
   -- the depth of the value behind a
-  depth-value : (a : List Value) (v : Value) (b : List Value) (ds : List ℕ) → vs ≡ a ++ (v ∷ b) → Formed v → Aimed (starts 0 a) (length (region a)) (tokens v)
+  depth-value : (a : List Value) (v : Value) (b : List Value) (ds : List ℕ) → vs ≡ a ++ (v ∷ b) → Formed v → HasTargets (starts 0 a) (length (region a)) (tokens v)
       → depthAt (region vs) (starts 0 vs) ds (length a) ≡ suc (deepest ds (map (λ x. rank x (starts 0 vs)) (targets (length (region a)) (tokens v))))
   unfolding depthAt
-  depth-value a v b ds e f aimed =
+  depth-value a v b ds e f targeted =
       let last : getD (starts 0 vs) (suc (length a)) (length (region vs)) ≡ length (region a) + length (bytes (tokens v)) = rw e (ends-next a v b) in
       let first : getD (starts 0 vs) (length a) 0 ≡ length (region a) = rw e (start-of a v b) in
       let all : region vs ≡ region a ++ (bytes (tokens v) ++ region b) = rw e (region-at a v b) in
-      rw (last, first, all) (ap suc (value-deep (starts 0 vs) ds _ (starts 0 a) (region a) v (region b) f aimed refl))
+      rw (last, first, all) (ap suc (value-deep (starts 0 vs) ds _ (starts 0 a) (region a) v (region b) f targeted refl))
 
-  depths-pass : (a b : List Value) → vs ≡ a ++ b → Each Formed b → Back (starts 0 a) (length (region a)) b
-      → pass (starts 0 vs) (depthsTo (region vs) (starts 0 vs) (length a)) (targetsOf (length (region a)) b) ≡ depthsTo (region vs) (starts 0 vs) (length a + length b)
-  unfolding pass targetsOf depthsTo
-  depths-pass a [] e f k = rw add-zero
-  depths-pass a (v ∷ b) e f k =
+  depths-from : (a b : List Value) → vs ≡ a ++ b → Each Formed b → TargetsEarlier (starts 0 a) (length (region a)) b
+      → depthsFrom (starts 0 vs) (depthsTo (region vs) (starts 0 vs) (length a)) (targetsOf (length (region a)) b) ≡ depthsTo (region vs) (starts 0 vs) (length a + length b)
+  unfolding depthsFrom targetsOf depthsTo
+  depths-from a [] e f k = rw add-zero
+  depths-from a (v ∷ b) e f k =
       let ds = depthsTo (region vs) (starts 0 vs) (length a) in
       let one = depth-value a v b ds e (f .0) (k .0) in
       let long : length (a ++ (v ∷ [])) ≡ suc (length a) = length-append a (v ∷ []) ∙ omega arith in
       let count : suc (length a) + length b ≡ length a + suc (length b) = omega arith in
-      let rest : Back (starts 0 (a ++ (v ∷ []))) (length (region (a ++ (v ∷ [])))) b = rw (starts-snoc a v, length-snoc a v) (k .1) in
-      let ih = depths-pass (a ++ (v ∷ [])) b (e ∙ sym (append-assoc a (v ∷ []) b)) (f .1) rest in
-      ap (λ d. pass (starts 0 vs) (ds ++ (d ∷ [])) (targetsOf (length (region a) + length (bytes (tokens v))) b)) (sym one)
+      let rest : TargetsEarlier (starts 0 (a ++ (v ∷ []))) (length (region (a ++ (v ∷ [])))) b = rw (starts-snoc a v, length-snoc a v) (k .1) in
+      let ih = depths-from (a ++ (v ∷ [])) b (e ∙ sym (append-assoc a (v ∷ []) b)) (f .1) rest in
+      ap (λ d. depthsFrom (starts 0 vs) (ds ++ (d ∷ [])) (targetsOf (length (region a) + length (bytes (tokens v))) b)) (sym one)
       ∙ (rw (long, length-snoc a v) at ih)
       ∙ ap (depthsTo (region vs) (starts 0 vs)) count
 
@@ -161,7 +161,7 @@ module _ (vs : List Value) where
 pub depths-are : (vs : List Value) → Values vs → depthsTo (region vs) (starts 0 vs) (length (starts 0 vs)) ≡ paths.depthsOfValues vs
 unfolding paths.depthsOfValues depthsTo starts region
 depths-are vs w =
-    let e = depths-pass vs [] vs refl (w .formed) (w .aimed) in
+    let e = depths-from vs [] vs refl (w .formed) (w .targets) in
     let many : length (starts 0 vs) ≡ 0 + length vs = length-starts 0 vs ∙ omega arith in
     rw many (sym e)
 
@@ -171,10 +171,10 @@ module _ (file : List ℕ) (vs : List Value) (entry cap room : ℕ) (w : WellFor
       let long : length (region vs) ≡ length file - 1 = omega (arith, ap length (w .same), length-append (region vs) (w .delta ∷ [])) in
       ap (take (length file - 1)) (w .same) ∙ take-at (region vs) (w .delta ∷ []) (length file - 1) long
 
-  pub depths-tell : length vs ≤ room
+  pub depths-accept : length vs ≤ room
       → depthsOf file cap room ≡ deepened (ok (length vs, entry)) (filled cap (starts 0 vs)) (filled room (paths.depthsOfValues vs))
   unfolding depthsOf
-  depths-tell enough =
+  depths-accept enough =
       let many = length-starts 0 vs in
       rw (← finds file vs entry cap w words, le-ltb room (length (starts 0 vs)) (omega arith), region-is, depths-are vs (w .values), many)
 
@@ -188,9 +188,9 @@ module _ (file : List ℕ) (vs : List Value) (entry cap room : ℕ) (w : WellFor
   -- the depths are those that paths tell
   pub depth-exact : length vs ≤ room → (i : ℕ) → i < length vs → Depth vs i (getD (depthsOf file cap room .depths) i 0)
   depth-exact enough i h =
-      let told : depthsOf file cap room .depths ≡ filled room (paths.depthsOfValues vs) = ap (λ (d : Deepened). d .depths) (depths-tell enough) in
+      let reported : depthsOf file cap room .depths ≡ filled room (paths.depthsOfValues vs) = ap (λ (d : Deepened). d .depths) (depths-accept enough) in
       let word = List·getD-append (paths.depthsOfValues vs) (replicate (room - length (paths.depthsOfValues vs)) 0) 0 i (omega (arith, length-depths vs)) in
-      rw (told, word) (depth-is vs (w .values) i h)
+      rw (reported, word) (depth-is vs (w .values) i h)
 
 -- on an error both tables are all 0
 abbrev pub Zeros : ℕ → ℕ → Deepened → Type 0

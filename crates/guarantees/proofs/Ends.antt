@@ -13,10 +13,10 @@ use Rattle.prelude.specs.Answer.{Answer, ok, error, bind}
 use Rattle.prelude.proofs.Tests.{pick-elim, and-l, and-r, facts}
 use Rattle.error.specs.Error.{Fault, TRUNC, FULL}
 use Rattle.utf8.specs.Text.{isText}
-use Rattle.scan.specs.Told.{scanAt, bytesOf}
+use Rattle.scan.specs.Answers.{scanAt, bodyOn}
 use Rattle.scan.specs.declared.Head.{Head}
-use Rattle.pass.specs.Walk.{aimed, judge, Walk, between, next, passed, startsFrom}
-use Rattle.pass.proofs.Walks.{Going, going-begun, passed-on, passed-less, walk-end, walk-error, walk-token}
+use Rattle.checker_value.specs.Walk.{hasTarget, tokenFault, Walk, between, nextToken, walkAfter, startsFrom}
+use Rattle.checker_value.proofs.Walks.{WalkInvariant, invariant-begun, after-invariant, after-less, walk-end, walk-error, walk-token}
 use Rattle.guarantees.proofs.Faults.{Placed, scanAt-placed}
 
 -- ---- a token that is refused
@@ -36,8 +36,8 @@ module _ (s : List ℕ) (cap : ℕ) (w : Walk) where
   other : (f : Fault) → Placed (w .at) f → Refused cap w f
   other f p = record { place = p .0; number = omega (arith, p .1); full = λ e. absurd (omega (arith, p .1)) }
 
-  refuses : Refuses (next s cap (w .done) (w .pending) (w .at))
-  unfolding next judge bind
+  refuses : Refuses (nextToken s cap (w .done) (w .pending) (w .at))
+  unfolding nextToken tokenFault bind
   refuses =
       pick-elim Refuses (eqb (w .pending) 0 && leb cap (length (w .done)))
       (λ t. record {
@@ -47,13 +47,13 @@ module _ (s : List ℕ) (cap : ℕ) (w : Walk) where
       })
       (λ t. by-cases (scanAt (ltb 0 (w .pending)) s (w .at)) refl)
     where
-      by-cases : (a : Answer Fault Head) → scanAt (ltb 0 (w .pending)) s (w .at) ≡ a → Refuses (bind a (judge s (w .done) (w .at)))
+      by-cases : (a : Answer Fault Head) → scanAt (ltb 0 (w .pending)) s (w .at) ≡ a → Refuses (bind a (tokenFault s (w .done) (w .at)))
       by-cases (ok h) e =
-          pick-elim Refuses (eqb (h .kind) 4 && not (isText (bytesOf s h))) (λ t. other _ (omega arith))
-          (λ t. pick-elim Refuses (leb 14 (h .kind) && not (aimed (w .done) (w .at) h)) (λ u. other _ (omega arith)) (λ u. tt))
+          pick-elim Refuses (eqb (h .kind) 4 && not (isText (bodyOn s h))) (λ t. other _ (omega arith))
+          (λ t. pick-elim Refuses (leb 14 (h .kind) && not (hasTarget (w .done) (w .at) h)) (λ u. other _ (omega arith)) (λ u. tt))
       by-cases (error f) e = other f (scanAt-placed (w .at) _ s f (sym e))
 
-  pub next-refused : (f : Fault) → error f ≡ next s cap (w .done) (w .pending) (w .at) → Refused cap w f
+  pub next-refused : (f : Fault) → error f ≡ nextToken s cap (w .done) (w .pending) (w .at) → Refused cap w f
   next-refused f e = subst Refuses (sym e) refuses
 
 -- ---- what each token keeps
@@ -62,7 +62,7 @@ module _ (s : List ℕ) (cap : ℕ) (I : Walk → Type 0) where
   -- at the region's end, between two values
   pub record Ended (done : List ℕ) : Type 0 where
     pub walk : Walk
-    pub going : Going s cap walk
+    pub going : WalkInvariant s cap walk
     pub holds : I walk
     pub between : walk .pending ≡ 0
     pub end : length s ≤ walk .at
@@ -71,28 +71,28 @@ module _ (s : List ℕ) (cap : ℕ) (I : Walk → Type 0) where
   -- at a token that is refused; an item may be wanted at the region's end
   pub record Stuck (f : Fault) : Type 0 where
     pub walk : Walk
-    pub going : Going s cap walk
+    pub going : WalkInvariant s cap walk
     pub holds : I walk
     pub inside : walk .pending ≡ 0 → walk .at < length s
-    pub told : error f ≡ next s cap (walk .done) (walk .pending) (walk .at)
+    pub reported : error f ≡ nextToken s cap (walk .done) (walk .pending) (walk .at)
     pub refused : Refused cap walk f
 
   abbrev pub Ends : Answer Fault (List ℕ) → Type 0
   Ends (ok done) = Ended done
   Ends (error f) = Stuck f
 
-  module _ (kept : (w : Walk) (h : Head) → ok h ≡ next s cap (w .done) (w .pending) (w .at) → I w → I (passed w h)) where
-    ends-from : (k : ℕ) (w : Walk) → length s - w .at < k → Going s cap w → I w → Ends (startsFrom s cap w)
+  module _ (kept : (w : Walk) (h : Head) → ok h ≡ nextToken s cap (w .done) (w .pending) (w .at) → I w → I (walkAfter w h)) where
+    ends-from : (k : ℕ) (w : Walk) → length s - w .at < k → WalkInvariant s cap w → I w → Ends (startsFrom s cap w)
     ends-from zero w l g i = absurd (omega arith)
     ends-from (suc k) w l g i =
         by-test (eqb (w .pending) 0 && leb (length s) (w .at)) refl
-        (λ h e. ends-from k (passed w h) (omega (arith, passed-less s cap w h e)) (passed-on s cap w h e g) (kept w h e i))
+        (λ h e. ends-from k (walkAfter w h) (omega (arith, after-less s cap w h e)) (after-invariant s cap w h e g) (kept w h e i))
       where
         Next : Type 0
-        Next = (h : Head) → ok h ≡ next s cap (w .done) (w .pending) (w .at) → Ends (startsFrom s cap (passed w h))
+        Next = (h : Head) → ok h ≡ nextToken s cap (w .done) (w .pending) (w .at) → Ends (startsFrom s cap (walkAfter w h))
 
         by-next : eqb (w .pending) 0 && leb (length s) (w .at) ≡ false → Next → (a : Answer Fault Head)
-            → a ≡ next s cap (w .done) (w .pending) (w .at) → Ends (startsFrom s cap w)
+            → a ≡ nextToken s cap (w .done) (w .pending) (w .at) → Ends (startsFrom s cap w)
         by-next t more (ok h) e = subst Ends (walk-token s cap w t h e) (more h e)
         by-next t more (error f) e =
             subst Ends (walk-error s cap w t f e) (record {
@@ -100,7 +100,7 @@ module _ (s : List ℕ) (cap : ℕ) (I : Walk → Type 0) where
               going = g;
               holds = i;
               inside = λ z. let here : leb (length s) (w .at) ≡ false = rw (eq-eqb (w .pending) 0 z) at t in omega facts;
-              told = e;
+              reported = e;
               refused = next-refused s cap w f e;
             })
 
@@ -114,7 +114,7 @@ module _ (s : List ℕ) (cap : ℕ) (I : Walk → Type 0) where
               end = leb-true (length s) _ (and-r (eqb (w .pending) 0) _ t);
               same = refl;
             })
-        by-test false t more = by-next t more (next s cap (w .done) (w .pending) (w .at)) refl
+        by-test false t more = by-next t more (nextToken s cap (w .done) (w .pending) (w .at)) refl
 
     pub walk-ends : I (between 0 []) → Ends (startsFrom s cap (between 0 []))
-    walk-ends i = ends-from (suc (length s)) (between 0 []) (omega arith) (going-begun s cap) i
+    walk-ends i = ends-from (suc (length s)) (between 0 []) (omega arith) (invariant-begun s cap) i

@@ -1,6 +1,6 @@
 -- The errors of calls, for any state, output and table.
 --
--- In order: a new writer is not BAD_STATE (`fresh-good`); a refused call tells one of seven errors (`error-known`), so neither RESERVED nor
+-- In order: a new writer is not BAD_STATE (`fresh-not-bad`); a refused call tells one of seven errors (`error-known`), so neither RESERVED nor
 -- RANGE (`never-reserved`), since what arguments of the stated widths come to is a token that its kind allows (`given-allowed`).
 use mathlib.Core.Path.{_≡_, refl, subst}
 use mathlib.Core.Bool.{Bool, true, false, not, _&&_, true≢false, false≢true}
@@ -15,21 +15,21 @@ use Rattle.prelude.specs.Answer.{ok, error}
 use Rattle.prelude.specs.Search.{among}
 use Rattle.error.specs.Error.{RESERVED, RANGE, BAD_STATE, CLOSED, OWED, BAD_TEXT, BAD_TARGET, FULL, NO_ROOM}
 use Rattle.utf8.specs.Text.{isText}
-use Rattle.float.proofs.Laws.{length-little}
+use Rattle.little_endian.proofs.Laws.{length-little}
 use Rattle.kind.specs.Kind.{rule, size}
 use Rattle.token.specs.Token.{Token, token, Allowed}
-use Rattle.writer.specs.Step.{Call, scalar, integer, float32, float64, text, bytes, variant, reference, pointer, openArray, openMap, openTag, openVariant1, openVariantN, close, Move, puts, closes, moveOf, fresh, bad, isListed, limit, room, Verdict, early, judge, judgeDelta, Result, settled, step}
-use Rattle.writer.specs.Stages.{need}
+use Rattle.writer.specs.Step.{Call, scalar, integer, float32, float64, text, bytes, variant, reference, pointer, openArray, openMap, openTag, openVariant1, openVariantN, close, Move, puts, closes, moveOf, fresh, badState, isListed, limit, room, Verdict, early, refusalOf, refusalOfDelta, Result, settled, step}
+use Rattle.writer.specs.Internal.{bytesNeeded}
 use Rattle.writer.specs.Given.{Given}
 use Rattle.writer.specs.declared.Writer.{Writer}
 use Rattle.writer.specs.declared.Scalar.the-variants.{False, True, Null}
-use Rattle.writer.proofs.Judged.{good}
+use Rattle.writer.proofs.Accepted.{not-bad}
 use Rattle.writer.proofs.Refused.{pointerTo, settled-by}
 
 -- with an output and a table of any lengths
-pub fresh-good : (n m : ℕ) → bad fresh n m ≡ false
-fresh-good n m =
-    good fresh n m (record {
+pub fresh-not-bad : (n m : ℕ) → badState fresh n m ≡ false
+fresh-not-bad n m =
+    not-bad fresh n m (record {
       inside = omega arith;
       short = omega arith;
       listed = omega arith;
@@ -53,19 +53,19 @@ known false f v h k = k
 
 known-early : (alone : Bool) (s : Writer) (n m : ℕ) (v : Verdict) → Known v → Known (early alone s n m v)
 unfolding early among
-known-early alone s n m v k = known (bad s n m) _ _ refl (known (s .closed) _ _ refl (known (alone && ltb 0 (s .pending)) _ _ refl k))
+known-early alone s n m v k = known (badState s n m) _ _ refl (known (s .closed) _ _ refl (known (alone && ltb 0 (s .pending)) _ _ refl k))
 
-known-judge : (alone : Bool) (t : Token) (target : ℕ) (s : Writer) (out table : List ℕ) → Known (judge alone t target s out table)
-unfolding judge among
-known-judge alone t target s out table =
+known-refusal : (alone : Bool) (t : Token) (target : ℕ) (s : Writer) (out table : List ℕ) → Known (refusalOf alone t target s out table)
+unfolding refusalOf among
+known-refusal alone t target s out table =
     known-early alone s _ _ _
     (known (eqb (t .kind) 4 && not (isText (t .body))) _ _ refl
     (known (leb 14 (t .kind) && not (isListed s table target)) _ _ refl
     (known (eqb (s .pending) 0 && leb (length table) (s .count)) _ _ refl
-    (known (ltb (room s (length out)) (need t s)) NO_ROOM (ok tt) refl tt))))
+    (known (ltb (room s (length out)) (bytesNeeded t s)) NO_ROOM (ok tt) refl tt))))
 
-known-delta : (e : ℕ) (s : Writer) (out table : List ℕ) → Known (judgeDelta e s out table)
-unfolding judgeDelta among
+known-delta : (e : ℕ) (s : Writer) (out table : List ℕ) → Known (refusalOfDelta e s out table)
+unfolding refusalOfDelta among
 known-delta e s out table =
     known-early true s _ _ _
     (known (not (isListed s table e)) _ _ refl
@@ -80,8 +80,8 @@ pub error-known : (c : Call) (s : Writer) (out table : List ℕ) (f : ℕ) → s
 error-known c s out table f e =
     subst Known e
     (settled-by s out table (λ r. Known (r .answer))
-    (λ alone t target r a. known-settled s out table (judge alone t target s out table) r a (known-judge alone t target s out table))
-    (λ x r a. known-settled s out table (judgeDelta x s out table) r a (known-delta x s out table))
+    (λ alone t target r a. known-settled s out table (refusalOf alone t target s out table) r a (known-refusal alone t target s out table))
+    (λ x r a. known-settled s out table (refusalOfDelta x s out table) r a (known-delta x s out table))
     (moveOf c (s .written)))
 
 pub never-reserved : (c : Call) (s : Writer) (out table : List ℕ) → (step c s out table .answer ≡ error RESERVED → ⊥)

@@ -14,7 +14,7 @@ use Rattle.error.specs.Error.{Fault, fault, TRUNC, FULL}
 use Rattle.leb128.specs.Leb.{get}
 use Rattle.token.specs.Token.{Token}
 use Rattle.token.specs.Scan.{getIf, number, body, scanKind, scan}
-use Rattle.scan.specs.Told.{seen, scanAt}
+use Rattle.scan.specs.Answers.{headOf, scanAt}
 
 -- where r is an error, Q holds of it
 abbrev Fails : {E A : Type 0} → (E → Type 0) → Res E A → Type 0
@@ -76,9 +76,9 @@ module _ (at : ℕ) where
       (λ a m′. fails-guard (Placed at) _ _ _ (omega arith) tt)))))
 
   pub scanAt-placed : (inner : Bool) (s : List ℕ) (f : Fault) → error f ≡ scanAt inner s at → Placed at f
-  unfolding scanAt seen
+  unfolding scanAt headOf
   scanAt-placed inner s f e = by-cases (scan inner at (drop at s)) (scan-placed inner (drop at s)) e
     where
-      by-cases : (r : Res Fault Token) → Fails (Placed at) r → error f ≡ seen (length s) r → Placed at f
+      by-cases : (r : Res Fault Token) → Fails (Placed at) r → error f ≡ headOf (length s) r → Placed at f
       by-cases (got t rest) h q = let z : _≡_ {A = ℕ} 0 1 = cc in absurd (omega arith)
       by-cases (bad g) h q = let same : f ≡ g = cc in rw same h

@@ -1,7 +1,7 @@
 -- A file as check reads it: its region, and the delta byte.
 --
 -- In order: a file is refused at once (`at-once`), or is a region and a delta byte (`shape`), and then check walks the region (`checkIn-whole`);
--- the entry that the delta byte names, or that it names none (`entered-named`, `entered-none`, `entered-told`); what an answer tells: of check's
+-- the entry that the delta byte names, or that it names none (`entered-named`, `entered-none`, `entered-answer`); what an answer tells: of check's
 -- table (`answer-ok`, `answer-error`), of the walk of a file that is accepted (`found-ok`), and where a file failed (`failed`).
 use mathlib.Core.Path.{_≡_, refl, sym, ap, _∙_, subst}
 use Prim.Native.Nat.{ℕ, suc, _+_, _-_, _≤_, _<_}
@@ -19,7 +19,7 @@ use Rattle.prelude.proofs.Tests.{pick-elim, split, and-l, and-r}
 use Rattle.prelude.proofs.Parts.{bytes-front}
 use Rattle.prelude.proofs.Readers.{bind-ok-by, bind-error-by}
 use Rattle.error.specs.Error.{Fault, fault, LIMIT, EMPTY, TOO_LONG, BAD_ENTRY}
-use Rattle.pass.specs.Walk.{between, startsFrom}
+use Rattle.checker_value.specs.Walk.{between, startsFrom}
 use Rattle.checker.specs.Check.{entryAt, checkIn, listed}
 
 -- ---- the shape of a file
@@ -121,8 +121,8 @@ module _ (p d : ℕ) (done : List ℕ) where
             rw (lt-ltb d p (omega arith), is) at t,
       ))
 
-  entered-told : (a : Answer Fault ((List ℕ) × ℕ)) → a ≡ entered p d done → Enters p d done a
-  entered-told a e = subst (Enters p d done) (sym e) enters
+  entered-answer : (a : Answer Fault ((List ℕ) × ℕ)) → a ≡ entered p d done → Enters p d done a
+  entered-answer a e = subst (Enters p d done) (sym e) enters
 
 -- ---- what an answer tells
 
@@ -149,7 +149,7 @@ module _ {X : Type 0} (file : List ℕ) (cap : ℕ) where
       by-shape (refused f a) = let q = e ∙ sym (at-once file f cap a) in let z : _≡_ {A = ℕ} 0 1 = cc in absurd (omega arith)
       by-shape (read w) =
           bind-ok-by (startsFrom (w .region) cap (between 0 [])) _ (e ∙ checkIn-whole file w cap) (λ found walked q.
-          let (same, named, start) = entered-told (length (w .region)) (w .delta) found _ q in
+          let (same, named, start) = entered-answer (length (w .region)) (w .delta) found _ q in
           k w (rw same walked) named (rw same start))
 
 -- where a file failed: at once, in the walk, or behind it
@@ -169,5 +169,5 @@ failed file cap f e = by-shape (shape file)
         rw same (early a)
     by-shape (read w) =
         bind-error-by (startsFrom (w .region) cap (between 0 [])) _ (e ∙ checkIn-whole file w cap) (walking w) (λ done walked q.
-        let (is, none) = entered-told (length (w .region)) (w .delta) done (error f) q in
+        let (is, none) = entered-answer (length (w .region)) (w .delta) done (error f) q in
         last w done walked is none)

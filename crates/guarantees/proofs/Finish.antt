@@ -15,11 +15,11 @@ use Rattle.prelude.proofs.Tests.{unless}
 use Rattle.kind.specs.Kind.{rule}
 use Rattle.utf8.specs.Text.{isText}
 use Rattle.token.specs.Token.{Token, token, putIf, emit}
-use Rattle.writer.specs.Step.{Call, scalar, scalarOf, puts, moveOf, opens, isListed, room, pendingOf, due, Result, result, startOf, write, put, step}
+use Rattle.writer.specs.Step.{Call, scalar, scalarOf, puts, moveOf, opens, isListed, room, pendingOf, due, Result, result, startOf, write, putToken, step}
 use Rattle.writer.specs.declared.Writer.{Writer}
 use Rattle.writer.specs.declared.Scalar.{Scalar}
 use Rattle.writer.specs.declared.Scalar.the-variants.{False, True, Null}
-use Rattle.writer.proofs.Judged.{new-start, Accepted, judge-ok}
+use Rattle.writer.proofs.Accepted.{new-start, Accepted, refusalOf-ok}
 use Rattle.values.specs.Values.{Each}
 use Rattle.guarantees.specs.History.{runs}
 use Rattle.guarantees.specs.Rewrites.{AllOk}
@@ -37,7 +37,7 @@ pub record Item (k : ℕ) (t : Token) (target : ℕ) (s : Writer) (out table : L
   pub fits : length (emit t) + k ≤ room s (length out)
 
 -- an item of n bytes was taken, and k are left: the value stays open, with its start, or is finished, and its start is listed
-pub record Took (k n : ℕ) (s : Writer) (table : List ℕ) (r : Result) : Type 0 where
+pub record TookItem (k n : ℕ) (s : Writer) (table : List ℕ) (r : Result) : Type 0 where
   pub answer : r .answer ≡ ok tt
   pub written : r .writer .written ≡ s .written + n
   pub start : r .writer .start ≡ s .start
@@ -66,14 +66,14 @@ module _ (k : ℕ) (s : Writer) (out table : List ℕ) (o : Open (suc k) s out t
 
 -- an open value takes any immediate that has room
 pub item-taken : (k : ℕ) (c : Call) (t : Token) (target : ℕ) (s : Writer) (out table : List ℕ) → Open (suc k) s out table
-    → moveOf c (s .written) ≡ puts t target → Item k t target s out table → Took k (length (emit t)) s table (step c s out table)
-unfolding put write
+    → moveOf c (s .written) ≡ puts t target → Item k t target s out table → TookItem k (length (emit t)) s table (step c s out table)
+unfolding putToken write
 item-taken k c t target s out table o e i =
     let r = write t s out table in
     let a = item-accepted k s out table o t target i in
     let left = due-is k s out table o (pendingOf t) in
     let start = start-is k s out table o in
-    rw (e, judge-ok (opens t) t target s out table a) (record {
+    rw (e, refusalOf-ok (opens t) t target s out table a) (record {
       answer = refl;
       written = refl;
       start = start;
@@ -109,9 +109,9 @@ scalar-one x = record {
     one True = refl
     one Null = refl
 
-one-taken : (k : ℕ) (c : Call) (s : Writer) (out table : List ℕ) → Open (suc k) s out table → OneByte c → Took k 1 s table (step c s out table)
+one-taken : (k : ℕ) (c : Call) (s : Writer) (out table : List ℕ) → Open (suc k) s out table → OneByte c → TookItem k 1 s table (step c s out table)
 one-taken k c s out table o b =
-    subst (λ n. Took k n s table (step c s out table)) (b .byte)
+    subst (λ n. TookItem k n s table (step c s out table)) (b .byte)
     (item-taken k c (b .item) 0 s out table o (b .always (s .written)) (record {
       immediate = b .immediate;
       text = b .text;

@@ -23,14 +23,14 @@ use Rattle.prelude.proofs.Readers.{bind-error}
 use Rattle.error.specs.Error.{Fault, fault, FULL}
 use Rattle.values.specs.Values.{region, starts}
 use Rattle.values.proofs.Laws.{length-starts}
-use Rattle.pass.specs.Walk.{Walk, between, next, turned, turn, startsFrom}
+use Rattle.checker_value.specs.Walk.{Walk, between, nextToken, walkTurned, walkTurn, startsFrom}
 use Rattle.checker.specs.Check.{checkIn, listed, checkOf}
-use Rattle.pass.proofs.Walks.{Going, walk-error, come}
+use Rattle.checker_value.proofs.Walks.{WalkInvariant, walk-error, come}
 use Rattle.guarantees.specs.Accepts.{Overfull}
 use Rattle.guarantees.proofs.Files.{Whole, whole, length-whole, bytes-whole, checkIn-whole, empty, long, at-once, Shape, refused, read, shape}
 use Rattle.guarantees.proofs.Files.{answer-error, found-ok, Failed, early, walking, last, failed}
 use Rattle.guarantees.proofs.Accepts.{walks-prefix}
-use Rattle.guarantees.proofs.Walked.{Walked, walked-between}
+use Rattle.guarantees.proofs.WalkValues.{WalkedValues, walked-between}
 use Rattle.guarantees.proofs.Ends.{Ends, walk-ends}
 use Rattle.guarantees.proofs.Accepted.{walked-ends}
 
@@ -51,7 +51,7 @@ overfull : (file : List ℕ) (cap p : ℕ) → Bytes file → (w : Whole file) �
     → Overfull file cap p
 overfull file cap p b w e =
     let s = w .region in
-    let r = subst (Ends s cap (Walked s)) (sym e) (walked-ends s cap (bytes-whole file w b)) in
+    let r = subst (Ends s cap (WalkedValues s)) (sym e) (walked-ends s cap (bytes-whole file w b)) in
     let (between, none) = r .refused .full refl in
     let v = walked-between s (r .walk) between (r .holds) in
     let place : length (region (v .values)) ≡ p = sym (r .refused .place ∙ v .at) in
@@ -70,14 +70,14 @@ overfull file cap p b w e =
 -- the walk passes the values, and has no word for the next
 overfull-full : (file : List ℕ) (cap p : ℕ) → Overfull file cap p → (w : Whole file)
     → error (fault FULL p) ≡ startsFrom (w .region) cap (between 0 [])
-unfolding next
+unfolding nextToken
 overfull-full file cap p o w =
     let s = w .region in
     let vs = o .values in
     let inside : p < length s = omega (arith, o .more, length-whole file w) in
     let front : take p s ≡ region vs = sym (take-append-le p s (w .delta ∷ []) (omega arith)) ∙ ap (take p) (sym (w .same)) ∙ o .same in
     let same : s ≡ region vs ++ drop p s = sym (take-append-drop p s) ∙ ap (λ x. x ++ drop p s) front in
-    let walked = walks-prefix s cap [] 0 vs (drop p s) same (o .formed .formed) (o .formed .aimed) (omega (arith, o .count)) in
+    let walked = walks-prefix s cap [] 0 vs (drop p s) same (o .formed .formed) (o .formed .targets) (omega (arith, o .count)) in
     let full = le-leb cap (length (starts 0 vs)) (omega (arith, o .count, length-starts 0 vs)) in
     let at : p ≡ 0 + length (region vs) = omega (arith, o .place) in
     walk-error s cap (between p (starts 0 vs)) (lt-leb (length s) p inside) (fault FULL p) (rw full)
@@ -95,7 +95,7 @@ full-exactly file cap p b = (
 -- ---- never with words enough
 
 -- the values before the walk have a byte each
-done-le : (s : List ℕ) (cap : ℕ) (w : Walk) → Going s cap w → length (w .done) ≤ w .at
+done-le : (s : List ℕ) (cap : ℕ) (w : Walk) → WalkInvariant s cap w → length (w .done) ≤ w .at
 done-le s cap w g =
     let last : ℕ = length (w .done) - 1 in
     split 0 (length (w .done))
@@ -132,8 +132,8 @@ module _ {S R : Type 0} (P : R → Type 0) where
 
 module _ (s : List ℕ) (cap more : ℕ) (le : cap ≤ more) where
   next-fewer : (done : List ℕ) (pending at : ℕ)
-      → (next s cap done pending at ≡ error (fault FULL at)) ⊎ (next s cap done pending at ≡ next s more done pending at)
-  unfolding next
+      → (nextToken s cap done pending at ≡ error (fault FULL at)) ⊎ (nextToken s cap done pending at ≡ nextToken s more done pending at)
+  unfolding nextToken
   next-fewer done pending at =
       split 0 pending
       (λ busy. inr (rw (ne-eqb pending 0 (λ z. omega arith))))
@@ -141,12 +141,12 @@ module _ (s : List ℕ) (cap more : ℕ) (le : cap ≤ more) where
       (λ free. inr (rw (lt-leb cap (length done) free, lt-leb more (length done) (omega arith))))
       (λ full. inl (rw (eq-eqb pending 0 (omega arith), le-leb cap (length done) full))))
 
-  turn-fewer : (w : Walk) → ((a : Answer Fault (List ℕ)) × (turn s cap w ≡ stop a) × IsFull a) ⊎ (turn s cap w ≡ turn s more w)
-  unfolding turn
+  turn-fewer : (w : Walk) → ((a : Answer Fault (List ℕ)) × (walkTurn s cap w ≡ stop a) × IsFull a) ⊎ (walkTurn s cap w ≡ walkTurn s more w)
+  unfolding walkTurn
   turn-fewer w = by-test (eqb (w .pending) 0 && leb (length s) (w .at))
     where
       turned-at : ℕ → Bool → Turn Walk (Answer Fault (List ℕ))
-      turned-at c t = pick t (stop (ok (w .done))) (turned w (next s c (w .done) (w .pending) (w .at)))
+      turned-at c t = pick t (stop (ok (w .done))) (walkTurned w (nextToken s c (w .done) (w .pending) (w .at)))
 
       by-test : (t : Bool) → ((a : Answer Fault (List ℕ)) × (turned-at cap t ≡ stop a) × IsFull a) ⊎ (turned-at cap t ≡ turned-at more t)
       by-test true = inr refl
@@ -158,7 +158,7 @@ module _ (s : List ℕ) (cap more : ℕ) (le : cap ≤ more) where
 
   starts-fewer : IsFull (startsFrom s cap (between 0 [])) ⊎ (startsFrom s cap (between 0 []) ≡ startsFrom s more (between 0 []))
   unfolding startsFrom from
-  starts-fewer = run-or IsFull (turn s cap) (turn s more) (error (fault 0 0)) turn-fewer _ (between 0 [])
+  starts-fewer = run-or IsFull (walkTurn s cap) (walkTurn s more) (error (fault 0 0)) turn-fewer _ (between 0 [])
 
 checkIn-fewer : (file : List ℕ) (cap more : ℕ) → cap ≤ more
     → ((p : ℕ) × (checkIn file cap ≡ error (fault FULL p))) ⊎ (checkIn file cap ≡ checkIn file more)

@@ -20,85 +20,85 @@ use Rattle.prelude.proofs.Tests.{pick-elim, pick-cong, split, and-implied}
 use Rattle.kind.specs.Kind.{rule, pending}
 use Rattle.token.specs.Token.{token, emit}
 use Rattle.values.specs.Values.{bytes, region, starts}
-use Rattle.writer.specs.Step.{Call, scalar, integer, float32, float64, text, bytes as byteString, variant, reference, pointer, openArray, openMap, openTag, openVariant1, openVariantN, close, Move, puts, closes, moveOf, fresh, opens, bad, isListed, limit, pendingOf, due, early, judge, judgeDelta, Verdict, Result, startOf, write, shut, writeShut, settled, put, closeAt, move, step}
+use Rattle.writer.specs.Step.{Call, scalar, integer, float32, float64, text, bytes as byteString, variant, reference, pointer, openArray, openMap, openTag, openVariant1, openVariantN, close, Move, puts, closes, moveOf, fresh, opens, badState, isListed, limit, pendingOf, due, early, refusalOf, refusalOfDelta, Verdict, Result, startOf, write, writeDelta, writePointerDelta, settled, putToken, closeAt, move, step}
 use Rattle.writer.specs.declared.Writer.{Writer}
 use Rattle.writer.specs.declared.Scalar.the-variants.{False, True, Null}
-use Rattle.writer.proofs.Judged.{sound, good, Accepted, judge-inv, free-word, behind, none-pending}
+use Rattle.writer.proofs.Accepted.{sound, not-bad, Accepted, refusalOf-inv, free-word, room-after, none-pending}
 use Rattle.writer.proofs.Closes.{delta-inv}
 use Rattle.writer.proofs.Refused.{refused-same}
 use Rattle.guarantees.proofs.Calls.{accepted-only}
 use Rattle.guarantees.proofs.Results.{write-open}
-use Rattle.guarantees.proofs.Errors.{fresh-good}
-use Rattle.guarantees.specs.Model.{Part, part, Line, adds, ends, lineOf, formOf, Plain, plain, valuesAt, Stage, between, within, closed, Model, model, blank, bytesOf, startsOf, isClosed, owes, owed, grown, settle, judgeOf, takenOf, backTo}
-use Rattle.guarantees.specs.History.{runs, notes, kept, Agree}
+use Rattle.guarantees.proofs.Errors.{fresh-not-bad}
+use Rattle.guarantees.specs.Model.{Part, part, Request, adds, ends, requestOf, formOf, ModelValue, modelValue, valuesAt, Stage, between, within, closed, Model, model, emptyModel, modelBytes, modelStarts, isClosed, pendingIn, pendingAt, grown, settle, modelAnswer, modelAfter, backTo}
+use Rattle.guarantees.specs.History.{runs, modelRun, unlessRefused, Agree}
 use Rattle.guarantees.specs.ReadsBack.{endOf}
 use Rattle.guarantees.proofs.Models.{pending-form, length-startsOf, starts-snoc, start-lt, bytes-between, bytes-closed, end-le, bytes-grown, bytes-settle}
 
 -- ---- a call of the writer is a line of the model
 
-abbrev pub moveAs : ℕ → Line → Move
+abbrev pub moveAs : ℕ → Request → Move
 moveAs w (adds p) = puts (formOf w p) (pick (leb 14 (p .kind)) (p .number) 0)
 moveAs w (ends e) = closes e
 
-pub move-line : (c : Call) (w : ℕ) → moveOf c w ≡ moveAs w (lineOf c)
+pub move-request : (c : Call) (w : ℕ) → moveOf c w ≡ moveAs w (requestOf c)
 unfolding formOf
-move-line (scalar False) w = refl
-move-line (scalar True) w = refl
-move-line (scalar Null) w = refl
-move-line (integer (pos n)) w = refl
-move-line (integer (negsuc n)) w = refl
-move-line (float32 b) w = refl
-move-line (float64 b) w = refl
-move-line (text s) w = refl
-move-line (byteString s) w = refl
-move-line (openArray n) w = refl
-move-line (openMap n) w = refl
-move-line (openTag n) w = refl
-move-line (variant i) w = refl
-move-line (openVariant1 i) w = refl
-move-line (openVariantN i n) w = refl
-move-line (reference x) w = refl
-move-line (pointer x) w = refl
-move-line (close e) w = refl
+move-request (scalar False) w = refl
+move-request (scalar True) w = refl
+move-request (scalar Null) w = refl
+move-request (integer (pos n)) w = refl
+move-request (integer (negsuc n)) w = refl
+move-request (float32 b) w = refl
+move-request (float64 b) w = refl
+move-request (text s) w = refl
+move-request (byteString s) w = refl
+move-request (openArray n) w = refl
+move-request (openMap n) w = refl
+move-request (openTag n) w = refl
+move-request (variant i) w = refl
+move-request (openVariant1 i) w = refl
+move-request (openVariantN i n) w = refl
+move-request (reference x) w = refl
+move-request (pointer x) w = refl
+move-request (close e) w = refl
 
 -- ---- the writer follows the model
 
 -- an open value has items pending, and the state has its start
-abbrev Begun : Writer → List Plain → Stage → Type 0
+abbrev Begun : Writer → List ModelValue → Stage → Type 0
 Begun s vs between = Unit {0}
-Begun s vs (within v) = (0 < owes v) × (s .start ≡ endOf vs)
+Begun s vs (within v) = (0 < pendingIn v) × (s .start ≡ endOf vs)
 Begun s vs (closed d) = Unit {0}
 
 pub record Follows (s : Writer) (out table : List ℕ) (b : Model) : Type 0 where
   pub agree : Agree s out table b
-  pub good : bad s (length out) (length table) ≡ false
+  pub good : badState s (length out) (length table) ≡ false
   pub begun : Begun s (b .finished) (b .stage)
 
 module _ (s : Writer) (out table : List ℕ) (b : Model) (f : Follows s out table b) where
-  listed-same : (x : ℕ) → isListed s table x ≡ among x (startsOf b)
-  unfolding startsOf
+  listed-same : (x : ℕ) → isListed s table x ≡ among x (modelStarts b)
+  unfolding modelStarts
   listed-same x =
-      rw (f .agree .starts) (and-implied (ltb x (s .written)) (among x (startsOf b)) (λ e.
+      rw (f .agree .starts) (and-implied (ltb x (s .written)) (among x (modelStarts b)) (λ e.
       lt-ltb x (s .written) (omega (arith, start-lt (b .finished) x e, end-le (b .finished) (b .stage), f .agree .written))))
 
-  aim-same : (t : Bool) (x : ℕ) → t && not (isListed s table (pick t x 0)) ≡ t && not (among x (startsOf b))
-  aim-same true x = ap not (listed-same x)
-  aim-same false x = refl
+  target-same : (t : Bool) (x : ℕ) → t && not (isListed s table (pick t x 0)) ≡ t && not (among x (modelStarts b))
+  target-same true x = ap not (listed-same x)
+  target-same false x = refl
 
   count-same : s .count ≡ length (b .finished)
   count-same = f .agree .count ∙ length-startsOf b
 
 -- the items pending behind the next part, where the model is not closed
-due-same : (s : Writer) (vs : List Plain) (g : Stage) (q : ℕ) (p : Part) → Begun s vs g → isClosed g ≡ false
-    → due (owed g) (pendingOf (formOf q p)) ≡ owes (grown g p)
+due-same : (s : Writer) (vs : List ModelValue) (g : Stage) (q : ℕ) (p : Part) → Begun s vs g → isClosed g ≡ false
+    → due (pendingAt g) (pendingOf (formOf q p)) ≡ pendingIn (grown g p)
 due-same s vs between q p h c = omega (arith, pending-form q p)
-due-same s vs (within v) q p h c = rw (ne-eqb (owes v) 0 (λ z. omega (arith, h .0)), length-append (v .items) (p ∷ [])) (omega arith)
+due-same s vs (within v) q p h c = rw (ne-eqb (pendingIn v) 0 (λ z. omega (arith, h .0)), length-append (v .items) (p ∷ [])) (omega arith)
 due-same s vs (closed d) q p h c = absurd (true≢false c)
 
 -- where the value starts that the next part belongs to
-start-same : (s : Writer) (out table : List ℕ) (vs : List Plain) (g : Stage) → Follows s out table (model vs g) → isClosed g ≡ false → startOf s ≡ endOf vs
+start-same : (s : Writer) (out table : List ℕ) (vs : List ModelValue) (g : Stage) → Follows s out table (model vs g) → isClosed g ≡ false → startOf s ≡ endOf vs
 start-same s out table vs between f c = rw (f .agree .pending) (f .agree .written ∙ ap length (bytes-between vs))
-start-same s out table vs (within v) f c = rw (f .agree .pending, ne-eqb (owes v) 0 (λ z. omega (arith, f .begun .0))) (f .begun .1)
+start-same s out table vs (within v) f c = rw (f .agree .pending, ne-eqb (pendingIn v) 0 (λ z. omega (arith, f .begun .0))) (f .begun .1)
 start-same s out table vs (closed d) f c = absurd (true≢false c)
 
 -- ---- the answers
@@ -109,28 +109,28 @@ settled-answer (error g) s out table r e = refl
 
 module _ (s : Writer) (out table : List ℕ) (b : Model) (f : Follows s out table b) where
   part-same : (p : Part) → let w = s .written in let t = formOf w p in
-      judge (opens t) t (pick (leb 14 (p .kind)) (p .number) 0) s out table ≡ judgeOf (adds p) b (length out) (length table)
-  unfolding judge early formOf
+      refusalOf (opens t) t (pick (leb 14 (p .kind)) (p .number) 0) s out table ≡ modelAnswer (adds p) b (length out) (length table)
+  unfolding refusalOf early formOf
   part-same p =
-      rw (f .good, f .agree .closed, f .agree .pending, aim-same s out table b f (leb 14 (p .kind)) (p .number), count-same s out table b f, f .agree .written)
-      (pick-cong (isClosed (b .stage)) (λ _. refl) (λ c. rw (due-same s (b .finished) (b .stage) (length (bytesOf b)) p (f .begun) c)))
+      rw (f .good, f .agree .closed, f .agree .pending, target-same s out table b f (leb 14 (p .kind)) (p .number), count-same s out table b f, f .agree .written)
+      (pick-cong (isClosed (b .stage)) (λ _. refl) (λ c. rw (due-same s (b .finished) (b .stage) (length (modelBytes b)) p (f .begun) c)))
 
   -- a close by the delta byte
-  near-same : (e : ℕ) → s .written - e - 1 ≤ 255 → judgeDelta e s out table ≡ judgeOf (ends e) b (length out) (length table)
-  unfolding judgeDelta early
+  near-same : (e : ℕ) → s .written - e - 1 ≤ 255 → refusalOfDelta e s out table ≡ modelAnswer (ends e) b (length out) (length table)
+  unfolding refusalOfDelta early
   near-same e h =
       let back : backTo e b ≤ 255 = omega (arith, f .agree .written) in
       rw (f .good, f .agree .closed, f .agree .pending, listed-same s out table b f e, f .agree .written, le-ltb 255 (backTo e b) back)
 
   -- a close by a pointer
   far-same : (e : ℕ) → 255 < s .written - e - 1
-      → judge true (token 15 (s .written - e - 1) 0 []) e s out table ≡ judgeOf (ends e) b (length out) (length table)
-  unfolding judge early formOf rule
+      → refusalOf true (token 15 (s .written - e - 1) 0 []) e s out table ≡ modelAnswer (ends e) b (length out) (length table)
+  unfolding refusalOf early formOf rule
   far-same e h =
       let back : 255 < backTo e b = omega (arith, f .agree .written) in
       rw (f .good, f .agree .closed, f .agree .pending, listed-same s out table b f e, count-same s out table b f, f .agree .written, lt-ltb 255 (backTo e b) back)
-      (pick-cong (isClosed (b .stage)) (λ _. refl) (λ _. pick-cong (ltb 0 (owed (b .stage))) (λ _. refl) (λ n.
-      let none : owed (b .stage) ≡ 0 = omega (arith, ltb-false 0 (owed (b .stage)) n) in
+      (pick-cong (isClosed (b .stage)) (λ _. refl) (λ _. pick-cong (ltb 0 (pendingAt (b .stage))) (λ _. refl) (λ n.
+      let none : pendingAt (b .stage) ≡ 0 = omega (arith, ltb-false 0 (pendingAt (b .stage)) n) in
       let t = token 15 (backTo e b) 0 [] in
       let all : length (emit t) + pendingOf t ≡ length (emit t) = omega arith in
       rw (none, all))))
@@ -142,47 +142,47 @@ take-sets d p w h =
     rw (sets-eq p d w h) (take-at (take w d ++ p) _ (w + length p) (omega (arith, length-append (take w d) p, length-take-le w d (omega arith))))
 
 -- the start is listed where the value is finished
-module _ (vs : List Plain) (g : Stage) (v : Plain) (table : List ℕ) (n : ℕ) (word : n < length table) (same : take n table ≡ startsOf (model vs g)) where
-  starts-listed : (x : Bool) → take (pick x (n + 1) n) (pick x (set table n (endOf vs)) table) ≡ startsOf (pick x (model (vs ++ (v ∷ [])) between) (model vs (within v)))
-  unfolding startsOf
+module _ (vs : List ModelValue) (g : Stage) (v : ModelValue) (table : List ℕ) (n : ℕ) (word : n < length table) (same : take n table ≡ modelStarts (model vs g)) where
+  starts-listed : (x : Bool) → take (pick x (n + 1) n) (pick x (set table n (endOf vs)) table) ≡ modelStarts (pick x (model (vs ++ (v ∷ [])) between) (model vs (within v)))
+  unfolding modelStarts
   starts-listed true =
       let e : n + 1 ≡ suc n = omega arith in
       rw (e, take-suc-set table n (endOf vs) word, same) (sym (starts-snoc vs v))
   starts-listed false = same
 
-  count-listed : (x : Bool) → pick x (n + 1) n ≡ length (startsOf (pick x (model (vs ++ (v ∷ [])) between) (model vs (within v))))
-  unfolding startsOf
+  count-listed : (x : Bool) → pick x (n + 1) n ≡ length (modelStarts (pick x (model (vs ++ (v ∷ [])) between) (model vs (within v))))
+  unfolding modelStarts
   count-listed true =
-      omega (arith, ap length (starts-snoc vs v), length-append (startsOf (model vs between)) (endOf vs ∷ []), ap length same, length-take-le n table (omega arith))
+      omega (arith, ap length (starts-snoc vs v), length-append (modelStarts (model vs between)) (endOf vs ∷ []), ap length same, length-take-le n table (omega arith))
   count-listed false = omega (arith, ap length same, length-take-le n table (omega arith))
 
-owed-settled : (k : ℕ) (vs : List Plain) (v : Plain) → k ≡ owes v → k ≡ owed (settle vs v .stage)
-owed-settled k vs v e = pick-elim (λ (b : Model). k ≡ owed (b .stage)) (eqb (owes v) 0) (λ z. e ∙ eqb-true (owes v) 0 z) (λ _. e)
+pending-settled : (k : ℕ) (vs : List ModelValue) (v : ModelValue) → k ≡ pendingIn v → k ≡ pendingAt (settle vs v .stage)
+pending-settled k vs v e = pick-elim (λ (b : Model). k ≡ pendingAt (b .stage)) (eqb (pendingIn v) 0) (λ z. e ∙ eqb-true (pendingIn v) 0 z) (λ _. e)
 
-unclosed-settled : (vs : List Plain) (v : Plain) → false ≡ isClosed (settle vs v .stage)
-unclosed-settled vs v = pick-elim (λ (b : Model). false ≡ isClosed (b .stage)) (eqb (owes v) 0) (λ _. refl) (λ _. refl)
+unclosed-settled : (vs : List ModelValue) (v : ModelValue) → false ≡ isClosed (settle vs v .stage)
+unclosed-settled vs v = pick-elim (λ (b : Model). false ≡ isClosed (b .stage)) (eqb (pendingIn v) 0) (λ _. refl) (λ _. refl)
 
-begun-settled : (s : Writer) (vs : List Plain) (v : Plain) → s .start ≡ endOf vs → Begun s (settle vs v .finished) (settle vs v .stage)
+begun-settled : (s : Writer) (vs : List ModelValue) (v : ModelValue) → s .start ≡ endOf vs → Begun s (settle vs v .finished) (settle vs v .stage)
 begun-settled s vs v e =
-    pick-elim (λ (b : Model). Begun s (b .finished) (b .stage)) (eqb (owes v) 0) (λ _. tt) (λ z. (omega (arith, eqb-false (owes v) 0 z), e))
+    pick-elim (λ (b : Model). Begun s (b .finished) (b .stage)) (eqb (pendingIn v) 0) (λ _. tt) (λ z. (omega (arith, eqb-false (pendingIn v) 0 z), e))
 
-module _ (s : Writer) (out table : List ℕ) (vs : List Plain) (g : Stage) (f : Follows s out table (model vs g)) (c : isClosed g ≡ false) (p : Part)
+module _ (s : Writer) (out table : List ℕ) (vs : List ModelValue) (g : Stage) (f : Follows s out table (model vs g)) (c : isClosed g ≡ false) (p : Part)
     (alone : Bool) (target : ℕ) (a : Accepted alone (formOf (s .written) p) target s out table) where
   write-agree : let r = write (formOf (s .written) p) s out table in Agree (r .writer) (r .out) (r .table) (settle vs (grown g p))
   unfolding write
   write-agree =
       let t = formOf (s .written) p in
       let v = grown g p in
-      let left : due (s .pending) (pendingOf t) ≡ owes v = rw (f .agree .pending) (due-same s vs g (s .written) p (f .begun) c) in
+      let left : due (s .pending) (pendingOf t) ≡ pendingIn v = rw (f .agree .pending) (due-same s vs g (s .written) p (f .begun) c) in
       let start = start-same s out table vs g f c in
       let word = free-word alone t target s out table a in
-      let more : bytesOf (settle vs v) ≡ bytesOf (model vs g) ++ emit t = bytes-settle vs v ∙ bytes-grown vs g p c ∙ rw (f .agree .written) in
+      let more : modelBytes (settle vs v) ≡ modelBytes (model vs g) ++ emit t = bytes-settle vs v ∙ bytes-grown vs g p c ∙ rw (f .agree .written) in
       rw (left, start) (record {
-        bytes = take-sets out (emit t) (s .written) (omega (arith, behind alone t target s out table a)) ∙ rw (f .agree .bytes, more);
-        written = omega (arith, ap length more, length-append (bytesOf (model vs g)) (emit t), f .agree .written);
-        starts = starts-listed vs g v table (s .count) word (f .agree .starts) (eqb (owes v) 0);
-        count = count-listed vs g v table (s .count) word (f .agree .starts) (eqb (owes v) 0);
-        pending = owed-settled (owes v) vs v refl;
+        bytes = take-sets out (emit t) (s .written) (omega (arith, room-after alone t target s out table a)) ∙ rw (f .agree .bytes, more);
+        written = omega (arith, ap length more, length-append (modelBytes (model vs g)) (emit t), f .agree .written);
+        starts = starts-listed vs g v table (s .count) word (f .agree .starts) (eqb (pendingIn v) 0);
+        count = count-listed vs g v table (s .count) word (f .agree .starts) (eqb (pendingIn v) 0);
+        pending = pending-settled (pendingIn v) vs v refl;
         closed = unclosed-settled vs v;
       })
 
@@ -200,16 +200,16 @@ module _ (s : Writer) (out table : List ℕ) (vs : List Plain) (g : Stage) (f : 
 -- ---- what an accepted close leaves
 
 -- nothing is pending and no close has been: no value is open
-stage-between : (s : Writer) (out table : List ℕ) (vs : List Plain) (g : Stage) → Follows s out table (model vs g) → s .closed ≡ false → s .pending ≡ 0
+stage-between : (s : Writer) (out table : List ℕ) (vs : List ModelValue) (g : Stage) → Follows s out table (model vs g) → s .closed ≡ false → s .pending ≡ 0
     → g ≡ between
 stage-between s out table vs between f c e = refl
 stage-between s out table vs (within v) f c e = absurd (omega (arith, f .begun .0, f .agree .pending))
 stage-between s out table vs (closed d) f c e = absurd (true≢false (sym (f .agree .closed) ∙ c))
 
-shut-follows : (d : ℕ) (s : Writer) (out table : List ℕ) (vs : List Plain) → Follows s out table (model vs between) → s .written < limit (length out)
-    → let r = shut d s out table in Follows (r .writer) (r .out) (r .table) (model vs (closed d))
-unfolding shut startsOf
-shut-follows d s out table vs f byte =
+delta-follows : (d : ℕ) (s : Writer) (out table : List ℕ) (vs : List ModelValue) → Follows s out table (model vs between) → s .written < limit (length out)
+    → let r = writeDelta d s out table in Follows (r .writer) (r .out) (r .table) (model vs (closed d))
+unfolding writeDelta modelStarts
+delta-follows d s out table vs f byte =
     let h = sound s (length out) (length table) (f .good) in
     let none = f .agree .pending in
     let same = length-sets out (s .written) (d ∷ []) in
@@ -223,7 +223,7 @@ shut-follows d s out table vs f byte =
         pending = none;
         closed = refl;
       };
-      good = good (shut d s out table .writer) (length (sets out (s .written) (d ∷ []))) (length table) (record {
+      good = not-bad (writeDelta d s out table .writer) (length (sets out (s .written) (d ∷ []))) (length table) (record {
         inside = omega arith;
         short = omega arith;
         listed = h .listed;
@@ -233,47 +233,47 @@ shut-follows d s out table vs f byte =
       begun = tt;
     }
 
-module _ (s : Writer) (out table : List ℕ) (vs : List Plain) (f : Follows s out table (model vs between)) (e : ℕ) where
+module _ (s : Writer) (out table : List ℕ) (vs : List ModelValue) (f : Follows s out table (model vs between)) (e : ℕ) where
   abbrev closing : Part
   closing = part 15 e 0 []
 
-  far-follows : (a : Accepted true (formOf (s .written) closing) e s out table) → let t = formOf (s .written) closing in let r = writeShut t s out table in
-      Follows (r .writer) (r .out) (r .table) (model (vs ++ (plain closing [] ∷ [])) (closed (length (emit t) - 1)))
-  unfolding writeShut write rule
+  far-follows : (a : Accepted true (formOf (s .written) closing) e s out table) → let t = formOf (s .written) closing in let r = writePointerDelta t s out table in
+      Follows (r .writer) (r .out) (r .table) (model (vs ++ (modelValue closing [] ∷ [])) (closed (length (emit t) - 1)))
+  unfolding writePointerDelta write rule
   far-follows a =
       let t = formOf (s .written) closing in
       let r = write t s out table in
-      let one : settle vs (plain closing []) ≡ model (vs ++ (plain closing [] ∷ [])) between = rw (eq-eqb (owes (plain closing [])) 0 (omega arith)) in
-      shut-follows (length (emit t) - 1) (r .writer) (r .out) (r .table) (vs ++ (plain closing [] ∷ []))
+      let one : settle vs (modelValue closing []) ≡ model (vs ++ (modelValue closing [] ∷ [])) between = rw (eq-eqb (pendingIn (modelValue closing [])) 0 (omega arith)) in
+      delta-follows (length (emit t) - 1) (r .writer) (r .out) (r .table) (vs ++ (modelValue closing [] ∷ []))
       (subst (Follows (r .writer) (r .out) (r .table)) one (write-follows s out table vs between f refl closing true e a))
-      (rw (length-sets out (s .written) (emit t)) (behind true t e s out table a))
+      (rw (length-sets out (s .written) (emit t)) (room-after true t e s out table a))
 
 -- ---- one call
 
-module _ (s : Writer) (out table : List ℕ) (vs : List Plain) (g : Stage) (f : Follows s out table (model vs g)) where
+module _ (s : Writer) (out table : List ℕ) (vs : List ModelValue) (g : Stage) (f : Follows s out table (model vs g)) where
   abbrev b : Model
   b = model vs g
 
-  line-answer : (l : Line) → move (moveAs (s .written) l) s out table .answer ≡ judgeOf l b (length out) (length table)
-  unfolding put closeAt write shut writeShut
-  line-answer (adds p) = settled-answer _ s out table _ refl ∙ part-same s out table b f p
-  line-answer (ends e) =
-      pick-elim (λ (r : Result). r .answer ≡ judgeOf (ends e) b (length out) (length table)) (leb (s .written - e - 1) 255)
+  request-answer : (l : Request) → move (moveAs (s .written) l) s out table .answer ≡ modelAnswer l b (length out) (length table)
+  unfolding putToken closeAt write writeDelta writePointerDelta
+  request-answer (adds p) = settled-answer _ s out table _ refl ∙ part-same s out table b f p
+  request-answer (ends e) =
+      pick-elim (λ (r : Result). r .answer ≡ modelAnswer (ends e) b (length out) (length table)) (leb (s .written - e - 1) 255)
       (λ near. settled-answer _ s out table _ refl ∙ near-same s out table b f e (leb-true _ 255 near))
       (λ far. settled-answer _ s out table _ refl ∙ far-same s out table b f e (leb-false _ 255 far))
 
-  line-follows : (l : Line) → judgeOf l b (length out) (length table) ≡ ok tt
-      → let r = move (moveAs (s .written) l) s out table in Follows (r .writer) (r .out) (r .table) (takenOf l b)
-  unfolding put closeAt formOf
-  line-follows (adds p) o =
+  request-follows : (l : Request) → modelAnswer l b (length out) (length table) ≡ ok tt
+      → let r = move (moveAs (s .written) l) s out table in Follows (r .writer) (r .out) (r .table) (modelAfter l b)
+  unfolding putToken closeAt formOf
+  request-follows (adds p) o =
       let j = part-same s out table b f p ∙ o in
-      let a = judge-inv _ _ _ s out table j in
+      let a = refusalOf-inv _ _ _ s out table j in
       rw j (write-follows s out table vs g f (sym (f .agree .closed) ∙ a .passed .unclosed) p _ _ a)
-  line-follows (ends e) o =
+  request-follows (ends e) o =
       split 255 (s .written - e - 1)
       (λ far.
       let j = far-same s out table b f e far ∙ o in
-      let a = judge-inv _ _ _ s out table j in
+      let a = refusalOf-inv _ _ _ s out table j in
       let z = stage-between s out table vs g f (a .passed .unclosed) (none-pending s _ _ (a .passed)) in
       rw (lt-leb (s .written - e - 1) 255 far, j, ← f .agree .written, lt-ltb 255 (s .written - e - 1) far)
       (far-follows s out table vs (subst (λ x. Follows s out table (model vs x)) z f) e a))
@@ -282,65 +282,65 @@ module _ (s : Writer) (out table : List ℕ) (vs : List Plain) (g : Stage) (f : 
       let n = delta-inv e s out table j in
       let z = stage-between s out table vs g f (n .passed .unclosed) (none-pending s _ _ (n .passed)) in
       rw (le-leb (s .written - e - 1) 255 near, j, ← f .agree .written, le-ltb 255 (s .written - e - 1) near)
-      (shut-follows (s .written - e - 1) s out table vs (subst (λ x. Follows s out table (model vs x)) z f) (n .byte)))
+      (delta-follows (s .written - e - 1) s out table vs (subst (λ x. Follows s out table (model vs x)) z f) (n .byte)))
 
 module _ (c : Call) (s : Writer) (out table : List ℕ) (b : Model) (f : Follows s out table b) where
-  step-line : step c s out table ≡ move (moveAs (s .written) (lineOf c)) s out table
-  step-line = ap (λ m. move m s out table) (move-line c (s .written))
+  step-request : step c s out table ≡ move (moveAs (s .written) (requestOf c)) s out table
+  step-request = ap (λ m. move m s out table) (move-request c (s .written))
 
-  step-answer : step c s out table .answer ≡ judgeOf (lineOf c) b (length out) (length table)
-  step-answer = ap (λ (r : Result). r .answer) step-line ∙ line-answer s out table (b .finished) (b .stage) f (lineOf c)
+  step-answer : step c s out table .answer ≡ modelAnswer (requestOf c) b (length out) (length table)
+  step-answer = ap (λ (r : Result). r .answer) step-request ∙ request-answer s out table (b .finished) (b .stage) f (requestOf c)
 
   step-follows : let r = step c s out table in
-      Follows (r .writer) (r .out) (r .table) (kept (judgeOf (lineOf c) b (length out) (length table)) b (takenOf (lineOf c) b))
-  step-follows = by-verdict (judgeOf (lineOf c) b (length out) (length table)) refl
+      Follows (r .writer) (r .out) (r .table) (unlessRefused (modelAnswer (requestOf c) b (length out) (length table)) b (modelAfter (requestOf c) b))
+  step-follows = by-verdict (modelAnswer (requestOf c) b (length out) (length table)) refl
     where
-      by-verdict : (v : Verdict) → judgeOf (lineOf c) b (length out) (length table) ≡ v
-          → let r = step c s out table in Follows (r .writer) (r .out) (r .table) (kept v b (takenOf (lineOf c) b))
-      by-verdict (ok tt) e = rw step-line (line-follows s out table (b .finished) (b .stage) f (lineOf c) e)
+      by-verdict : (v : Verdict) → modelAnswer (requestOf c) b (length out) (length table) ≡ v
+          → let r = step c s out table in Follows (r .writer) (r .out) (r .table) (unlessRefused v b (modelAfter (requestOf c) b))
+      by-verdict (ok tt) e = rw step-request (request-follows s out table (b .finished) (b .stage) f (requestOf c) e)
       by-verdict (error g) e = rw (refused-same c s out table g (step-answer ∙ e)) f
 
 -- ---- a list of calls
 
 -- output and table keep their lengths
 module _ (c : Call) (s : Writer) (out table : List ℕ) where
-  abbrev Kept : Result → Type 0
-  Kept r = (length (r .out) ≡ length out) × (length (r .table) ≡ length table)
+  abbrev ModelInvariant : Result → Type 0
+  ModelInvariant r = (length (r .out) ≡ length out) × (length (r .table) ≡ length table)
 
-  step-lengths : Kept (step c s out table)
+  step-lengths : ModelInvariant (step c s out table)
   step-lengths = by-answer (step c s out table .answer) refl
     where
-      by-answer : (v : Verdict) → step c s out table .answer ≡ v → Kept (step c s out table)
+      by-answer : (v : Verdict) → step c s out table .answer ≡ v → ModelInvariant (step c s out table)
       by-answer (ok tt) e = let o = accepted-only c s out table e in (o .bytes, o .words)
       by-answer (error g) e = rw (refused-same c s out table g e) (refl, refl)
 
 pub record Alike (cs : List Call) (s : Writer) (out table : List ℕ) (b : Model) (n m : ℕ) : Type 0 where
   -- each call was refused just where the model refuses it, with the same number
-  pub answers : runs cs s out table .answers ≡ notes cs b n m .answers
-  pub follows : let r = runs cs s out table in Follows (r .writer) (r .out) (r .table) (notes cs b n m .model)
+  pub answers : runs cs s out table .answers ≡ modelRun cs b n m .answers
+  pub follows : let r = runs cs s out table in Follows (r .writer) (r .out) (r .table) (modelRun cs b n m .model)
 
 calls-alike : (cs : List Call) (s : Writer) (out table : List ℕ) (b : Model) → Follows s out table b → Alike cs s out table b (length out) (length table)
-unfolding runs notes
+unfolding runs modelRun
 calls-alike [] s out table b f = record { answers = refl; follows = f }
 calls-alike (c ∷ cs) s out table b f =
     let r = step c s out table in
-    let v = judgeOf (lineOf c) b (length out) (length table) in
+    let v = modelAnswer (requestOf c) b (length out) (length table) in
     let same = step-lengths c s out table in
-    let next = kept v b (takenOf (lineOf c) b) in
+    let next = unlessRefused v b (modelAfter (requestOf c) b) in
     let more : Alike cs (r .writer) (r .out) (r .table) next (length out) (length table) =
     rw (same .0, same .1) at (calls-alike cs (r .writer) (r .out) (r .table) next (step-follows c s out table b f)) in
     record { answers = rw (step-answer c s out table b f, more .answers); follows = more .follows }
 
-fresh-follows : (out table : List ℕ) → Follows fresh out table blank
-unfolding bytesOf startsOf valuesAt region starts
+fresh-follows : (out table : List ℕ) → Follows fresh out table emptyModel
+unfolding modelBytes modelStarts valuesAt region starts
 fresh-follows out table = record {
   agree = record { bytes = refl; written = refl; starts = refl; count = refl; pending = refl; closed = refl };
-  good = fresh-good (length out) (length table);
+  good = fresh-not-bad (length out) (length table);
   begun = tt;
 }
 
 -- of every list of calls from a new writer, whatever output and table hold at first: each call is refused just where the reference model refuses it,
 -- with the same number, and behind them the bytes written and the starts listed are the model's
-pub history : (cs : List Call) (out table : List ℕ) → let r = runs cs fresh out table in let k = notes cs blank (length out) (length table) in
+pub history : (cs : List Call) (out table : List ℕ) → let r = runs cs fresh out table in let k = modelRun cs emptyModel (length out) (length table) in
     (r .answers ≡ k .answers) × Agree (r .writer) (r .out) (r .table) (k .model)
-history cs out table = let a = calls-alike cs fresh out table blank (fresh-follows out table) in (a .answers, a .follows .agree)
+history cs out table = let a = calls-alike cs fresh out table emptyModel (fresh-follows out table) in (a .answers, a .follows .agree)

@@ -1,9 +1,9 @@
 -- a file as check reads it
 pub mod Files
 -- a token as the walk of check takes it
-pub mod Taken
+pub mod WalkTokens
 -- what the walk of check has passed
-pub mod Walked
+pub mod WalkValues
 -- the number and the place of what scan refuses
 pub mod Faults
 -- where the walk of check ends
@@ -23,7 +23,7 @@ pub mod Tokens
 -- a pointer leads where its target leads
 pub mod Pointers
 -- the reader tells a well-formed file's values as the pages do
-pub mod Tells
+pub mod ReadsFile
 -- following comes to a value that is no pointer
 pub mod Hops
 -- depths of a well-formed file
@@ -47,19 +47,19 @@ pub mod Lists
 -- over every list of calls the rest of output and table is as it was
 pub mod Rest
 -- a token written again by its call
-pub mod Again
+pub mod RewritesRead
 -- the model takes a well-formed file's values again
 pub mod Rewrites
 -- what the reference model keeps, call by call
-pub mod Kept
+pub mod Invariant
 -- its finished values may stand at the front of a file
-pub mod Fine
+pub mod Allowed
 -- each of its references and pointers names a value before
 pub mod Targets
 -- a file that it closed is read back
 pub mod ReadsBack
 -- what is told of its parts is what the calls said
-pub mod Said
+pub mod CallValues
 -- demands 2 and 3 of the writer
 pub mod Demands
 -- lists of calls write their bytes

@@ -21,7 +21,7 @@ use Rattle.token.specs.Token.{emit}
 use Rattle.values.specs.Values.{tokens, bytes, region, starts}
 use Rattle.values.proofs.Laws.{bytes-append, region-append, starts-append, starts-lt, length-starts}
 use Rattle.writer.specs.Step.{pendingOf}
-use Rattle.guarantees.specs.Model.{Part, formOf, formsOf, Plain, plain, valueAt, valuesAt, Stage, between, within, closed, isClosed, Model, model, bytesOf, startsOf, owes, grown, settle}
+use Rattle.guarantees.specs.Model.{Part, formOf, formsOf, ModelValue, modelValue, valueAt, valuesAt, Stage, between, within, closed, isClosed, Model, model, modelBytes, modelStarts, pendingIn, grown, settle}
 use Rattle.guarantees.specs.ReadsBack.{endOf}
 
 -- ---- parts
@@ -58,7 +58,7 @@ length-forms q (p ∷ ps) = ap suc (length-forms (q + length (emit (formOf q p))
 
 -- ---- values
 
-pub values-append : (q : ℕ) (a b : List Plain) → valuesAt q (a ++ b) ≡ valuesAt q a ++ valuesAt (q + length (region (valuesAt q a))) b
+pub values-append : (q : ℕ) (a b : List ModelValue) → valuesAt q (a ++ b) ≡ valuesAt q a ++ valuesAt (q + length (region (valuesAt q a))) b
 unfolding valuesAt region
 values-append q [] b = rw add-zero
 values-append q (v ∷ a) b =
@@ -67,50 +67,50 @@ values-append q (v ∷ a) b =
     let sum : q + (length s + length (region vs)) ≡ q + length s + length (region vs) = omega arith in
     rw (values-append (q + length s) a b, length-append s (region vs), sum)
 
-pub length-values : (q : ℕ) (vs : List Plain) → length (valuesAt q vs) ≡ length vs
+pub length-values : (q : ℕ) (vs : List ModelValue) → length (valuesAt q vs) ≡ length vs
 unfolding valuesAt
 length-values q [] = refl
 length-values q (v ∷ vs) = ap suc (length-values (q + length (bytes (tokens (valueAt q v)))) vs)
 
 -- one value more
-pub values-snoc : (vs : List Plain) (v : Plain) → valuesAt 0 (vs ++ (v ∷ [])) ≡ valuesAt 0 vs ++ (valueAt (endOf vs) v ∷ [])
+pub values-snoc : (vs : List ModelValue) (v : ModelValue) → valuesAt 0 (vs ++ (v ∷ [])) ≡ valuesAt 0 vs ++ (valueAt (endOf vs) v ∷ [])
 unfolding valuesAt
 values-snoc vs v = rw (values-append 0 vs (v ∷ []), zero-add)
 
-pub region-snoc : (vs : List Plain) (v : Plain) → region (valuesAt 0 (vs ++ (v ∷ []))) ≡ region (valuesAt 0 vs) ++ bytes (tokens (valueAt (endOf vs) v))
+pub region-snoc : (vs : List ModelValue) (v : ModelValue) → region (valuesAt 0 (vs ++ (v ∷ []))) ≡ region (valuesAt 0 vs) ++ bytes (tokens (valueAt (endOf vs) v))
 unfolding region
 region-snoc vs v =
     rw (values-snoc vs v, region-append (valuesAt 0 vs) (valueAt (endOf vs) v ∷ []), append-nil (bytes (tokens (valueAt (endOf vs) v))))
 
-pub length-startsOf : (b : Model) → length (startsOf b) ≡ length (b .finished)
-unfolding startsOf
+pub length-startsOf : (b : Model) → length (modelStarts b) ≡ length (b .finished)
+unfolding modelStarts
 length-startsOf b = length-starts 0 (valuesAt 0 (b .finished)) ∙ length-values 0 (b .finished)
 
-pub starts-snoc : (vs : List Plain) (v : Plain) → starts 0 (valuesAt 0 (vs ++ (v ∷ []))) ≡ starts 0 (valuesAt 0 vs) ++ (endOf vs ∷ [])
+pub starts-snoc : (vs : List ModelValue) (v : ModelValue) → starts 0 (valuesAt 0 (vs ++ (v ∷ []))) ≡ starts 0 (valuesAt 0 vs) ++ (endOf vs ∷ [])
 unfolding starts
 starts-snoc vs v = rw (values-snoc vs v, starts-append 0 (valuesAt 0 vs) (valueAt (endOf vs) v ∷ []), zero-add)
 
-pub start-lt : (vs : List Plain) (x : ℕ) → among x (starts 0 (valuesAt 0 vs)) ≡ true → x < endOf vs
+pub start-lt : (vs : List ModelValue) (x : ℕ) → among x (starts 0 (valuesAt 0 vs)) ≡ true → x < endOf vs
 start-lt vs x h =
     let (i, i<, e) = among-by x (starts 0 (valuesAt 0 vs)) h in
     omega (arith, starts-lt 0 (valuesAt 0 vs) i (omega (arith, length-starts 0 (valuesAt 0 vs))))
 
 -- ---- the bytes at each stage
 
-module _ (vs : List Plain) where
-  pub bytes-between : bytesOf (model vs between) ≡ region (valuesAt 0 vs)
-  unfolding bytesOf
+module _ (vs : List ModelValue) where
+  pub bytes-between : modelBytes (model vs between) ≡ region (valuesAt 0 vs)
+  unfolding modelBytes
   bytes-between = rw (append-nil vs, append-nil (region (valuesAt 0 vs)))
 
-  pub bytes-within : (v : Plain) → bytesOf (model vs (within v)) ≡ region (valuesAt 0 vs) ++ bytes (tokens (valueAt (endOf vs) v))
-  unfolding bytesOf
+  pub bytes-within : (v : ModelValue) → modelBytes (model vs (within v)) ≡ region (valuesAt 0 vs) ++ bytes (tokens (valueAt (endOf vs) v))
+  unfolding modelBytes
   bytes-within v = rw (append-nil (region (valuesAt 0 (vs ++ (v ∷ []))))) (region-snoc vs v)
 
-  pub bytes-closed : (d : ℕ) → bytesOf (model vs (closed d)) ≡ region (valuesAt 0 vs) ++ (d ∷ [])
-  unfolding bytesOf
+  pub bytes-closed : (d : ℕ) → modelBytes (model vs (closed d)) ≡ region (valuesAt 0 vs) ++ (d ∷ [])
+  unfolding modelBytes
   bytes-closed d = rw (append-nil vs)
 
-pub end-le : (vs : List Plain) (g : Stage) → endOf vs ≤ length (bytesOf (model vs g))
+pub end-le : (vs : List ModelValue) (g : Stage) → endOf vs ≤ length (modelBytes (model vs g))
 end-le vs between = omega (arith, ap length (bytes-between vs))
 end-le vs (within v) =
     omega (arith, ap length (bytes-within vs v), length-append (region (valuesAt 0 vs)) (bytes (tokens (valueAt (endOf vs) v))))
@@ -118,10 +118,10 @@ end-le vs (closed d) = omega (arith, ap length (bytes-closed vs d), length-appen
 
 -- ---- the bytes that a part adds
 
-pub bytes-grown : (vs : List Plain) (g : Stage) (p : Part) → isClosed g ≡ false
-    → region (valuesAt 0 (vs ++ (grown g p ∷ []))) ≡ bytesOf (model vs g) ++ emit (formOf (length (bytesOf (model vs g))) p)
+pub bytes-grown : (vs : List ModelValue) (g : Stage) (p : Part) → isClosed g ≡ false
+    → region (valuesAt 0 (vs ++ (grown g p ∷ []))) ≡ modelBytes (model vs g) ++ emit (formOf (length (modelBytes (model vs g))) p)
 unfolding bytes formsOf
-bytes-grown vs between p o = rw (region-snoc vs (plain p []), bytes-between vs, append-nil (emit (formOf (endOf vs) p)))
+bytes-grown vs between p o = rw (region-snoc vs (modelValue p []), bytes-between vs, append-nil (emit (formOf (endOf vs) p)))
 bytes-grown vs (within v) p o =
     let s = region (valuesAt 0 vs) in
     let ts = tokens (valueAt (endOf vs) v) in
@@ -131,7 +131,7 @@ bytes-grown vs (within v) p o =
     rw (region-snoc vs (grown (within v) p), all, bytes-within vs v, length-append s (bytes ts), append-assoc s (bytes ts) (emit t))
 bytes-grown vs (closed d) p o = absurd (true≢false o)
 
-pub bytes-settle : (vs : List Plain) (v : Plain) → bytesOf (settle vs v) ≡ region (valuesAt 0 (vs ++ (v ∷ [])))
+pub bytes-settle : (vs : List ModelValue) (v : ModelValue) → modelBytes (settle vs v) ≡ region (valuesAt 0 (vs ++ (v ∷ [])))
 bytes-settle vs v =
-    pick-elim (λ b. bytesOf b ≡ region (valuesAt 0 (vs ++ (v ∷ [])))) (eqb (owes v) 0) (λ _. bytes-between (vs ++ (v ∷ [])))
+    pick-elim (λ b. modelBytes b ≡ region (valuesAt 0 (vs ++ (v ∷ [])))) (eqb (pendingIn v) 0) (λ _. bytes-between (vs ++ (v ∷ [])))
     (λ _. bytes-within vs v ∙ sym (region-snoc vs v))

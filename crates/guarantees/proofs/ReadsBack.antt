@@ -1,6 +1,6 @@
 -- A file that the reference model closed is read back: check accepts it, and reading, items and bodies tell the model's values.
 --
--- In order: parts stand as tokens where they are held (`holds-stands`), and are told as the model has them (`told-form`); the bytes of a closed
+-- In order: parts stand as tokens where they are held (`holds-at`), and are told as the model has them (`read-form`); the bytes of a closed
 -- model are a well-formed file, and the reader gives back its values (`model-gives-back`); so it is of an accepted close, behind any calls whose
 -- arguments are of their widths (`model-reads-back`).
 use mathlib.Core.Path.{_≡_, refl, ap, _∙_, subst}
@@ -19,44 +19,44 @@ use Rattle.kind.specs.Kind.{rule, immediate}
 use Rattle.kind.proofs.Laws.{used-lt}
 use Rattle.token.specs.Token.{Token, emit}
 use Rattle.values.specs.Values.{tokens, bytes, starts, Each, WellFormed}
-use Rattle.read.specs.Read.{readOf}
-use Rattle.read.specs.declared.Value.the-variants.{Reference, Pointer}
-use Rattle.items.specs.Items.{itemOf}
-use Rattle.body.specs.Body.{bodyOf, bodyBytes}
+use Rattle.reader_value.specs.Value.{readOf}
+use Rattle.reader_value.specs.declared.Value.the-variants.{Reference, Pointer}
+use Rattle.reader_items.specs.Items.{itemOf}
+use Rattle.reader_body.specs.Body.{bodyPlaceOf, bodyOf}
 use Rattle.writer.specs.Step.{Call, close}
 use Rattle.writer.specs.Given.{Given}
 use Rattle.checker.specs.Check.{checked, filled, checkOf}
-use Rattle.guarantees.specs.Tells.{behind, tellOf}
-use Rattle.guarantees.specs.Places.{Stands}
-use Rattle.guarantees.specs.Model.{Part, ends, Plain, formOf, formsOf, valueAt, valuesAt, closed, Model, model, blank, bytesOf, backTo, judgeOf, takenOf}
-use Rattle.guarantees.specs.History.{notes}
-use Rattle.guarantees.specs.ReadsBack.{endOf, Holds, toldOf, GivesBack, ReadsBack}
+use Rattle.guarantees.specs.TokenValues.{tokenEnd, valueOfToken}
+use Rattle.guarantees.specs.Places.{TokenAt}
+use Rattle.guarantees.specs.Model.{Part, ends, ModelValue, formOf, formsOf, valueAt, valuesAt, closed, Model, model, emptyModel, modelBytes, backTo, modelAnswer, modelAfter}
+use Rattle.guarantees.specs.History.{modelRun}
+use Rattle.guarantees.specs.ReadsBack.{endOf, Holds, valueOfPart, GivesBack, ReadsBack}
 use Rattle.guarantees.proofs.Accepts.{accepts}
-use Rattle.guarantees.proofs.Tells.{tells-token, tells-body, tells-end, tells-item, tells-none, tells-leaf}
+use Rattle.guarantees.proofs.ReadsFile.{reads-token, reads-body, reads-end, reads-item, reads-none, reads-leaf}
 use Rattle.guarantees.proofs.Models.{forms-append, length-forms, values-append, length-values, start-lt, bytes-closed}
-use Rattle.guarantees.proofs.Kept.{Finished, Staged, Kept, holds-fit, closes-near, closes-far}
-use Rattle.guarantees.proofs.Fine.{Fine, fine-given, kept-given, target-form, kept-values}
+use Rattle.guarantees.proofs.Invariant.{Finished, Staged, ModelInvariant, holds-fit, closes-near, closes-far}
+use Rattle.guarantees.proofs.Allowed.{AllowedPart, allowed-given, invariant-given, target-form, invariant-values}
 
 -- ---- parts as tokens
 
 -- a value with those before it and those after it
-values-at : (vs a : List Plain) (v : Plain) (b : List Plain) → vs ≡ a ++ (v ∷ b)
+values-at : (vs a : List ModelValue) (v : ModelValue) (b : List ModelValue) → vs ≡ a ++ (v ∷ b)
     → valuesAt 0 vs ≡ valuesAt 0 a ++ (valueAt (endOf a) v ∷ valuesAt (endOf a + length (bytes (tokens (valueAt (endOf a) v)))) b)
 unfolding valuesAt
 values-at vs a v b e = rw (e, values-append 0 a (v ∷ b), zero-add)
 
-tell-reference : (q : ℕ) (t : Token) → t .kind ≡ 14 → tellOf q t ≡ Reference (q - t .n - 1)
-unfolding tellOf
-tell-reference q t e = rw e
+read-reference : (q : ℕ) (t : Token) → t .kind ≡ 14 → valueOfToken q t ≡ Reference (q - t .n - 1)
+unfolding valueOfToken
+read-reference q t e = rw e
 
-tell-pointer : (q : ℕ) (t : Token) → t .kind ≡ 15 → tellOf q t ≡ Pointer (q - t .n - 1)
-unfolding tellOf
-tell-pointer q t e = rw e
+read-pointer : (q : ℕ) (t : Token) → t .kind ≡ 15 → valueOfToken q t ≡ Pointer (q - t .n - 1)
+unfolding valueOfToken
+read-pointer q t e = rw e
 
-module _ (vs : List Plain) (j q : ℕ) (p : Part) (h : Holds vs j q p) where
-  pub holds-stands : Stands (valuesAt 0 vs) j q (formOf q p)
+module _ (vs : List ModelValue) (j q : ℕ) (p : Part) (h : Holds vs j q p) where
+  pub holds-at : TokenAt (valuesAt 0 vs) j q (formOf q p)
   unfolding formsOf
-  holds-stands =
+  holds-at =
       let start = endOf (h .before) in
       record {
         before = valuesAt 0 (h .before);
@@ -71,35 +71,35 @@ module _ (vs : List Plain) (j q : ℕ) (p : Part) (h : Holds vs j q p) where
       }
 
   -- a reference or pointer by the offset that was handed in
-  pub told-form : Finished Fine [] vs → tellOf q (formOf q p) ≡ toldOf q p
-  unfolding toldOf formOf
-  told-form f =
-      let own = holds-fit Fine vs f j q p h in
+  pub read-form : Finished AllowedPart [] vs → valueOfToken q (formOf q p) ≡ valueOfPart q p
+  unfolding valueOfPart formOf
+  read-form f =
+      let own = holds-fit AllowedPart vs f j q p h in
       split (p .kind) 14 (λ near. rw (lt-leb 14 (p .kind) near))
       (λ far. let target = target-form q p far (omega (arith, start-lt (h .before) (p .number) (own .names far), h .place)) .1 in
       let most = used-lt (p .kind) (omega (arith, own .own .allowed .low)) in
       split (p .kind) 15
-      (λ l. let e : p .kind ≡ 14 = omega arith in tell-reference q (formOf q p) e ∙ ap Reference target ∙ rw e)
-      (λ l. let e : p .kind ≡ 15 = omega arith in tell-pointer q (formOf q p) e ∙ ap Pointer target ∙ rw e))
+      (λ l. let e : p .kind ≡ 14 = omega arith in read-reference q (formOf q p) e ∙ ap Reference target ∙ rw e)
+      (λ l. let e : p .kind ≡ 15 = omega arith in read-pointer q (formOf q p) e ∙ ap Pointer target ∙ rw e))
 
 -- ---- a closed model
 
-module _ (b : Model) (d entry : ℕ) (k : Kept Fine b) (c : b .stage ≡ closed d) (named : entry + d + 1 ≡ endOf (b .finished)) where
-  abbrev vs : List Plain
+module _ (b : Model) (d entry : ℕ) (k : ModelInvariant AllowedPart b) (c : b .stage ≡ closed d) (named : entry + d + 1 ≡ endOf (b .finished)) where
+  abbrev vs : List ModelValue
   vs = b .finished
 
   abbrev file : List ℕ
-  file = bytesOf b
+  file = modelBytes b
 
   well-formed : WellFormed file (valuesAt 0 vs) entry
   well-formed =
-      let (e, start, own) = subst (Staged Fine vs) c (k .stage) in
+      let (e, start, own) = subst (Staged AllowedPart vs) c (k .stage) in
       let same : e ≡ entry = omega arith in
       record {
         short = k .short;
-        values = kept-values b k;
+        values = invariant-values b k;
         delta = d;
-        same = ap (λ g. bytesOf (model vs g)) c ∙ bytes-closed vs d;
+        same = ap (λ g. modelBytes (model vs g)) c ∙ bytes-closed vs d;
         named = named;
         start = rw (← same) start;
       }
@@ -107,16 +107,16 @@ module _ (b : Model) (d entry : ℕ) (k : Kept Fine b) (c : b .stage ≡ closed 
   accepted : (cap : ℕ) → length vs ≤ cap → checkOf file cap ≡ checked (ok (length vs, entry)) (filled cap (starts 0 (valuesAt 0 vs)))
   accepted cap = rw (length-values 0 vs) at (accepts file (valuesAt 0 vs) entry cap well-formed)
 
-  read : (j q : ℕ) (p : Part) → Holds vs j q p → readOf file q ≡ ok (toldOf q p)
+  read : (j q : ℕ) (p : Part) → Holds vs j q p → readOf file q ≡ ok (valueOfPart q p)
   read j q p h =
-      tells-token file (valuesAt 0 vs) entry well-formed j q (formOf q p) (holds-stands vs j q p h) ∙ ap ok (told-form vs j q p h (k .finished))
+      reads-token file (valuesAt 0 vs) entry well-formed j q (formOf q p) (holds-at vs j q p h) ∙ ap ok (read-form vs j q p h (k .finished))
 
   body : (j q : ℕ) (p : Part) → Holds vs j q p → (p .kind ≡ 4) ⊎ (p .kind ≡ 5)
-      → (bodyOf file q ≡ ok (behind q (formOf q p) - length (p .body), length (p .body))) × (bodyBytes file q ≡ p .body)
+      → (bodyPlaceOf file q ≡ ok (tokenEnd q (formOf q p) - length (p .body), length (p .body))) × (bodyOf file q ≡ p .body)
   unfolding formOf
-  body j q p h own = tells-body file (valuesAt 0 vs) entry well-formed j q (formOf q p) (holds-stands vs j q p h) own
+  body j q p h own = reads-body file (valuesAt 0 vs) entry well-formed j q (formOf q p) (holds-at vs j q p h) own
 
-  module _ (a : List Plain) (v : Plain) (z : List Plain) (e : vs ≡ a ++ (v ∷ z)) where
+  module _ (a : List ModelValue) (v : ModelValue) (z : List ModelValue) (e : vs ≡ a ++ (v ∷ z)) where
     abbrev at : ℕ
     at = endOf a
 
@@ -130,17 +130,17 @@ module _ (b : Model) (d entry : ℕ) (k : Kept Fine b) (c : b .stage ≡ closed 
         let long = length-append (emit t) (bytes (formsOf q is)) in
         let place : at + length (emit t ++ bytes (formsOf q is)) ≡ q + length (bytes (formsOf q is)) = omega arith in
         rw (← length-forms q is)
-        (tells-item file (valuesAt 0 vs) entry well-formed (valuesAt 0 a) (valueAt at v) _ (values-at vs a v z e) (formsOf q is) _ _ _ forms place .0)
+        (reads-item file (valuesAt 0 vs) entry well-formed (valuesAt 0 a) (valueAt at v) _ (values-at vs a v z e) (formsOf q is) _ _ _ forms place .0)
 
     none : immediate (rule (v .head .kind)) ≡ false → (i : ℕ) → length (v .items) ≤ i → itemOf file at i ≡ error (fault NO_ITEM at)
     unfolding formOf
     none has i past =
         let long = length-forms (at + length (emit (formOf at (v .head)))) (v .items) in
-        tells-none file (valuesAt 0 vs) entry well-formed (valuesAt 0 a) (valueAt at v) _ (values-at vs a v z e) i (omega arith) has
+        reads-none file (valuesAt 0 vs) entry well-formed (valuesAt 0 a) (valueAt at v) _ (values-at vs a v z e) i (omega arith) has
 
     flat : immediate (rule (v .head .kind)) ≡ true → (i : ℕ) → itemOf file at i ≡ error (fault WRONG_KIND at)
     unfolding formOf
-    flat one i = tells-leaf file (valuesAt 0 vs) entry well-formed (valuesAt 0 a) (valueAt at v) _ (values-at vs a v z e) i one
+    flat one i = reads-leaf file (valuesAt 0 vs) entry well-formed (valuesAt 0 a) (valueAt at v) _ (values-at vs a v z e) i one
 
   pub model-gives-back : GivesBack file vs entry
   model-gives-back = record {
@@ -148,7 +148,7 @@ module _ (b : Model) (d entry : ℕ) (k : Kept Fine b) (c : b .stage ≡ closed 
     accepted = accepted;
     read = read;
     body = body;
-    skip = λ a v z e. tells-end file (valuesAt 0 vs) entry well-formed (valuesAt 0 a) (valueAt (endOf a) v) _ (values-at vs a v z e);
+    skip = λ a v z e. reads-end file (valuesAt 0 vs) entry well-formed (valuesAt 0 a) (valueAt (endOf a) v) _ (values-at vs a v z e);
     item = item;
     none = none;
     flat = flat;
@@ -157,12 +157,12 @@ module _ (b : Model) (d entry : ℕ) (k : Kept Fine b) (c : b .stage ≡ closed 
 -- ---- an accepted close
 
 pub model-reads-back : (cs : List Call) → Each Given cs → (n m e : ℕ)
-    → let b = notes cs blank n m .model in judgeOf (ends e) b n m ≡ ok tt → ReadsBack b e (takenOf (ends e) b) (bytesOf (takenOf (ends e) b))
+    → let b = modelRun cs emptyModel n m .model in modelAnswer (ends e) b n m ≡ ok tt → ReadsBack b e (modelAfter (ends e) b) (modelBytes (modelAfter (ends e) b))
 model-reads-back cs g n m e q =
-    let b = notes cs blank n m .model in
-    let k = kept-given cs g n m in
-    let fine = fine-given (close e) tt (λ four. absurd (omega arith)) in
+    let b = modelRun cs emptyModel n m .model in
+    let k = invariant-given cs g n m in
+    let allowed = allowed-given (close e) tt (λ four. absurd (omega arith)) in
     record {
-      near = λ h. let c = closes-near Fine b n m k e q h in rw (le-ltb 255 (backTo e b) h) (refl, model-gives-back _ _ _ (c .kept) refl (c .named));
-      far = λ h. let c = closes-far Fine b n m k e q fine h in rw (lt-ltb 255 (backTo e b) h) (refl, model-gives-back _ _ _ (c .kept) refl (c .named));
+      near = λ h. let c = closes-near AllowedPart b n m k e q h in rw (le-ltb 255 (backTo e b) h) (refl, model-gives-back _ _ _ (c .kept) refl (c .named));
+      far = λ h. let c = closes-far AllowedPart b n m k e q allowed h in rw (lt-ltb 255 (backTo e b) h) (refl, model-gives-back _ _ _ (c .kept) refl (c .named));
     }

@@ -2,7 +2,7 @@
 --
 -- In order: a file that is refused at once (`empty-exactly`, `too-long-exactly`); one whose entry is no value's start (`bad-entry-exactly`); every
 -- other refusal: all before its place is well formed, and the token that is wanted there is refused (`first-fault`); such a fault is told
--- (`fault-first`), at its place and with a number from TRUNC to FULL (`fault-told`); so both ways (`fault-exactly`).
+-- (`fault-first`), at its place and with a number from TRUNC to FULL (`fault-answer`); so both ways (`fault-exactly`).
 use mathlib.Core.Path.{_≡_, refl, sym, ap, _∙_, subst}
 use mathlib.Core.Logic.{_↔_}
 use Prim.Native.Nat.{ℕ, zero, suc, _+_, _-_, _≤_, _<_}
@@ -20,14 +20,14 @@ use Rattle.error.specs.Error.{Fault, fault, LIMIT, EMPTY, TOO_LONG, TRUNC, FULL
 use Rattle.token.specs.Token.{Token, emit, Fits}
 use Rattle.values.specs.Values.{Value, bytes, region, starts, Values}
 use Rattle.values.proofs.Laws.{length-starts}
-use Rattle.pass.specs.Walk.{Walk, between, next, startsFrom}
+use Rattle.checker_value.specs.Walk.{Walk, between, nextToken, startsFrom}
 use Rattle.checker.specs.Check.{checkIn, checkOf}
-use Rattle.pass.proofs.Walks.{Going, walk-error}
+use Rattle.checker_value.proofs.Walks.{WalkInvariant, walk-error}
 use Rattle.guarantees.specs.Refused.{Unnamed, Begun, Open, Faulty}
 use Rattle.guarantees.proofs.Files.{Whole, whole, length-whole, region-whole, bytes-whole, checkIn-whole, entered, entered-none}
 use Rattle.guarantees.proofs.Files.{empty, long, at-once, answer-error, Failed, early, walking, last, failed}
-use Rattle.guarantees.proofs.Taken.{settled}
-use Rattle.guarantees.proofs.Walked.{Walked, idle, busy}
+use Rattle.guarantees.proofs.WalkTokens.{settled}
+use Rattle.guarantees.proofs.WalkValues.{WalkedValues, idle, busy}
 use Rattle.guarantees.proofs.Ends.{Ends, next-refused, walk-ends}
 use Rattle.guarantees.proofs.Accepts.{walks-open, walks-prefix, walks-all}
 use Rattle.guarantees.proofs.Accepted.{walked-ends, walked-region}
@@ -119,8 +119,8 @@ module _ (file : List ℕ) (cap : ℕ) (f : Fault) (w : Whole file) where
   -- at the end of some bytes of the region: values, and tokens of an open value
   faulty-at : (vs : List Value) (ts : List Token) (k : ℕ) (rest front : List ℕ) → front ≡ region vs ++ bytes ts → s ≡ front ++ rest → Values vs
       → length vs ≤ cap → Open cap (length s) vs ts k → (k ≡ 0 → length front < length s)
-      → error f ≡ next s cap (starts 0 vs) k (length front) → Faulty file cap (length front) f
-  faulty-at vs ts k rest front is same formed room begun more told =
+      → error f ≡ nextToken s cap (starts 0 vs) k (length front) → Faulty file cap (length front) f
+  faulty-at vs ts k rest front is same formed room begun more reported =
       let len : length file - 1 ≡ length s = omega (arith, length-whole file w) in
       let all : file ≡ front ++ (rest ++ (w .delta ∷ [])) = w .same ∙ rw (← append-assoc) (ap (λ x. x ++ (w .delta ∷ [])) same) in
       record {
@@ -136,15 +136,15 @@ module _ (file : List ℕ) (cap : ℕ) (f : Fault) (w : Whole file) where
         place = ap length (sym is);
         inside = omega (arith, len, ap length same, length-append front rest);
         more = rw len more;
-        refused = rw (region-whole file w) told;
+        refused = rw (region-whole file w) reported;
       }
 
-  faulty-walk : (v : Walk) → Walked s v → Going s cap v → (v .pending ≡ 0 → v .at < length s)
-      → error f ≡ next s cap (v .done) (v .pending) (v .at) → Faulty file cap (v .at) f
+  faulty-walk : (v : Walk) → WalkedValues s v → WalkInvariant s cap v → (v .pending ≡ 0 → v .at < length s)
+      → error f ≡ nextToken s cap (v .done) (v .pending) (v .at) → Faulty file cap (v .at) f
   unfolding bytes
-  faulty-walk v (idle {vs} rest values same) g more told =
-      faulty-at vs [] 0 rest (region vs) (sym (append-nil (region vs))) same values (omega (arith, g .count, length-starts 0 vs)) refl more told
-  faulty-walk v (busy {vs} {t} {is} {rest} {k} p) g more told =
+  faulty-walk v (idle {vs} rest values same) g more reported =
+      faulty-at vs [] 0 rest (region vs) (sym (append-nil (region vs))) same values (omega (arith, g .count, length-starts 0 vs)) refl more reported
+  faulty-walk v (busy {vs} {t} {is} {rest} {k} p) g more reported =
       let front = region vs ++ bytes (t ∷ is) in
       let word : length vs < cap = omega (arith, g .room (omega arith), length-starts 0 vs) in
       let long : length front ≡ length (region vs) + length (bytes (t ∷ is)) = length-append (region vs) (bytes (t ∷ is)) in
@@ -154,15 +154,15 @@ module _ (file : List ℕ) (cap : ℕ) (f : Fault) (w : Whole file) where
         room = p .room;
         items = p .items;
         count = p .count;
-        aimed = p .aimed;
+        targets = p .targets;
       } in
       rw (← long) (faulty-at vs (t ∷ is) (suc k) rest front refl (p .same ∙ sym (append-assoc (region vs) (bytes (t ∷ is)) rest)) (p .values)
-      (omega arith) (omega arith, begun) (rw long more) (rw long told))
+      (omega arith) (omega arith, begun) (rw long more) (rw long reported))
 
   faulty : Bytes file → error f ≡ startsFrom s cap (between 0 []) → Faulty file cap (f .place) f
   faulty b e =
-      let r = subst (Ends s cap (Walked s)) (sym e) (walked-ends s cap (bytes-whole file w b)) in
-      subst (λ p. Faulty file cap p f) (sym (r .refused .place)) (faulty-walk (r .walk) (r .holds) (r .going) (r .inside) (r .told))
+      let r = subst (Ends s cap (WalkedValues s)) (sym e) (walked-ends s cap (bytes-whole file w b)) in
+      subst (λ p. Faulty file cap p f) (sym (r .refused .place)) (faulty-walk (r .walk) (r .holds) (r .going) (r .inside) (r .reported))
 
 pub first-fault : (file : List ℕ) (cap : ℕ) (f : Fault) → Bytes file → checkOf file cap .answer ≡ error f
     → (f .number ≡ EMPTY → ⊥) → (f .number ≡ TOO_LONG → ⊥) → (f .number ≡ BAD_ENTRY → ⊥) → Faulty file cap (f .place) f
@@ -182,20 +182,20 @@ module _ (s : List ℕ) (cap : ℕ) (f : Fault) (vs : List Value) (rest : List �
 
   -- the walk behind the values comes to the fault
   open-fails : (ts : List Token) (k : ℕ) → Open cap (length s) vs ts k → s ≡ region vs ++ (bytes ts ++ rest)
-      → (k ≡ 0 → at + length (bytes ts) < length s) → error f ≡ next s cap (starts 0 vs) k (at + length (bytes ts))
+      → (k ≡ 0 → at + length (bytes ts) < length s) → error f ≡ nextToken s cap (starts 0 vs) k (at + length (bytes ts))
       → error f ≡ startsFrom s cap (between at (starts 0 vs))
   unfolding bytes
-  open-fails [] k z same more told =
-      let here : error f ≡ next s cap (starts 0 vs) 0 at = rw (z, add-zero) at told in
+  open-fails [] k z same more reported =
+      let here : error f ≡ nextToken s cap (starts 0 vs) 0 at = rw (z, add-zero) at reported in
       walk-error s cap (between at (starts 0 vs)) (lt-leb (length s) at (omega (arith, more z))) f here
-  open-fails (t ∷ is) zero (pos, b) same more told = absurd (omega arith)
-  open-fails (t ∷ is) (suc k) (pos, b) same more told =
+  open-fails (t ∷ is) zero (pos, b) same more reported = absurd (omega arith)
+  open-fails (t ∷ is) (suc k) (pos, b) same more reported =
       let behind : drop at s ≡ bytes (t ∷ is) ++ rest = rw same (drop-append-seam (region vs) (bytes (t ∷ is) ++ rest)) in
       let long : length s ≡ at + length (emit t) + length (bytes is ++ rest) = ap length same ∙ simp length-append (omega arith) in
       let fits : Fits false t (bytes is ++ rest) = record { allowed = b .head .allowed; flat = refl; room = omega (arith, b .room) } in
       let word : length (starts 0 vs) < cap = omega (arith, b .word, length-starts 0 vs) in
-      walk-error s cap (settled at (starts 0 vs) (at + length (bytes (t ∷ is))) (suc k)) (rw (ne-eqb (suc k) 0 (suc-ne-zero k))) f told
-      ∙ sym (walks-open s cap (starts 0 vs) at (suc k) t is rest behind fits (b .head .text) (b .items) (b .count) (b .aimed) word)
+      walk-error s cap (settled at (starts 0 vs) (at + length (bytes (t ∷ is))) (suc k)) (rw (ne-eqb (suc k) 0 (suc-ne-zero k))) f reported
+      ∙ sym (walks-open s cap (starts 0 vs) at (suc k) t is rest behind fits (b .head .text) (b .items) (b .count) (b .targets) word)
 
 faulty-fails : (file : List ℕ) (cap p : ℕ) (f : Fault) → Faulty file cap p f → (w : Whole file) → error f ≡ startsFrom (w .region) cap (between 0 [])
 faulty-fails file cap p f x w =
@@ -208,9 +208,9 @@ faulty-fails file cap p f x w =
     let same : s ≡ region vs ++ (bytes ts ++ drop p s) =
     sym (take-append-drop p s) ∙ ap (λ y. y ++ drop p s) front ∙ append-assoc (region vs) (bytes ts) (drop p s) in
     let at : p ≡ length (region vs) + length (bytes ts) = sym (x .place) ∙ length-append (region vs) (bytes ts) in
-    let walked = walks-prefix s cap [] 0 vs (bytes ts ++ drop p s) same (x .formed .formed) (x .formed .aimed) (omega (arith, x .room)) in
-    let told : error f ≡ next s cap (starts 0 vs) (x .missing) p = rw (region-whole file w) at (x .refused) in
-    open-fails s cap f vs (drop p s) ts (x .missing) (rw len at (x .begun)) same (rw (len, at) at (x .more)) (rw at at told)
+    let walked = walks-prefix s cap [] 0 vs (bytes ts ++ drop p s) same (x .formed .formed) (x .formed .targets) (omega (arith, x .room)) in
+    let reported : error f ≡ nextToken s cap (starts 0 vs) (x .missing) p = rw (region-whole file w) at (x .refused) in
+    open-fails s cap f vs (drop p s) ts (x .missing) (rw len at (x .begun)) same (rw (len, at) at (x .more)) (rw at at reported)
     ∙ ap (λ q. startsFrom s cap (between q (starts 0 vs))) (sym (zero-add (length (region vs)))) ∙ sym walked
 
 pub fault-first : (file : List ℕ) (cap p : ℕ) (f : Fault) → Faulty file cap p f → checkOf file cap .answer ≡ error f
@@ -218,8 +218,8 @@ fault-first file cap p f x =
     let w = whole file (x .some) (x .short) in
     answers file cap f (bind-error _ (faulty-fails file cap p f x w) ∙ sym (checkIn-whole file w cap))
 
-pub fault-told : (file : List ℕ) (cap p : ℕ) (f : Fault) → Faulty file cap p f → (f .place ≡ p) × (TRUNC ≤ f .number) × (f .number ≤ FULL)
-fault-told file cap p f x =
+pub fault-answer : (file : List ℕ) (cap p : ℕ) (f : Fault) → Faulty file cap p f → (f .place ≡ p) × (TRUNC ≤ f .number) × (f .number ≤ FULL)
+fault-answer file cap p f x =
     let r = next-refused _ cap (record { at = p; start = p; pending = x .missing; done = starts 0 (x .values) }) f (x .refused) in
     (r .place, r .number .0, r .number .1)
 

@@ -1,6 +1,6 @@
 -- What an accepted call leaves, for any state, output and table.
 --
--- In order: the value that it finishes (`accepted-finishes`); a state that is not bad (`accepted-good`), with room for the items pending and
+-- In order: the value that it finishes (`accepted-finishes`); a state that is not bad (`accepted-not-bad`), with room for the items pending and
 -- the delta (`accepted-open`, `accepted-room`); what a close leaves (`accepted-close`).
 use mathlib.Core.Path.{_≡_, refl, sym, ap, _∙_}
 use mathlib.Core.Bool.{Bool, true, false, true≢false}
@@ -17,9 +17,9 @@ use Rattle.prelude.proofs.Tests.{pick-elim}
 use Rattle.error.specs.Error.{CLOSED}
 use Rattle.kind.specs.Kind.{rule}
 use Rattle.token.specs.Token.{Token, emit}
-use Rattle.writer.specs.Step.{Call, close, moveOf, bad, limit, pendingOf, due, early, judge, judgeDelta, Result, result, startOf, write, shut, writeShut, step}
+use Rattle.writer.specs.Step.{Call, close, moveOf, badState, limit, pendingOf, due, early, refusalOf, refusalOfDelta, Result, result, startOf, write, writeDelta, writePointerDelta, step}
 use Rattle.writer.specs.declared.Writer.{Writer}
-use Rattle.writer.proofs.Judged.{Sound, sound, good, none-pending, new-start, Accepted, free-word, behind, start-lt, emit-pos}
+use Rattle.writer.proofs.Accepted.{Sound, sound, not-bad, none-pending, new-start, Accepted, free-word, room-after, start-lt, emit-pos}
 use Rattle.writer.proofs.Closes.{Near}
 use Rattle.writer.proofs.Refused.{pointerTo, settled-by}
 use Rattle.guarantees.proofs.Calls.{close-by, accepted-by, length-pick-set, accepted-only}
@@ -66,20 +66,20 @@ module _ (x : ℕ) (s : Writer) (out table : List ℕ) (a : Accepted true (point
   unfolding rule
   pointer-last = rw (none-pending s _ _ (a .passed)) (omega arith)
 
-  far-last : Finishes (s .written) s table (writeShut (pointerTo x s) s out table)
-  unfolding write shut writeShut
+  far-last : Finishes (s .written) s table (writePointerDelta (pointerTo x s) s out table)
+  unfolding write writeDelta writePointerDelta
   far-last =
       let f = write-last true (pointerTo x s) x s out table a pointer-last in
       let start = new-start s _ _ (a .passed) in
       record { none = f .none; count = f .count; words = f .words ∙ ap (set table (s .count)) start; listed = f .listed ∙ start }
 
-near-none : (x : ℕ) (s : Writer) (out table : List ℕ) → FinishesNone s table (shut x s out table)
-unfolding shut
+near-none : (x : ℕ) (s : Writer) (out table : List ℕ) → FinishesNone s table (writeDelta x s out table)
+unfolding writeDelta
 near-none x s out table = record { count = refl; words = refl }
 
 -- an accepted call lists the start of the value that it finishes, if any, and nothing else
 pub accepted-finishes : (c : Call) (s : Writer) (out table : List ℕ) → step c s out table .answer ≡ ok tt → Finishing s table (step c s out table)
-unfolding write shut writeShut
+unfolding write writeDelta writePointerDelta
 accepted-finishes c s out table =
     accepted-by s out table (Finishing s table)
     (λ t x a. record {
@@ -103,7 +103,7 @@ accepted-finishes c s out table =
 
 -- an open value, or none where k is 0: k items are pending, and have room, and the delta behind them
 pub record Open (k : ℕ) (s : Writer) (out table : List ℕ) : Type 0 where
-  pub good : bad s (length out) (length table) ≡ false
+  pub good : badState s (length out) (length table) ≡ false
   pub unclosed : s .closed ≡ false
   pub items : s .pending ≡ k
   pub room : s .written + k + 1 ≤ limit (length out)
@@ -113,7 +113,7 @@ write-sound : (alone : Bool) (t : Token) (target : ℕ) (s : Writer) (out table 
 unfolding write
 write-sound alone t target s out table a =
     let left = due (s .pending) (pendingOf t) in
-    let end = behind alone t target s out table a in
+    let end = room-after alone t target s out table a in
     let word = free-word alone t target s out table a in
     rw (length-sets out (s .written) (emit t), length-pick-set (eqb left 0) table (s .count) (startOf s)) (record {
       inside = omega arith;
@@ -123,10 +123,10 @@ write-sound alone t target s out table a =
       begun = λ _. start-lt alone t target s out table a;
     })
 
-shut-sound : (d : ℕ) (s : Writer) (out table : List ℕ) → Sound s (length out) (length table) → s .pending ≡ 0 → s .written < limit (length out)
-    → let r = shut d s out table in Sound (r .writer) (length (r .out)) (length (r .table))
-unfolding shut
-shut-sound d s out table h none byte =
+delta-sound : (d : ℕ) (s : Writer) (out table : List ℕ) → Sound s (length out) (length table) → s .pending ≡ 0 → s .written < limit (length out)
+    → let r = writeDelta d s out table in Sound (r .writer) (length (r .out)) (length (r .table))
+unfolding writeDelta
+delta-sound d s out table h none byte =
     rw (length-sets out (s .written) (d ∷ [])) (record {
       inside = omega arith;
       short = omega arith;
@@ -136,31 +136,31 @@ shut-sound d s out table h none byte =
     })
 
 near-sound : (x d : ℕ) (s : Writer) (out table : List ℕ) → Near x s out table
-    → let r = shut d s out table in Sound (r .writer) (length (r .out)) (length (r .table))
-near-sound x d s out table n = shut-sound d s out table (sound s _ _ (n .passed .good)) (none-pending s _ _ (n .passed)) (n .byte)
+    → let r = writeDelta d s out table in Sound (r .writer) (length (r .out)) (length (r .table))
+near-sound x d s out table n = delta-sound d s out table (sound s _ _ (n .passed .good)) (none-pending s _ _ (n .passed)) (n .byte)
 
 far-sound : (x : ℕ) (s : Writer) (out table : List ℕ) → Accepted true (pointerTo x s) x s out table
-    → let r = writeShut (pointerTo x s) s out table in Sound (r .writer) (length (r .out)) (length (r .table))
-unfolding write writeShut
+    → let r = writePointerDelta (pointerTo x s) s out table in Sound (r .writer) (length (r .out)) (length (r .table))
+unfolding write writePointerDelta
 far-sound x s out table a =
-    shut-sound _ _ _ _ (write-sound true (pointerTo x s) x s out table a) (pointer-last x s out table a)
-    (rw (length-sets out (s .written) (emit (pointerTo x s))) (behind true (pointerTo x s) x s out table a))
+    delta-sound _ _ _ _ (write-sound true (pointerTo x s) x s out table a) (pointer-last x s out table a)
+    (rw (length-sets out (s .written) (emit (pointerTo x s))) (room-after true (pointerTo x s) x s out table a))
 
 -- a state that is not bad, with the output and table that it leaves
-pub accepted-good : (c : Call) (s : Writer) (out table : List ℕ) → step c s out table .answer ≡ ok tt
-    → let r = step c s out table in bad (r .writer) (length (r .out)) (length (r .table)) ≡ false
-accepted-good c s out table =
-    accepted-by s out table (λ r. bad (r .writer) (length (r .out)) (length (r .table)) ≡ false)
-    (λ t x a. good _ _ _ (write-sound _ t x s out table a))
-    (λ x n. good _ _ _ (near-sound x _ s out table n))
-    (λ x a. good _ _ _ (far-sound x s out table a))
+pub accepted-not-bad : (c : Call) (s : Writer) (out table : List ℕ) → step c s out table .answer ≡ ok tt
+    → let r = step c s out table in badState (r .writer) (length (r .out)) (length (r .table)) ≡ false
+accepted-not-bad c s out table =
+    accepted-by s out table (λ r. badState (r .writer) (length (r .out)) (length (r .table)) ≡ false)
+    (λ t x a. not-bad _ _ _ (write-sound _ t x s out table a))
+    (λ x n. not-bad _ _ _ (near-sound x _ s out table n))
+    (λ x a. not-bad _ _ _ (far-sound x s out table a))
     c
 
 pub write-open : (alone : Bool) (t : Token) (target : ℕ) (s : Writer) (out table : List ℕ) → Accepted alone t target s out table
     → let r = write t s out table in Open (due (s .pending) (pendingOf t)) (r .writer) (r .out) (r .table)
 unfolding write
 write-open alone t target s out table a = record {
-  good = good _ _ _ (write-sound alone t target s out table a);
+  good = not-bad _ _ _ (write-sound alone t target s out table a);
   unclosed = refl;
   items = refl;
   room = rw (length-sets out (s .written) (emit t)) (omega (arith, a .fits, emit-pos t));
@@ -169,7 +169,7 @@ write-open alone t target s out table a = record {
 -- a token leaves a state from which the open value, if any, can be finished
 pub accepted-open : (c : Call) (s : Writer) (out table : List ℕ) → step c s out table .answer ≡ ok tt
     → let r = step c s out table in r .writer .closed ≡ false → Open (r .writer .pending) (r .writer) (r .out) (r .table)
-unfolding write shut writeShut
+unfolding write writeDelta writePointerDelta
 accepted-open c s out table =
     accepted-by s out table (λ r. r .writer .closed ≡ false → Open (r .writer .pending) (r .writer) (r .out) (r .table))
     (λ t x a _. write-open _ t x s out table a)
@@ -185,9 +185,9 @@ accepted-room c s out table e z = omega (arith, accepted-open c s out table e z 
 -- ---- a close
 
 -- in a closed state that is not bad each call is refused with CLOSED
-closed-step : (c : Call) (s : Writer) (out table : List ℕ) → bad s (length out) (length table) ≡ false → s .closed ≡ true
+closed-step : (c : Call) (s : Writer) (out table : List ℕ) → badState s (length out) (length table) ≡ false → s .closed ≡ true
     → step c s out table ≡ result (error CLOSED) s out table
-unfolding early judge judgeDelta
+unfolding early refusalOf refusalOfDelta
 closed-step c s out table g z =
     settled-by s out table (λ r. r ≡ result (error CLOSED) s out table) (λ _ _ _ _ _. rw (g, z)) (λ _ _ _. rw (g, z)) (moveOf c (s .written))
 
@@ -198,15 +198,15 @@ pub record Closed (x : ℕ) (s : Writer) (table : List ℕ) (r : Result) : Type 
   pub none : r .writer .pending ≡ 0
   pub near : s .written - x - 1 ≤ 255 → FinishesNone s table r
   pub far : 255 < s .written - x - 1 → Finishes (s .written) s table r
-  pub good : bad (r .writer) (length (r .out)) (length (r .table)) ≡ false
+  pub good : badState (r .writer) (length (r .out)) (length (r .table)) ≡ false
   pub later : (c : Call) → step c (r .writer) (r .out) (r .table) ≡ result (error CLOSED) (r .writer) (r .out) (r .table)
 
 pub accepted-close : (x : ℕ) (s : Writer) (out table : List ℕ) → step (close x) s out table .answer ≡ ok tt
     → Closed x s table (step (close x) s out table)
-unfolding shut writeShut
+unfolding writeDelta writePointerDelta
 accepted-close x s out table =
     close-by s out table (Closed x s table) x
-    (λ b n. let g = good _ _ _ (near-sound x _ s out table n) in record {
+    (λ b n. let g = not-bad _ _ _ (near-sound x _ s out table n) in record {
       closed = refl;
       none = none-pending s _ _ (n .passed);
       near = λ _. near-none _ s out table;
@@ -214,7 +214,7 @@ accepted-close x s out table =
       good = g;
       later = λ c. closed-step c _ _ _ g refl;
     })
-    (λ b a. let g = good _ _ _ (far-sound x s out table a) in let f = far-last x s out table a in record {
+    (λ b a. let g = not-bad _ _ _ (far-sound x s out table a) in let f = far-last x s out table a in record {
       closed = refl;
       none = f .none;
       near = λ h. absurd (omega arith);

@@ -8,17 +8,17 @@ use Rattle.prelude.specs.Search.{among, rank}
 use Rattle.leb128.specs.Leb.{get}
 use Rattle.kind.specs.Kind.{rule}
 use Rattle.token.specs.Scan.{getIf, number, body, scanKind, scan}
-use Rattle.scan.specs.Told.{seen, scanAt}
+use Rattle.scan.specs.Answers.{headOf, scanAt}
 use Rattle.utf8.specs.Text.{lead, next, textFrom}
-use Rattle.region.specs.Region.{gate, inside, peek}
-use Rattle.read.specs.Read.{shown, readIn}
-use Rattle.items.specs.Items.{walk, startsIn, itemOn, itemIn}
-use Rattle.pass.specs.Walk as walks
+use Rattle.reader_region.specs.Region.{regionLen, inRegion, peekIn}
+use Rattle.reader_value.specs.Value.{valueOn, readIn}
+use Rattle.reader_items.specs.Items.{skipItems, startsIn, itemOn, itemIn}
+use Rattle.checker_value.specs.Walk as walks
 use Rattle.checker.specs.Check as check
-use Rattle.depth.specs.Depth as deep
+use Rattle.depths_value.specs.Depth as deep
 use Rattle.depths.specs.Depths.{depthsOf}
-use Rattle.guarantees.specs.Samples.{Query, Reply, ask, samples}
+use Rattle.guarantees.specs.Samples.{Query, SampleAnswer, sampleAnswer, samples}
 
-pub the-samples : map (λ (x : (List ℕ) × Query × Reply). ask (x .0) (x .1)) samples ≡ map (λ (x : (List ℕ) × Query × Reply). x .2) samples
-unfolding ask bind guard then orError _>>_ _>>=_ run from among rank get rule getIf number body scanKind scan seen scanAt lead next textFrom gate inside peek walk shown readIn startsIn itemOn itemIn walks.aimed walks.judge walks.next walks.passed walks.turn walks.startsFrom check.entryAt check.checkIn check.checkOf deep.look deep.deepestFrom deep.depthAt deep.depthsTo depthsOf
+pub the-samples : map (λ (x : (List ℕ) × Query × SampleAnswer). sampleAnswer (x .0) (x .1)) samples ≡ map (λ (x : (List ℕ) × Query × SampleAnswer). x .2) samples
+unfolding sampleAnswer bind guard then orError _>>_ _>>=_ run from among rank get rule getIf number body scanKind scan headOf scanAt lead next textFrom regionLen inRegion peekIn skipItems valueOn readIn startsIn itemOn itemIn walks.hasTarget walks.tokenFault walks.nextToken walks.walkAfter walks.walkTurn walks.startsFrom check.entryAt check.checkIn check.checkOf deep.depthTurn deep.deepestFrom deep.depthAt deep.depthsTo depthsOf
 the-samples = refl

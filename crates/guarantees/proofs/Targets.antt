@@ -7,20 +7,20 @@ use Rattle.prelude.proofs.Searches.{among-by}
 use Rattle.values.specs.Values.{starts}
 use Rattle.values.proofs.Laws.{length-starts}
 use Rattle.writer.specs.Step.{Call}
-use Rattle.guarantees.specs.Model.{Part, blank, startsOf, valuesAt}
-use Rattle.guarantees.specs.History.{notes}
+use Rattle.guarantees.specs.Model.{Part, emptyModel, modelStarts, valuesAt}
+use Rattle.guarantees.specs.History.{modelRun}
 use Rattle.guarantees.specs.ReadsBack.{Holds, Names}
 use Rattle.guarantees.proofs.Models.{values-append, length-values, start-lt}
 use Rattle.guarantees.proofs.Hops.{starts-before}
-use Rattle.guarantees.proofs.Kept.{holds-fit, kept-any}
+use Rattle.guarantees.proofs.Invariant.{holds-fit, invariant-any}
 
-pub targets-earlier : (cs : List Call) (n m : ℕ) → let b = notes cs blank n m .model in
+pub targets-earlier : (cs : List Call) (n m : ℕ) → let b = modelRun cs emptyModel n m .model in
     (j q : ℕ) (p : Part) → Holds (b .finished) j q p → 14 ≤ p .kind → Names b j q p
-unfolding startsOf
+unfolding modelStarts
 targets-earlier cs n m j q p h k =
-    let b = notes cs blank n m .model in
+    let b = modelRun cs emptyModel n m .model in
     let a = valuesAt 0 (h .before) in
-    let named = holds-fit _ (b .finished) (kept-any cs n m .finished) j q p h .names k in
+    let named = holds-fit _ (b .finished) (invariant-any cs n m .finished) j q p h .names k in
     let (i, i<, e) = among-by (p .number) (starts 0 a) named in
     let split = ap (valuesAt 0) (h .values) ∙ values-append 0 (h .before) (h .value ∷ h .after) in
     record {

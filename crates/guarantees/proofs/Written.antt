@@ -4,13 +4,13 @@ use mathlib.Core.List.{map}
 use Rattle.prelude.specs.Search.{among}
 use Rattle.leb128.specs.Leb.{put}
 use Rattle.utf8.specs.Text.{lead, next, textFrom}
-use Rattle.float.specs.Bits.{little}
+use Rattle.little_endian.specs.LittleEndian.{little}
 use Rattle.kind.specs.Kind.{rule}
 use Rattle.token.specs.Token.{putIf, emit}
-use Rattle.writer.specs.Step.{early, judge, judgeDelta, write, shut, writeShut, put as puts, closeAt}
+use Rattle.writer.specs.Step.{early, refusalOf, refusalOfDelta, write, writeDelta, writePointerDelta, putToken as puts, closeAt}
 use Rattle.guarantees.specs.History.{runs}
 use Rattle.guarantees.specs.Written.{writes, expects, written}
 
 pub the-written : map writes written ≡ map expects written
-unfolding writes runs among put lead next textFrom little rule putIf emit early judge judgeDelta write shut writeShut puts closeAt
+unfolding writes runs among put lead next textFrom little rule putIf emit early refusalOf refusalOfDelta write writeDelta writePointerDelta puts closeAt
 the-written = refl

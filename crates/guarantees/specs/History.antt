@@ -2,7 +2,7 @@
 --
 --   Ran, runs cs ..    the answers of the calls cs one after the other, each given the state, output and table that the one before left; and
 --                      what the last left
---   Noted, notes cs .. the answers of the reference model, with an output of n bytes and a table of m words, and the model behind the last
+--   ModelRan, modelRun cs .. the answers of the reference model, with an output of n bytes and a table of m words, and the model behind the last
 --   Agree ..           the bytes written and the starts listed are the model's, with the items pending and the close. Nothing is said here of the
 --                      output and the table behind them
 use Prim.Native.Nat.{ℕ}
@@ -12,7 +12,7 @@ use lib.ListN.{length, take}
 use Rattle.prelude.specs.Answer.{ok, error}
 use Rattle.writer.specs.Step.{Call, Verdict, step}
 use Rattle.writer.specs.declared.Writer.{Writer}
-use Rattle.guarantees.specs.Model.{Model, lineOf, judgeOf, takenOf, bytesOf, startsOf, owed, isClosed}
+use Rattle.guarantees.specs.Model.{Model, requestOf, modelAnswer, modelAfter, modelBytes, modelStarts, pendingAt, isClosed}
 
 pub record Ran : Type 0 where
   pub answers : List Verdict
@@ -30,29 +30,29 @@ runs (c ∷ cs) s out table =
     let more = runs cs (r .writer) (r .out) (r .table) in
     ran (r .answer ∷ more .answers) (more .writer) (more .out) (more .table)
 
-pub record Noted : Type 0 where
+pub record ModelRan : Type 0 where
   pub answers : List Verdict
   pub model : Model
 
-abbrev pub noted : List Verdict → Model → Noted
-noted vs b = record { answers = vs; model = b }
+abbrev pub modelRan : List Verdict → Model → ModelRan
+modelRan vs b = record { answers = vs; model = b }
 
 -- a refused call changes nothing
-abbrev pub kept : Verdict → Model → Model → Model
-kept (ok u) b next = next
-kept (error f) b next = b
+abbrev pub unlessRefused : Verdict → Model → Model → Model
+unlessRefused (ok u) b next = next
+unlessRefused (error f) b next = b
 
-unfoldable pub notes : List Call → Model → ℕ → ℕ → Noted
-notes [] b n m = noted [] b
-notes (c ∷ cs) b n m =
-    let v = judgeOf (lineOf c) b n m in
-    let more = notes cs (kept v b (takenOf (lineOf c) b)) n m in
-    noted (v ∷ more .answers) (more .model)
+unfoldable pub modelRun : List Call → Model → ℕ → ℕ → ModelRan
+modelRun [] b n m = modelRan [] b
+modelRun (c ∷ cs) b n m =
+    let v = modelAnswer (requestOf c) b n m in
+    let more = modelRun cs (unlessRefused v b (modelAfter (requestOf c) b)) n m in
+    modelRan (v ∷ more .answers) (more .model)
 
 pub record Agree (s : Writer) (out table : List ℕ) (b : Model) : Type 0 where
-  pub bytes : take (s .written) out ≡ bytesOf b
-  pub written : s .written ≡ length (bytesOf b)
-  pub starts : take (s .count) table ≡ startsOf b
-  pub count : s .count ≡ length (startsOf b)
-  pub pending : s .pending ≡ owed (b .stage)
+  pub bytes : take (s .written) out ≡ modelBytes b
+  pub written : s .written ≡ length (modelBytes b)
+  pub starts : take (s .count) table ≡ modelStarts b
+  pub count : s .count ≡ length (modelStarts b)
+  pub pending : s .pending ≡ pendingAt (b .stage)
   pub closed : s .closed ≡ isClosed (b .stage)

@@ -3,7 +3,7 @@ pub mod Accepts
 -- what its refusals mean
 pub mod Refused
 -- what the pages say of a token
-pub mod Tells
+pub mod TokenValues
 -- the tokens of a file's values by their place, and where following comes to
 pub mod Places
 -- document 01's samples
@@ -17,6 +17,6 @@ pub mod ReadsBack
 -- the calls that write values again
 pub mod Rewrites
 -- what reading must tell of what a call wrote
-pub mod Said
+pub mod CallValues
 -- lists of calls, and the bytes that they write
 pub mod Written

@@ -3,24 +3,27 @@
 --   Part               what a call puts down: its kind, its number, the argument count of a variant of many, and its body. The number is the
 --                      table's n (of a text or byte string its length, of a float 0 for 4 bytes and 1 for 8), but of a reference or pointer its
 --                      target, the offset that was handed in
---   Line, lineOf c     what the call c asks for: a part, or a close at an offset
+--   Request, requestOf c
+--                      what the call c asks for: a part, or a close at an offset
 --   formOf q p         the token of p in the form of a file, with its header at q: a target is told by its distance. `-` stops at 0: where the
 --                      target is not below q, it is no start and p is BAD_TARGET
---   Plain              a value: the part that began it, and the items that it has taken
+--   ModelValue         a value: the part that began it, and the items that it has taken
 --   valueAt, valuesAt  values in the form of a file, the first at an offset
 --   Stage              no value is open; one is, as far as it got; or the model is closed, with this delta byte
---   Model, blank       the finished values in order, and the stage; the model before any call
---   bytesOf b          the bytes: those of the finished values, those of the open one, and the delta
---   startsOf b         the starts of the finished values: each counts the bytes before it
---   owes v, owed g     the items still pending of a value, and at a stage
+--   Model, emptyModel  the finished values in order, and the stage; the model before any call
+--   modelBytes b       the bytes: those of the finished values, those of the open one, and the delta
+--   modelStarts b      the starts of the finished values: each counts the bytes before it
+--   pendingIn v, pendingAt g
+--                      the items still pending of a value, and at a stage
 --   grown g p          the value that p begins, or is the next item of
 --   settle vs v        v behind the finished values vs: finished when no item of it is pending, and else open
 --   firstOf ..         the first reason to refuse, in document 01's order. BAD_STATE is none: the model is handed no state
---   roomOf b n         the bytes left for parts, with an output of n bytes
+--   modelRoom b n      the bytes left for parts, with an output of n bytes
 --   backTo e b         the delta that would name the value at e
---   judgeOf l b n m    the answer to what a call asks for, with an output of n bytes and a table of m words. Each value has a byte, so that the
+--   modelAnswer l b n m
+--                      the answer to what a call asks for, with an output of n bytes and a table of m words. Each value has a byte, so that the
 --                      model's starts are all below its bytes, as targets must be
---   takenOf l b        the model after what was accepted
+--   modelAfter l b     the model after what was accepted
 use Prim.Native.Nat.{ℕ, _+_, _-_, min}
 use mathlib.Core.Bool.{Bool, true, false, not, _&&_}
 use mathlib.Core.List.{List, [], _∷_, _++_}
@@ -32,7 +35,7 @@ use Rattle.prelude.specs.Answer.{Answer, ok, error}
 use Rattle.prelude.specs.Search.{among}
 use Rattle.error.specs.Error.{LIMIT, CLOSED, OWED, BAD_TEXT, BAD_TARGET, FULL, NO_ROOM}
 use Rattle.utf8.specs.Text.{isText}
-use Rattle.float.specs.Bits.{little}
+use Rattle.little_endian.specs.LittleEndian.{little}
 use Rattle.kind.specs.Kind.{rule, pending, immediate}
 use Rattle.token.specs.Token.{Token, token, emit}
 use Rattle.values.specs.Values.{Value, tokens, bytes, region, starts}
@@ -50,38 +53,38 @@ pub record Part : Type 0 where
 abbrev pub part : ℕ → ℕ → ℕ → List ℕ → Part
 part k n a b = record { kind = k; number = n; args = a; body = b }
 
-pub data Line : Type 0 where
-  adds : Part → Line
-  ends : ℕ → Line
+pub data Request : Type 0 where
+  adds : Part → Request
+  ends : ℕ → Request
 
-abbrev pub lineOf : Call → Line
-lineOf (scalar False) = adds (part 0 0 0 [])
-lineOf (scalar True) = adds (part 0 1 0 [])
-lineOf (scalar Null) = adds (part 0 2 0 [])
-lineOf (integer (pos n)) = adds (part 1 n 0 [])
-lineOf (integer (negsuc n)) = adds (part 2 n 0 [])
-lineOf (float32 b) = adds (part 3 0 0 (little 4 b))
-lineOf (float64 b) = adds (part 3 1 0 (little 8 b))
-lineOf (text s) = adds (part 4 (length s) 0 s)
-lineOf (byteString s) = adds (part 5 (length s) 0 s)
-lineOf (openArray n) = adds (part 6 n 0 [])
-lineOf (openMap n) = adds (part 7 n 0 [])
-lineOf (openTag n) = adds (part 8 n 0 [])
-lineOf (variant i) = adds (part 10 i 0 [])
-lineOf (openVariant1 i) = adds (part 11 i 0 [])
-lineOf (openVariantN i n) = adds (part 12 i n [])
-lineOf (reference x) = adds (part 14 x 0 [])
-lineOf (pointer x) = adds (part 15 x 0 [])
-lineOf (close e) = ends e
+abbrev pub requestOf : Call → Request
+requestOf (scalar False) = adds (part 0 0 0 [])
+requestOf (scalar True) = adds (part 0 1 0 [])
+requestOf (scalar Null) = adds (part 0 2 0 [])
+requestOf (integer (pos n)) = adds (part 1 n 0 [])
+requestOf (integer (negsuc n)) = adds (part 2 n 0 [])
+requestOf (float32 b) = adds (part 3 0 0 (little 4 b))
+requestOf (float64 b) = adds (part 3 1 0 (little 8 b))
+requestOf (text s) = adds (part 4 (length s) 0 s)
+requestOf (byteString s) = adds (part 5 (length s) 0 s)
+requestOf (openArray n) = adds (part 6 n 0 [])
+requestOf (openMap n) = adds (part 7 n 0 [])
+requestOf (openTag n) = adds (part 8 n 0 [])
+requestOf (variant i) = adds (part 10 i 0 [])
+requestOf (openVariant1 i) = adds (part 11 i 0 [])
+requestOf (openVariantN i n) = adds (part 12 i n [])
+requestOf (reference x) = adds (part 14 x 0 [])
+requestOf (pointer x) = adds (part 15 x 0 [])
+requestOf (close e) = ends e
 
 -- ---- values, and their form in a file
 
-pub record Plain : Type 0 where
+pub record ModelValue : Type 0 where
   pub head : Part
   pub items : List Part
 
-abbrev pub plain : Part → List Part → Plain
-plain p ps = record { head = p; items = ps }
+abbrev pub modelValue : Part → List Part → ModelValue
+modelValue p ps = record { head = p; items = ps }
 
 unfoldable pub formOf : ℕ → Part → Token
 formOf q p = token (p .kind) (pick (leb 14 (p .kind)) (q - p .number - 1) (p .number)) (p .args) (p .body)
@@ -90,10 +93,10 @@ unfoldable pub formsOf : ℕ → List Part → List Token
 formsOf q [] = []
 formsOf q (p ∷ ps) = formOf q p ∷ formsOf (q + length (emit (formOf q p))) ps
 
-abbrev pub valueAt : ℕ → Plain → Value
+abbrev pub valueAt : ℕ → ModelValue → Value
 valueAt q v = record { head = formOf q (v .head); items = formsOf (q + length (emit (formOf q (v .head)))) (v .items) }
 
-unfoldable pub valuesAt : ℕ → List Plain → List Value
+unfoldable pub valuesAt : ℕ → List ModelValue → List Value
 valuesAt q [] = []
 valuesAt q (v ∷ vs) = valueAt q v ∷ valuesAt (q + length (bytes (tokens (valueAt q v)))) vs
 
@@ -101,10 +104,10 @@ valuesAt q (v ∷ vs) = valueAt q v ∷ valuesAt (q + length (bytes (tokens (val
 
 pub data Stage : Type 0 where
   between : Stage
-  within : Plain → Stage
+  within : ModelValue → Stage
   closed : ℕ → Stage
 
-abbrev pub openOf : Stage → List Plain
+abbrev pub openOf : Stage → List ModelValue
 openOf between = []
 openOf (within v) = v ∷ []
 openOf (closed d) = []
@@ -120,35 +123,35 @@ isClosed (within v) = false
 isClosed (closed d) = true
 
 pub record Model : Type 0 where
-  pub finished : List Plain
+  pub finished : List ModelValue
   pub stage : Stage
 
-abbrev pub model : List Plain → Stage → Model
+abbrev pub model : List ModelValue → Stage → Model
 model vs g = record { finished = vs; stage = g }
 
-abbrev pub blank : Model
-blank = model [] between
+abbrev pub emptyModel : Model
+emptyModel = model [] between
 
-unfoldable pub bytesOf : Model → List ℕ
-bytesOf b = region (valuesAt 0 (b .finished ++ openOf (b .stage))) ++ deltaOf (b .stage)
+unfoldable pub modelBytes : Model → List ℕ
+modelBytes b = region (valuesAt 0 (b .finished ++ openOf (b .stage))) ++ deltaOf (b .stage)
 
-unfoldable pub startsOf : Model → List ℕ
-startsOf b = starts 0 (valuesAt 0 (b .finished))
+unfoldable pub modelStarts : Model → List ℕ
+modelStarts b = starts 0 (valuesAt 0 (b .finished))
 
 -- ---- the reasons to refuse
 
-abbrev pub owes : Plain → ℕ
-owes v = pending (rule (v .head .kind)) (v .head .number) (v .head .args) - length (v .items)
+abbrev pub pendingIn : ModelValue → ℕ
+pendingIn v = pending (rule (v .head .kind)) (v .head .number) (v .head .args) - length (v .items)
 
-abbrev pub owed : Stage → ℕ
-owed between = 0
-owed (within v) = owes v
-owed (closed d) = 0
+abbrev pub pendingAt : Stage → ℕ
+pendingAt between = 0
+pendingAt (within v) = pendingIn v
+pendingAt (closed d) = 0
 
-abbrev pub grown : Stage → Part → Plain
-grown between p = plain p []
-grown (within v) p = plain (v .head) (v .items ++ (p ∷ []))
-grown (closed d) p = plain p []
+abbrev pub grown : Stage → Part → ModelValue
+grown between p = modelValue p []
+grown (within v) p = modelValue (v .head) (v .items ++ (p ∷ []))
+grown (closed d) p = modelValue p []
 
 abbrev pub firstOf : Bool → Bool → Bool → Bool → Bool → Bool → Answer ℕ (Unit {0})
 firstOf isClosed isOwed isBadText isBadTarget isFull hasNoRoom =
@@ -160,31 +163,31 @@ firstOf isClosed isOwed isBadText isBadTarget isFull hasNoRoom =
     (pick hasNoRoom (error NO_ROOM)
     (ok tt))))))
 
-abbrev pub roomOf : Model → ℕ → ℕ
-roomOf b n = min n LIMIT - 1 - length (bytesOf b)
+abbrev pub modelRoom : Model → ℕ → ℕ
+modelRoom b n = min n LIMIT - 1 - length (modelBytes b)
 
 abbrev pub backTo : ℕ → Model → ℕ
-backTo e b = length (bytesOf b) - e - 1
+backTo e b = length (modelBytes b) - e - 1
 
-abbrev pub judgeOf : Line → Model → ℕ → ℕ → Answer ℕ (Unit {0})
-judgeOf (adds p) b n m =
-    firstOf (isClosed (b .stage)) (not (immediate (rule (p .kind))) && ltb 0 (owed (b .stage))) (eqb (p .kind) 4 && not (isText (p .body)))
-    (leb 14 (p .kind) && not (among (p .number) (startsOf b))) (eqb (owed (b .stage)) 0 && leb m (length (b .finished)))
-    (ltb (roomOf b n) (length (emit (formOf (length (bytesOf b)) p)) + owes (grown (b .stage) p)))
+abbrev pub modelAnswer : Request → Model → ℕ → ℕ → Answer ℕ (Unit {0})
+modelAnswer (adds p) b n m =
+    firstOf (isClosed (b .stage)) (not (immediate (rule (p .kind))) && ltb 0 (pendingAt (b .stage))) (eqb (p .kind) 4 && not (isText (p .body)))
+    (leb 14 (p .kind) && not (among (p .number) (modelStarts b))) (eqb (pendingAt (b .stage)) 0 && leb m (length (b .finished)))
+    (ltb (modelRoom b n) (length (emit (formOf (length (modelBytes b)) p)) + pendingIn (grown (b .stage) p)))
 -- a delta byte reaches back 256 bytes; farther back, a pointer is a new value, and the room holds back a byte for its delta
-judgeOf (ends e) b n m =
+modelAnswer (ends e) b n m =
     let far = ltb 255 (backTo e b) in
-    firstOf (isClosed (b .stage)) (ltb 0 (owed (b .stage))) false (not (among e (startsOf b))) (far && leb m (length (b .finished)))
-    (pick far (ltb (roomOf b n) (length (emit (formOf (length (bytesOf b)) (part 15 e 0 []))))) (leb (min n LIMIT) (length (bytesOf b))))
+    firstOf (isClosed (b .stage)) (ltb 0 (pendingAt (b .stage))) false (not (among e (modelStarts b))) (far && leb m (length (b .finished)))
+    (pick far (ltb (modelRoom b n) (length (emit (formOf (length (modelBytes b)) (part 15 e 0 []))))) (leb (min n LIMIT) (length (modelBytes b))))
 
 -- ---- what was accepted
 
-abbrev pub settle : List Plain → Plain → Model
-settle vs v = pick (eqb (owes v) 0) (model (vs ++ (v ∷ [])) between) (model vs (within v))
+abbrev pub settle : List ModelValue → ModelValue → Model
+settle vs v = pick (eqb (pendingIn v) 0) (model (vs ++ (v ∷ [])) between) (model vs (within v))
 
-abbrev pub takenOf : Line → Model → Model
-takenOf (adds p) b = settle (b .finished) (grown (b .stage) p)
-takenOf (ends e) b =
+abbrev pub modelAfter : Request → Model → Model
+modelAfter (adds p) b = settle (b .finished) (grown (b .stage) p)
+modelAfter (ends e) b =
     let p = part 15 e 0 [] in
-    pick (ltb 255 (backTo e b)) (model (b .finished ++ (plain p [] ∷ [])) (closed (length (emit (formOf (length (bytesOf b)) p)) - 1)))
+    pick (ltb 255 (backTo e b)) (model (b .finished ++ (modelValue p [] ∷ [])) (closed (length (emit (formOf (length (modelBytes b)) p)) - 1)))
     (model (b .finished) (closed (backTo e b)))

@@ -1,7 +1,8 @@
 -- The tokens of a file's values by their place, and where following comes to.
 --
---   Stands vs j q t      t is a token of value number j of the values vs, its head or an item, and its header is at q
---   Comes file vs j q    following from q comes to the start of value number `number`, which is no pointer; `hops` and `number` make at most j
+--   TokenAt vs j q t     t is a token of value number j of the values vs, its head or an item, and its header is at q
+--   FollowsTo file vs j q
+--                        following from q comes to the start of value number `number`, which is no pointer; `hops` and `number` make at most j
 use Prim.Native.Nat.{ℕ, _+_, _≤_}
 use mathlib.Core.Path.{_≡_}
 use mathlib.Core.List.{List, _∷_, _++_}
@@ -9,9 +10,9 @@ use lib.ListN.{length, getD}
 use Rattle.prelude.specs.Answer.{ok}
 use Rattle.token.specs.Token.{Token}
 use Rattle.values.specs.Values.{Value, tokens, bytes, region, starts}
-use Rattle.pointers.specs.Pointers.{followOf}
+use Rattle.reader_follow.specs.Follow.{followOf}
 
-pub record Stands (vs : List Value) (j q : ℕ) (t : Token) : Type 0 where
+pub record TokenAt (vs : List Value) (j q : ℕ) (t : Token) : Type 0 where
   pub before : List Value
   pub value : Value
   pub after : List Value
@@ -22,7 +23,7 @@ pub record Stands (vs : List Value) (j q : ℕ) (t : Token) : Type 0 where
   pub tokens : tokens value ≡ front ++ (t ∷ back)
   pub place : q ≡ length (region before) + length (bytes front)
 
-pub record Comes (file : List ℕ) (vs : List Value) (j q : ℕ) : Type 0 where
+pub record FollowsTo (file : List ℕ) (vs : List Value) (j q : ℕ) : Type 0 where
   pub before : List Value
   pub value : Value
   pub after : List Value

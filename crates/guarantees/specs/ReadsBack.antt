@@ -3,7 +3,7 @@
 --   Holds vs j q p     p is a part of value number j of the values vs, its head or an item, and its header is at q
 --   Names b j q p      p at q, a part of value number j of the model b, names a finished value before that one: its start is p's number, the offset
 --                      that was handed in
---   toldOf q p         what reading must tell of p at q: of a reference or pointer the offset that was handed in
+--   valueOfPart q p    what reading must tell of p at q: of a reference or pointer the offset that was handed in
 --   GivesBack file vs entry
 --                      the file is well formed, with the values vs; check, with enough words, accepts it, with their starts and this entry;
 --                      reading, items and bodies tell the values vs
@@ -22,23 +22,23 @@ use Rattle.prelude.specs.Answer.{ok, error}
 use Rattle.error.specs.Error.{fault, NO_ITEM, WRONG_KIND}
 use Rattle.kind.specs.Kind.{rule, immediate}
 use Rattle.values.specs.Values.{tokens, bytes, region, starts, WellFormed}
-use Rattle.read.specs.Read.{readOf}
-use Rattle.read.specs.declared.Value.{Value}
-use Rattle.read.specs.declared.Value.the-variants.{Reference, Pointer}
-use Rattle.items.specs.Items.{skipOf, itemOf}
-use Rattle.body.specs.Body.{bodyOf, bodyBytes}
+use Rattle.reader_value.specs.Value.{readOf}
+use Rattle.reader_value.specs.declared.Value.{Value}
+use Rattle.reader_value.specs.declared.Value.the-variants.{Reference, Pointer}
+use Rattle.reader_items.specs.Items.{skipOf, itemOf}
+use Rattle.reader_body.specs.Body.{bodyPlaceOf, bodyOf}
 use Rattle.checker.specs.Check.{checked, filled, checkOf}
-use Rattle.guarantees.specs.Tells.{behind, tellOf}
-use Rattle.guarantees.specs.Model.{Part, part, Plain, plain, formOf, formsOf, valueAt, valuesAt, Model, bytesOf, startsOf, backTo}
+use Rattle.guarantees.specs.TokenValues.{tokenEnd, valueOfToken}
+use Rattle.guarantees.specs.Model.{Part, part, ModelValue, modelValue, formOf, formsOf, valueAt, valuesAt, Model, modelBytes, modelStarts, backTo}
 
 -- where the value behind the values vs starts
-abbrev pub endOf : List Plain → ℕ
+abbrev pub endOf : List ModelValue → ℕ
 endOf vs = length (region (valuesAt 0 vs))
 
-pub record Holds (vs : List Plain) (j q : ℕ) (p : Part) : Type 0 where
-  pub before : List Plain
-  pub value : Plain
-  pub after : List Plain
+pub record Holds (vs : List ModelValue) (j q : ℕ) (p : Part) : Type 0 where
+  pub before : List ModelValue
+  pub value : ModelValue
+  pub after : List ModelValue
   pub values : vs ≡ before ++ (value ∷ after)
   pub numbered : length before ≡ j
   pub front : List Part
@@ -49,28 +49,28 @@ pub record Holds (vs : List Plain) (j q : ℕ) (p : Part) : Type 0 where
 pub record Names (b : Model) (j q : ℕ) (p : Part) : Type 0 where
   pub number : ℕ
   pub earlier : number < j
-  pub start : getD (startsOf b) number 0 ≡ p .number
+  pub start : getD (modelStarts b) number 0 ≡ p .number
   pub behind : p .number < q
 
-unfoldable pub toldOf : ℕ → Part → Value
-toldOf q p = pick (leb 14 (p .kind)) (pick (eqb (p .kind) 14) (Reference (p .number)) (Pointer (p .number))) (tellOf q (formOf q p))
+unfoldable pub valueOfPart : ℕ → Part → Value
+valueOfPart q p = pick (leb 14 (p .kind)) (pick (eqb (p .kind) 14) (Reference (p .number)) (Pointer (p .number))) (valueOfToken q (formOf q p))
 
-pub record GivesBack (file : List ℕ) (vs : List Plain) (entry : ℕ) : Type 0 where
+pub record GivesBack (file : List ℕ) (vs : List ModelValue) (entry : ℕ) : Type 0 where
   pub wellFormed : WellFormed file (valuesAt 0 vs) entry
   -- count, entry and starts
   pub accepted : (cap : ℕ) → length vs ≤ cap → checkOf file cap ≡ checked (ok (length vs, entry)) (filled cap (starts 0 (valuesAt 0 vs)))
   -- kinds, numbers and targets, of values and items
-  pub read : (j q : ℕ) (p : Part) → Holds vs j q p → readOf file q ≡ ok (toldOf q p)
+  pub read : (j q : ℕ) (p : Part) → Holds vs j q p → readOf file q ≡ ok (valueOfPart q p)
   pub body : (j q : ℕ) (p : Part) → Holds vs j q p → (p .kind ≡ 4) ⊎ (p .kind ≡ 5)
-      → (bodyOf file q ≡ ok (behind q (formOf q p) - length (p .body), length (p .body))) × (bodyBytes file q ≡ p .body)
+      → (bodyPlaceOf file q ≡ ok (tokenEnd q (formOf q p) - length (p .body), length (p .body))) × (bodyOf file q ≡ p .body)
   -- where a value ends; where its items start, that there are no more, and that an immediate has none
-  pub skip : (a : List Plain) (v : Plain) (b : List Plain) → vs ≡ a ++ (v ∷ b)
+  pub skip : (a : List ModelValue) (v : ModelValue) (b : List ModelValue) → vs ≡ a ++ (v ∷ b)
       → skipOf file (endOf a) ≡ ok (endOf a + length (bytes (tokens (valueAt (endOf a) v))))
-  pub item : (a : List Plain) (v : Plain) (b : List Plain) → vs ≡ a ++ (v ∷ b) → (is : List Part) (p : Part) (js : List Part) → v .items ≡ is ++ (p ∷ js)
+  pub item : (a : List ModelValue) (v : ModelValue) (b : List ModelValue) → vs ≡ a ++ (v ∷ b) → (is : List Part) (p : Part) (js : List Part) → v .items ≡ is ++ (p ∷ js)
       → itemOf file (endOf a) (length is) ≡ ok (endOf a + length (bytes (formsOf (endOf a) (v .head ∷ is))))
-  pub none : (a : List Plain) (v : Plain) (b : List Plain) → vs ≡ a ++ (v ∷ b) → immediate (rule (v .head .kind)) ≡ false
+  pub none : (a : List ModelValue) (v : ModelValue) (b : List ModelValue) → vs ≡ a ++ (v ∷ b) → immediate (rule (v .head .kind)) ≡ false
       → (i : ℕ) → length (v .items) ≤ i → itemOf file (endOf a) i ≡ error (fault NO_ITEM (endOf a))
-  pub flat : (a : List Plain) (v : Plain) (b : List Plain) → vs ≡ a ++ (v ∷ b) → immediate (rule (v .head .kind)) ≡ true
+  pub flat : (a : List ModelValue) (v : ModelValue) (b : List ModelValue) → vs ≡ a ++ (v ∷ b) → immediate (rule (v .head .kind)) ≡ true
       → (i : ℕ) → itemOf file (endOf a) i ≡ error (fault WRONG_KIND (endOf a))
 
 pub record ReadsBack (b : Model) (e : ℕ) (c : Model) (file : List ℕ) : Type 0 where
@@ -78,4 +78,4 @@ pub record ReadsBack (b : Model) (e : ℕ) (c : Model) (file : List ℕ) : Type 
   pub near : backTo e b ≤ 255 → (c .finished ≡ b .finished) × GivesBack file (c .finished) e
   -- a pointer to it comes last, and is the entry
   pub far : 255 < backTo e b
-      → (c .finished ≡ b .finished ++ (plain (part 15 e 0 []) [] ∷ [])) × GivesBack file (c .finished) (length (bytesOf b))
+      → (c .finished ≡ b .finished ++ (modelValue (part 15 e 0 []) [] ∷ [])) × GivesBack file (c .finished) (length (modelBytes b))

@@ -18,8 +18,8 @@ use Rattle.prelude.specs.Search.{among}
 use Rattle.error.specs.Error.{Fault, LIMIT}
 use Rattle.kind.specs.Kind.{rule, counted, pending}
 use Rattle.token.specs.Token.{Token, emit}
-use Rattle.values.specs.Values.{Value, bytes, region, starts, Each, Sound, Item, Aimed, Values}
-use Rattle.pass.specs.Walk.{next}
+use Rattle.values.specs.Values.{Value, bytes, region, starts, Each, Sound, Item, HasTargets, Values}
+use Rattle.checker_value.specs.Walk.{nextToken}
 
 pub record Unnamed (file : List ℕ) (cap p : ℕ) : Type 0 where
   pub short : length file ≤ LIMIT
@@ -39,7 +39,7 @@ pub record Begun (cap len : ℕ) (vs : List Value) (t : Token) (is : List Token)
   pub room : length (region vs) + length (emit t) + counted (rule (t .kind)) (t .n) (t .args) ≤ len
   pub items : Each Item is
   pub count : length is + k ≡ pending (rule (t .kind)) (t .n) (t .args)
-  pub aimed : Aimed (starts 0 vs) (length (region vs)) (t ∷ is)
+  pub targets : HasTargets (starts 0 vs) (length (region vs)) (t ∷ is)
 
 abbrev pub Open : ℕ → ℕ → List Value → List Token → ℕ → Type 0
 Open cap len vs [] k = k ≡ 0
@@ -59,4 +59,4 @@ pub record Faulty (file : List ℕ) (cap p : ℕ) (f : Fault) : Type 0 where
   -- in the region; at its end only an item may be wanted
   pub inside : p ≤ length file - 1
   pub more : missing ≡ 0 → p < length file - 1
-  pub refused : error f ≡ next (take (length file - 1) file) cap (starts 0 values) missing p
+  pub refused : error f ≡ nextToken (take (length file - 1) file) cap (starts 0 values) missing p

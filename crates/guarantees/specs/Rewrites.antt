@@ -6,7 +6,7 @@
 --   callsOf q vs     the calls of values, the first at q: each value's head, then its items
 --   rewriting vs entry
 --                    the calls that write a file's values vs again, and close at its entry
---   again v s        the call that writes a value again which the reader tells as v, with the body s where it is a text or byte string: what
+--   callOfValue v s  the call that writes a value again which the reader tells as v, with the body s where it is a text or byte string: what
 --                    is told is enough
 --   AllOk as         each of the answers is `ok`
 --   Rewritten file entry out table
@@ -20,22 +20,22 @@ use lib.IntN.{pos, negsuc}
 use lib.ListN.{length, take, getD}
 use Rattle.prelude.specs.Pick.{pick}
 use Rattle.prelude.specs.Answer.{ok}
-use Rattle.float.specs.Bits.{value}
+use Rattle.little_endian.specs.LittleEndian.{fromLittle}
 use Rattle.token.specs.Token.{Token, emit}
 use Rattle.values.specs.Values.{Value, tokens, bytes, starts, Each, WellFormed}
 use Rattle.writer.specs.Step.{Call, scalar, integer, float32, float64, text, bytes as byteString, variant, reference, pointer, openArray, openMap, openTag, openVariant1, openVariantN, close, Verdict, fresh}
 use Rattle.writer.specs.Given.{Given}
 use Rattle.writer.specs.declared.Scalar.the-variants.{False, True, Null}
 use Rattle.guarantees.specs.History.{runs}
-use Rattle.read.specs.declared.Value.{Value as Told}
-use Rattle.read.specs.declared.Value.the-variants.{False as TellsFalse, True as TellsTrue, Null as TellsNull, Integer, Float32, Float64, Text, Bytes, Array, Map, Tag, Variant, Variant1, VariantN, Reference, Pointer}
+use Rattle.reader_value.specs.declared.Value.{Value as ReadValue}
+use Rattle.reader_value.specs.declared.Value.the-variants.{False as ReadFalse, True as ReadTrue, Null as ReadNull, Integer, Float32, Float64, Text, Bytes, Array, Map, Tag, Variant, Variant1, VariantN, Reference, Pointer}
 
-abbrev pub rows : ℕ → Token → List Call
-rows q t =
+abbrev pub callRows : ℕ → Token → List Call
+callRows q t =
     scalar (pick (eqb (t .n) 0) False (pick (eqb (t .n) 1) True Null))
     ∷ integer (pos (t .n))
     ∷ integer (negsuc (t .n))
-    ∷ pick (eqb (t .n) 0) (float32 (value (t .body))) (float64 (value (t .body)))
+    ∷ pick (eqb (t .n) 0) (float32 (fromLittle (t .body))) (float64 (fromLittle (t .body)))
     ∷ text (t .body)
     ∷ byteString (t .body)
     ∷ openArray (t .n)
@@ -51,7 +51,7 @@ rows q t =
     ∷ []
 
 unfoldable pub callOf : ℕ → Token → Call
-callOf q t = getD (rows q t) (t .kind) (scalar Null)
+callOf q t = getD (callRows q t) (t .kind) (scalar Null)
 
 unfoldable pub callsAt : ℕ → List Token → List Call
 callsAt q [] = []
@@ -64,23 +64,23 @@ callsOf q (v ∷ vs) = callsAt q (tokens v) ++ callsOf (q + length (bytes (token
 abbrev pub rewriting : List Value → ℕ → List Call
 rewriting vs entry = callsOf 0 vs ++ (close entry ∷ [])
 
-abbrev pub again : Told → List ℕ → Call
-again TellsFalse s = scalar False
-again TellsTrue s = scalar True
-again TellsNull s = scalar Null
-again (Integer z) s = integer z
-again (Float32 b) s = float32 b
-again (Float64 b) s = float64 b
-again (Text first len) s = text s
-again (Bytes first len) s = byteString s
-again (Array n first) s = openArray n
-again (Map n items first) s = openMap n
-again (Tag n first) s = openTag n
-again (Variant i) s = variant i
-again (Variant1 i first) s = openVariant1 i
-again (VariantN i n first) s = openVariantN i n
-again (Reference x) s = reference x
-again (Pointer x) s = pointer x
+abbrev pub callOfValue : ReadValue → List ℕ → Call
+callOfValue ReadFalse s = scalar False
+callOfValue ReadTrue s = scalar True
+callOfValue ReadNull s = scalar Null
+callOfValue (Integer z) s = integer z
+callOfValue (Float32 b) s = float32 b
+callOfValue (Float64 b) s = float64 b
+callOfValue (Text first len) s = text s
+callOfValue (Bytes first len) s = byteString s
+callOfValue (Array n first) s = openArray n
+callOfValue (Map n items first) s = openMap n
+callOfValue (Tag n first) s = openTag n
+callOfValue (Variant i) s = variant i
+callOfValue (Variant1 i first) s = openVariant1 i
+callOfValue (VariantN i n first) s = openVariantN i n
+callOfValue (Reference x) s = reference x
+callOfValue (Pointer x) s = pointer x
 
 abbrev pub AllOk : List Verdict → Type 0
 AllOk vs = Each (λ v. v ≡ ok tt) vs

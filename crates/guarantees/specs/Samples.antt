@@ -2,18 +2,20 @@
 -- one thing, and stand there for each.
 --
 --   Query        check and depths, each with tables of four words; an item of the value at an offset; the value at an offset
---   Reply        check's answer and table, and the depths; an offset; a value
---   ask file q   what the definitions that the contracts cite tell
+--   SampleAnswer
+--                check's answer and table, and the depths; an offset; a value
+--   sampleAnswer file q
+--                what the definitions that the contracts cite tell
 use Prim.Native.Nat.{ℕ, _-_, _^_}
 use mathlib.Core.List.{List, [], _∷_, _++_}
 use lib.IntN.{negsuc}
 use lib.ListN.{replicate}
 use Rattle.prelude.specs.Answer.{Answer, ok, error}
 use Rattle.error.specs.Error.{Fault, fault, EMPTY, TRUNC, OVERLONG, RANGE, NESTED, BAD_TARGET, BAD_ENTRY, NO_ITEM}
-use Rattle.read.specs.Read.{readOf}
-use Rattle.read.specs.declared.Value.{Value}
-use Rattle.read.specs.declared.Value.the-variants.{Integer}
-use Rattle.items.specs.Items.{itemOf}
+use Rattle.reader_value.specs.Value.{readOf}
+use Rattle.reader_value.specs.declared.Value.{Value}
+use Rattle.reader_value.specs.declared.Value.the-variants.{Integer}
+use Rattle.reader_items.specs.Items.{itemOf}
 use Rattle.checker.specs.Check.{Checked, checked, checkOf}
 use Rattle.depths.specs.Depths.{depthsOf}
 
@@ -22,21 +24,21 @@ pub data Query : Type 0 where
   item : ℕ → ℕ → Query
   read : ℕ → Query
 
-pub data Reply : Type 0 where
-  table : Checked → List ℕ → Reply
-  offset : Answer Fault ℕ → Reply
-  value : Answer Fault Value → Reply
+pub data SampleAnswer : Type 0 where
+  table : Checked → List ℕ → SampleAnswer
+  offset : Answer Fault ℕ → SampleAnswer
+  value : Answer Fault Value → SampleAnswer
 
-unfoldable pub ask : List ℕ → Query → Reply
-ask file check = table (checkOf file 4) (depthsOf file 4 4 .depths)
-ask file (item at i) = offset (itemOf file at i)
-ask file (read at) = value (readOf file at)
+unfoldable pub sampleAnswer : List ℕ → Query → SampleAnswer
+sampleAnswer file check = table (checkOf file 4) (depthsOf file 4 4 .depths)
+sampleAnswer file (item at i) = offset (itemOf file at i)
+sampleAnswer file (read at) = value (readOf file at)
 
 -- an error of check leaves zeros
-abbrev refused : ℕ → ℕ → Reply
+abbrev refused : ℕ → ℕ → SampleAnswer
 refused f place = table (checked (error (fault f place)) (replicate 4 0)) (replicate 4 0)
 
-abbrev pub samples : List ((List ℕ) × Query × Reply)
+abbrev pub samples : List ((List ℕ) × Query × SampleAnswer)
 samples =
     ([], check, refused EMPTY 0)
     ∷ (0x00 ∷ [], check, refused BAD_ENTRY 0)

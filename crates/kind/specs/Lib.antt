@@ -1,4 +1,4 @@
 -- the kind table
 pub mod Kind
 -- the code's packed form of a rule
-pub mod Packed
+pub mod Internal

@@ -1,7 +1,7 @@
 // The kind table (document 01, "Row of a file"): one constant table of sixteen entries, by the high nibble of a header.
 ghost use mathlib.Core.Path.{_≡_};
 ghost use Rattle.kind.specs.Kind.{rule, immediate};
-ghost use Rattle.kind.specs.Packed.{unpack, bound};
+ghost use Rattle.kind.specs.Internal.{unpack, bound};
 
 // What a kind may hold.
 pub struct Rule {
@@ -67,7 +67,7 @@ const KINDS: [u16; 16] = [
     16 + BITS_64,
 ];
 
-fn most(code: u16) -> u64
+fn bound(code: u16) -> u64
     ensures { λ r. ⌜ r ≡ bound code ⌝ }
 {
     if code == 5 {
@@ -87,7 +87,7 @@ fn unpacked(c: u16) -> Rule
 {
     Rule {
         lows: (c % 32) as u8,
-        most: most(c / BOUND % 8),
+        most: bound(c / BOUND % 8),
         fixed: (c / FIXED % 2 * 4) as u64,
         scale: (c / SCALE % 8) as u64,
         single: (c / SINGLE % 2) as u64,

@@ -16,8 +16,8 @@ use Rattle.prelude.proofs.Tests.{split}
 use Rattle.prelude.proofs.Readers.{measured-guard, measured-ok}
 use Rattle.error.specs.Error.{TRUNC}
 use Rattle.leb128.specs.Leb.{get}
-use Rattle.leb128.specs.Told.{told}
-use Rattle.leb128.specs.Stages.{last, tenth, raised, valueOf}
+use Rattle.leb128.specs.Answers.{answerOf}
+use Rattle.leb128.specs.Internal.{last, tenth, raised, valueOf}
 use Rattle.leb128.specs.declared.GetResult.{GetResult}
 use Rattle.leb128.specs.declared.GetResult.the-variants.{Ok, Err}
 use Rattle.leb128.proofs.Laws.{get-ends}
@@ -49,7 +49,7 @@ get-step (suc k) least (b ∷ s) ne nk =
     (split b 128 (λ small. rw (lt-ltb b 128 small, measured-guard)) (λ large. rw (le-ltb b 128 large, raised-then)))
 
 -- of at most j bytes after the first
-pub get-small : (k least : ℕ) (s : List ℕ) (r : GetResult) → told r ≡ measured (get k least s) → (j : ℕ) → k ≤ j → valueOf r < 2 * 128 ^ j
+pub get-small : (k least : ℕ) (s : List ℕ) (r : GetResult) → answerOf r ≡ measured (get k least s) → (j : ℕ) → k ≤ j → valueOf r < 2 * 128 ^ j
 get-small k least s (Ok n left) e j h =
     measured-ok (get k least s) e (λ rest q l. omega (arith, get-ends k least n s rest q .below, pow-le-pow-right {n = 128} (lit< tt) {i = k} {j = j} h))
 get-small k least s (Err f) e j h = omega (arith, one-le-pow j 128 (lit< tt))

@@ -1,6 +1,6 @@
 -- the numbers: `put`, `get`
 pub mod Leb
 -- what the answer of `get` means
-pub mod Told
+pub mod Answers
 -- what the private functions make
-pub mod Stages
+pub mod Internal

@@ -7,8 +7,8 @@ ghost use Rattle.prelude.specs.Answer.{measured};
 ghost use Rattle.prelude.specs.Bytes.{store, stored};
 ghost use Rattle.prelude.proofs.Parts.{Put};
 ghost use Rattle.leb128.specs.Leb.{put, get};
-ghost use Rattle.leb128.specs.Told.{told};
-ghost use Rattle.leb128.specs.Stages.{last, tenth, raised, valueOf};
+ghost use Rattle.leb128.specs.Answers.{answerOf};
+ghost use Rattle.leb128.specs.Internal.{last, tenth, raised, valueOf};
 
 // The answer of `get`.
 pub enum GetResult {
@@ -26,7 +26,7 @@ fn wide(b: u8) -> u64
 
 // A last byte, which is at least `least`: 0 where it is the first too, and else 1.
 fn last_byte(b: u8, least: u8, left: usize) -> GetResult
-    ensures { λ r. ⌜ told r ≡ last least b left ⌝ }
+    ensures { λ r. ⌜ answerOf r ≡ last least b left ⌝ }
 {
     // OVERLONG: a last byte 0 after others
     if b < least {
@@ -39,7 +39,7 @@ fn last_byte(b: u8, least: u8, left: usize) -> GetResult
 }
 
 fn tenth_byte(b: u8, least: u8, left: usize) -> GetResult
-    ensures { λ r. ⌜ told r ≡ tenth least b left ⌝ }
+    ensures { λ r. ⌜ answerOf r ≡ tenth least b left ⌝ }
 {
     // RANGE: the tenth byte is over 1
     if 1 < b {
@@ -51,7 +51,7 @@ fn tenth_byte(b: u8, least: u8, left: usize) -> GetResult
 // The bits `low` below the number that follows them, whose lowest bit counts `unit`.
 fn with_low(low: u64, unit: u64, high: GetResult) -> GetResult
     requires { ⌜ low + unit * valueOf high < 2 ^ 64 ⌝ }
-    ensures { λ r. ⌜ told r ≡ raised low unit (told high) ⌝ }
+    ensures { λ r. ⌜ answerOf r ≡ raised low unit (answerOf high) ⌝ }
 {
     match high {
         GetResult::Ok { value, left } => GetResult::Ok {
@@ -65,7 +65,7 @@ fn with_low(low: u64, unit: u64, high: GetResult) -> GetResult
 // Reads a number of which k bytes more than the first are allowed.
 fn get_from(s: &[u8], k: usize, least: u8) -> GetResult
     requires { ⌜ k ≤ 9 ⌝ }
-    ensures { λ r. ⌜ told r ≡ measured (get k least (now (s .entry))) ⌝ }
+    ensures { λ r. ⌜ answerOf r ≡ measured (get k least (now (s .entry))) ⌝ }
 {
     // TRUNC: a byte is wanted at the end
     if s.len() == 0 {
@@ -84,7 +84,7 @@ fn get_from(s: &[u8], k: usize, least: u8) -> GetResult
 
 // Reads the number at the front of s.
 pub fn get(s: &[u8]) -> GetResult
-    ensures { λ r. ⌜ told r ≡ measured (get 9 0 (now (s .entry))) ⌝ }
+    ensures { λ r. ⌜ answerOf r ≡ measured (get 9 0 (now (s .entry))) ⌝ }
 {
     get_from(s, 9, 0)
 }

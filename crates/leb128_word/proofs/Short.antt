@@ -12,7 +12,7 @@ use borrow.Author.Tests.{lt-ltb, le-ltb, le-leb, ltb-true}
 use Rattle.prelude.specs.Answer.{ok, measured}
 use Rattle.prelude.proofs.Tests.{and-l, and-r}
 use Rattle.leb128.specs.Leb.{get}
-use Rattle.leb128.specs.Stages.{last}
+use Rattle.leb128.specs.Internal.{last}
 use Rattle.leb128.proofs.Steps.{get-step}
 
 module _ (s : List ℕ) (long : 2 ≤ length s) where
@@ -27,7 +27,7 @@ module _ (s : List ℕ) (long : 2 ≤ length s) where
       let pos : 0 < getD s 1 0 = ltb-true _ _ (and-l _ _ e) in
       let small : getD s 1 0 < 128 = ltb-true _ _ (and-r (ltb 0 (getD s 1 0)) _ e) in
       let second : getD (drop 1 s) 0 0 ≡ getD s 1 0 = getD-drop 1 s 0 0 in
-      let behind : length (drop 1 s) ≡ length s - 1 = length-drop 1 s in
+      let after : length (drop 1 s) ≡ length s - 1 = length-drop 1 s in
       let left : length s - 1 - 1 ≡ length s - 2 = omega arith in
       let own : getD s 1 0 % 128 ≡ getD s 1 0 = mod-eq-of-lt small in
       rw (
@@ -36,7 +36,7 @@ module _ (s : List ℕ) (long : 2 ≤ length s) where
         get-step 8 1 (drop 1 s) (λ z. omega arith) (λ z. omega arith),
         second,
         lt-ltb _ _ small,
-        behind,
+        after,
         left,
         own,
         le-leb 1 _ pos,

@@ -19,9 +19,9 @@ use borrow.Author.Tests.{lt-ltb, le-ltb, le-leb}
 use Rattle.prelude.specs.Answer.{Answer, got, guard, then, ok, measured}
 use Rattle.prelude.specs.Bytes.{Bytes}
 use Rattle.prelude.proofs.Tests.{split}
-use Rattle.float.specs.Bits.{value, bits}
+use Rattle.little_endian.specs.LittleEndian.{fromLittle, load}
 use Rattle.leb128.specs.Leb.{get}
-use Rattle.leb128_word.specs.Word.{marks, sevens}
+use Rattle.leb128_word.specs.Internal.{marks, sevens}
 
 -- ---- trailing zeros
 
@@ -74,33 +74,33 @@ sevens-last j b h = let none : b / 256 ≡ 0 = omega arith in rw (none, sevens-z
 -- ---- the number
 
 pub get-word : (over k least : ℕ) (p rest : List ℕ) → Bytes p → length p ≤ k → least ≤ 1
-    → (t : ℕ) → t ≡ trailingZeros (8 * length p + over) (marks (length p) (value p)) → t < 8 * length p
-    → 2 ^ (t + 1) / 256 ≤ value p % 2 ^ (t + 1)
-    → get k least (p ++ rest) ≡ got (sevens (length p) (value p % 2 ^ (t + 1))) (drop ((t + 1) / 8) (p ++ rest))
-unfolding get value guard then
+    → (t : ℕ) → t ≡ trailingZeros (8 * length p + over) (marks (length p) (fromLittle p)) → t < 8 * length p
+    → 2 ^ (t + 1) / 256 ≤ fromLittle p % 2 ^ (t + 1)
+    → get k least (p ++ rest) ≡ got (sevens (length p) (fromLittle p % 2 ^ (t + 1))) (drop ((t + 1) / 8) (p ++ rest))
+unfolding get fromLittle guard then
 get-word over k least [] rest bytes fits l t e h nz = absurd (omega arith)
 get-word over zero least (b ∷ p) rest bytes fits l t e h nz = absurd (omega arith)
 get-word over (suc k) least (b ∷ p) rest bytes fits l t e h nz =
     split b 128
     (λ small.
     let width : 8 * suc (length p) + over ≡ 7 + suc (8 * length p + over) = omega arith in
-    let seven : t ≡ 7 = e ∙ rw (width, marks-last (length p) b (value p) small, trailing-scale 7 (suc (8 * length p + over)) (1 + 2 * marks (length p) (value p)), trailing-odd (8 * length p + over) (marks (length p) (value p))) in
-    let own : (b + 256 * value p) % 256 ≡ b = omega arith in
+    let seven : t ≡ 7 = e ∙ rw (width, marks-last (length p) b (fromLittle p) small, trailing-scale 7 (suc (8 * length p + over)) (1 + 2 * marks (length p) (fromLittle p)), trailing-odd (8 * length p + over) (marks (length p) (fromLittle p))) in
+    let own : (b + 256 * fromLittle p) % 256 ≡ b = omega arith in
     let some : 1 ≤ b = omega (arith, rw seven at nz) in
     rw (seven, own, sevens-last (length p) b small, lt-ltb b 128 small, le-leb least b (omega arith)))
     (λ large.
-    let t' = trailingZeros (8 * length p + over) (marks (length p) (value p)) in
+    let t' = trailingZeros (8 * length p + over) (marks (length p) (fromLittle p)) in
     let width : 8 * suc (length p) + over ≡ 8 + (8 * length p + over) = omega arith in
-    let eight : t ≡ 8 + t' = e ∙ rw (width, marks-more (length p) b (value p) large (bytes .0), trailing-scale 8 (8 * length p + over) (marks (length p) (value p))) in
+    let eight : t ≡ 8 + t' = e ∙ rw (width, marks-more (length p) b (fromLittle p) large (bytes .0), trailing-scale 8 (8 * length p + over) (marks (length p) (fromLittle p))) in
     let unit : 2 ^ (8 + t' + 1) ≡ 2 ^ (t' + 1) * 256 = ap (λ x. 2 ^ x) (omega arith) ∙ pow-add 2 (t' + 1) 8 in
-    let after : (b + 256 * value p) / 256 ≡ value p = omega arith in
-    let first : (b + 256 * value p) % 256 ≡ b = omega arith in
-    let own : (b + 256 * value p) % (2 ^ (t' + 1) * 256) ≡ b + 256 * (value p % 2 ^ (t' + 1)) =
-    mod-mul (b + 256 * value p) (pow-pos (t' + 1)) (lit< tt) ∙ rw (after, first) (omega arith) in
-    let some : 2 ^ (t' + 1) / 256 ≤ value p % 2 ^ (t' + 1) = omega (arith, rw (eight, unit, own) at nz) in
+    let after : (b + 256 * fromLittle p) / 256 ≡ fromLittle p = omega arith in
+    let first : (b + 256 * fromLittle p) % 256 ≡ b = omega arith in
+    let own : (b + 256 * fromLittle p) % (2 ^ (t' + 1) * 256) ≡ b + 256 * (fromLittle p % 2 ^ (t' + 1)) =
+    mod-mul (b + 256 * fromLittle p) (pow-pos (t' + 1)) (lit< tt) ∙ rw (after, first) (omega arith) in
+    let some : 2 ^ (t' + 1) / 256 ≤ fromLittle p % 2 ^ (t' + 1) = omega (arith, rw (eight, unit, own) at nz) in
     let past : (8 + t' + 1) / 8 ≡ suc ((t' + 1) / 8) = omega arith in
     let rest-got = get-word over k 1 p rest (bytes .1) (omega arith) (le-refl 1) t' refl (omega arith) some in
-    rw (eight, unit, own, past, sevens-more (length p) b (value p % 2 ^ (t' + 1)) (bytes .0), le-ltb b 128 large, rest-got))
+    rw (eight, unit, own, past, sevens-more (length p) b (fromLittle p % 2 ^ (t' + 1)) (bytes .0), le-ltb b 128 large, rest-got))
 
 -- ---- as the code has it
 
@@ -112,16 +112,16 @@ bytes-known zero s known = tt
 bytes-known (suc k) [] known = tt
 bytes-known (suc k) (b ∷ s) known = (known 0 .fits, bytes-known k s (λ i. known (suc i)))
 
-pub get-at-once : (s : List ℕ) → ((i : ℕ) → Fits w8 (getD s i 0)) → 8 ≤ length s → {w m v : ℕ} → w ≡ bits 8 s → m ≡ marks 8 w
+pub get-at-once : (s : List ℕ) → ((i : ℕ) → Fits w8 (getD s i 0)) → 8 ≤ length s → {w m v : ℕ} → w ≡ load 8 s → m ≡ marks 8 w
     → (let t = trailingZeros 64 m in let u = 1 * 2 ^ (t + 1) % 2 ^ 64 in t ≤ 55 → u / 256 ≤ w % u → v ≡ sevens 8 (w % u)
     → _≡_ {A = Answer ℕ (ℕ × ℕ)} (ok (v, length s - (t + 1) / 8)) (measured (get 9 0 s)))
-unfolding bits measured
+unfolding load measured
 get-at-once s known long {w} {m} {v} e f h nz same =
     let t = trailingZeros 64 m in
     let eight = length-take-le 8 s long in
-    let own : w ≡ value (take 8 s) = rw (le-leb 8 (length s) long) at e in
-    let zeros : t ≡ trailingZeros (8 * length (take 8 s) + 0) (marks (length (take 8 s)) (value (take 8 s))) = rw (eight, ← own, ← f) in
-    let some : 2 ^ (t + 1) / 256 ≤ value (take 8 s) % 2 ^ (t + 1) = rw (← own) (rw (unit-is t h) at nz) in
+    let own : w ≡ fromLittle (take 8 s) = rw (le-leb 8 (length s) long) at e in
+    let zeros : t ≡ trailingZeros (8 * length (take 8 s) + 0) (marks (length (take 8 s)) (fromLittle (take 8 s))) = rw (eight, ← own, ← f) in
+    let some : 2 ^ (t + 1) / 256 ≤ fromLittle (take 8 s) % 2 ^ (t + 1) = rw (← own) (rw (unit-is t h) at nz) in
     let whole = get-word 0 9 0 (take 8 s) (drop 8 s) (bytes-known 8 s known) (omega arith) (omega arith) t zeros (omega arith) some in
     let front : get 9 0 s ≡ got (sevens 8 (w % 2 ^ (t + 1))) (drop ((t + 1) / 8) s) = rw (take-append-drop 8 s, eight, ← own) at whole in
     rw (front, same, unit-is t h, length-drop)

@@ -1,2 +1,2 @@
 -- several bytes at once
-pub mod Word
+pub mod Internal

@@ -4,8 +4,8 @@ ghost use mathlib.Core.Path.{_≡_};
 ghost use Prim.Native.Nat.{_<_, _^_};
 ghost use Rattle.prelude.specs.Answer.{measured};
 ghost use Rattle.leb128.specs.Leb.{get};
-ghost use Rattle.leb128.specs.Told.{told};
-ghost use Rattle.leb128_word.specs.Word.{marks, sevens};
+ghost use Rattle.leb128.specs.Answers.{answerOf};
+ghost use Rattle.leb128_word.specs.Internal.{marks, sevens};
 
 // Of the four lowest bytes of w: 128 in the place of each that is below 128, and 0 in that of each other.
 fn marks4(w: u64) -> u64
@@ -46,13 +46,13 @@ fn sevens(w: u64) -> u64
 // Reads the number at the front of s. One of up to seven bytes with no fault is read eight bytes at once, with no guess at how many are its own.
 // For numbers that are rare or long: `get` is compiled into its callers, this is called.
 pub fn get_wide(s: &[u8]) -> GetResult
-    ensures { λ r. ⌜ told r ≡ measured (get 9 0 (now (s .entry))) ⌝ }
+    ensures { λ r. ⌜ answerOf r ≡ measured (get 9 0 (now (s .entry))) ⌝ }
 {
     let len = s.len();
     if len < 8 {
         return leb128::get(s);
     }
-    let w = float::bits8(s);
+    let w = little_endian::load8(s);
     // the last byte is the first without its high bit
     let t = u64::trailing_zeros(marks(w));
     if 55 < t {
@@ -73,7 +73,7 @@ pub fn get_wide(s: &[u8]) -> GetResult
 
 // Reads the number at the front of s. One of one or two bytes is read here, which is short enough to be compiled into its callers.
 pub fn get(s: &[u8]) -> GetResult
-    ensures { λ r. ⌜ told r ≡ measured (get 9 0 (now (s .entry))) ⌝ }
+    ensures { λ r. ⌜ answerOf r ≡ measured (get 9 0 (now (s .entry))) ⌝ }
 {
     let len = s.len();
     if len < 2 {

@@ -1,14 +1,14 @@
 // The queries at an offset, on files that nobody checked (document 01, "Questions at an offset"), each proved in the crate that has it.
-pub use body::BodyResult;
-pub use body::body;
-pub use body::body_place;
-pub use items::item;
-pub use items::skip;
-pub use lookup::lookup;
-pub use pointers::FollowResult;
-pub use pointers::follow;
-pub use read::ReadResult;
-pub use read::Value;
-pub use read::read;
-pub use region::OffsetResult;
-pub use region::peek;
+pub use reader_body::BodyResult;
+pub use reader_body::body;
+pub use reader_body::body_place;
+pub use reader_follow::FollowResult;
+pub use reader_follow::follow;
+pub use reader_items::item;
+pub use reader_items::skip;
+pub use reader_lookup::lookup;
+pub use reader_region::OffsetResult;
+pub use reader_region::peek;
+pub use reader_value::ReadResult;
+pub use reader_value::Value;
+pub use reader_value::read;

@@ -18,7 +18,7 @@ use Rattle.token.specs.Token.{Token, emit, Fits}
 use Rattle.token.specs.Scan.{scan}
 use Rattle.token.proofs.Laws.{length-emit, drop-emit, scan-emit, emit-scan}
 use Rattle.token.proofs.Ends.{Left, scan-left, scan-item, item-pending}
-use Rattle.scan.specs.Told.{seen, scanAt}
+use Rattle.scan.specs.Answers.{headOf, scanAt}
 use Rattle.scan.specs.declared.Head.{Head}
 
 -- a head of the region s, scanned at `at`: where it stands, and that its kind allows its number
@@ -30,13 +30,13 @@ pub record Within (s : List ℕ) (at : ℕ) (h : Head) : Type 0 where
   pub used : 0 < rule (h .kind) .lows
   pub most : h .n ≤ rule (h .kind) .most
 
-seen-bad : {X : Type 0} (len : ℕ) (h : Head) (f : Fault) → ok h ≡ seen len (bad f) → X
-unfolding seen
+seen-bad : {X : Type 0} (len : ℕ) (h : Head) (f : Fault) → ok h ≡ headOf len (bad f) → X
+unfolding headOf
 seen-bad len h f e = let z : _≡_ {A = ℕ} 0 1 = cc in absurd (omega arith)
 
 within-left : (s : List ℕ) (at : ℕ) (h : Head) (r : Res Fault Token) → ((t : Token) (rest : List ℕ) → r ≡ got t rest → Left (drop at s) t rest)
-    → ok h ≡ seen (length s) r → Within s at h
-unfolding seen
+    → ok h ≡ headOf (length s) r → Within s at h
+unfolding headOf
 within-left s at h (got t rest) left e =
     let l = left t rest refl in
     let long = length-drop at s in
@@ -48,10 +48,10 @@ within-left s at h (got t rest) left e =
       end = length s - length rest;
     } = cc in
     rw same (record {
-      numbers = omega (arith, l .behind);
+      numbers = omega (arith, l .after);
       body = omega arith;
       end = omega arith;
-      items = omega (arith, l .behind, l .count);
+      items = omega (arith, l .after, l .count);
       used = l .used;
       most = l .most;
     })
@@ -61,8 +61,8 @@ pub scan-within : (inner : Bool) (s : List ℕ) (at : ℕ) (h : Head) → ok h �
 unfolding scanAt
 scan-within inner s at h e = within-left s at h (scan inner at (drop at s)) (scan-left inner at (drop at s)) e
 
-seen-items : (len : ℕ) (h : Head) (t : Token) (rest : List ℕ) → ok h ≡ seen len (got t rest) → h .items ≡ pending (rule (t .kind)) (t .n) (t .args)
-unfolding seen
+seen-items : (len : ℕ) (h : Head) (t : Token) (rest : List ℕ) → ok h ≡ headOf len (got t rest) → h .items ≡ pending (rule (t .kind)) (t .n) (t .args)
+unfolding headOf
 seen-items len h t rest e = let same = headOf h e in ap (λ (x : Head). x .items) same
   where
     headOf : {g : Head} (h : Head) → _≡_ {A = Answer Fault Head} (ok h) (ok g) → h ≡ g
@@ -81,8 +81,8 @@ headAt at t = record {
 }
 
 -- the head of a token at `at`, by what is left behind it
-head-seen : (at len : ℕ) (t : Token) (rest : List ℕ) → len ≡ at + length (emit t) + length rest → seen len (got t rest) ≡ ok (headAt at t)
-unfolding seen
+head-seen : (at len : ℕ) (t : Token) (rest : List ℕ) → len ≡ at + length (emit t) + length rest → headOf len (got t rest) ≡ ok (headAt at t)
+unfolding headOf
 head-seen at len t rest h =
     let first : len - length rest - length (t .body) ≡ at + length (emit t) - length (t .body) = omega arith in
     let end : len - length rest ≡ at + length (emit t) = omega arith in
@@ -116,7 +116,7 @@ pub emit-scanAt : (inner : Bool) (s : List ℕ) (at : ℕ) (h : Head) → Bytes 
 unfolding scanAt
 emit-scanAt inner s at h b e = by-cases (scan inner at (drop at s)) refl e
   where
-    by-cases : (r : Res Fault Token) → scan inner at (drop at s) ≡ r → ok h ≡ seen (length s) r → Read inner s at h
+    by-cases : (r : Res Fault Token) → scan inner at (drop at s) ≡ r → ok h ≡ headOf (length s) r → Read inner s at h
     by-cases (got t rest) q e′ =
         let r = emit-scan inner at (drop at s) t rest (bytes-drop at s b) q in
         let sum = length-append (emit t) rest in
@@ -137,9 +137,9 @@ pub scanAt-item : (s : List ℕ) (at : ℕ) (h : Head) → ok h ≡ scanAt true 
 unfolding scanAt
 scanAt-item s at h e = by-cases (scan true at (drop at s)) refl e
   where
-    by-cases : (r : Res Fault Token) → scan true at (drop at s) ≡ r → ok h ≡ seen (length s) r → Item s at h
+    by-cases : (r : Res Fault Token) → scan true at (drop at s) ≡ r → ok h ≡ headOf (length s) r → Item s at h
     by-cases (got t rest) q e′ = record {
-      value = e′ ∙ ap (seen (length s)) (sym (scan-item at (drop at s) t rest q));
+      value = e′ ∙ ap (headOf (length s)) (sym (scan-item at (drop at s) t rest q));
       none = seen-items (length s) h t rest e′ ∙ item-pending at (drop at s) t rest q;
     }
     by-cases (bad f) q e′ = seen-bad _ h f e′

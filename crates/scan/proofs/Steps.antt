@@ -1,6 +1,6 @@
 -- How `scanAt` goes, as the code takes it: by offsets, with the bytes left counted.
 --
--- In order: the bytes left behind a number; `seen` under a guard, behind a number, of a body; n; what was read so far; the whole; behind n; of
+-- In order: the bytes left behind a number; `headOf` under a guard, behind a number, of a body; n; what was read so far; the whole; behind n; of
 -- an immediate.
 use mathlib.Core.Path.{_≡_, refl, ap, _∙_}
 use Prim.Native.Nat.{ℕ, suc, _+_, _-_, _*_, _/_, _%_, _≤_, _<_}
@@ -19,8 +19,8 @@ use Rattle.prelude.proofs.Tests.{pick-cong, facts, and-l, and-r}
 use Rattle.prelude.proofs.Readers.{measured-ok}
 use Rattle.error.specs.Error.{Fault, fault, numberOf, TRUNC, RESERVED, RANGE, NESTED}
 use Rattle.leb128.specs.Leb.{get}
-use Rattle.leb128.specs.Told as numbers
-use Rattle.leb128.specs.Stages.{leftOf}
+use Rattle.leb128.specs.Answers as numbers
+use Rattle.leb128.specs.Internal.{leftOf}
 use Rattle.leb128.specs.declared.GetResult.{GetResult}
 use Rattle.leb128.specs.declared.GetResult.the-variants.{Ok, Err}
 use Rattle.kind.specs.Kind.{rule, size, counted, pending, immediate}
@@ -28,42 +28,42 @@ use Rattle.kind.specs.declared.Rule.{Rule}
 use Rattle.kind.proofs.Laws.{Row, None, rule-row}
 use Rattle.token.specs.Token.{Token}
 use Rattle.token.specs.Scan.{getIf, number, body, scanKind, scan}
-use Rattle.scan.specs.Told.{seen, scanAt}
-use Rattle.header.specs.Header.{inRange, numbered}
-use Rattle.scan.specs.Stages.{fitted, andThen, ranged}
+use Rattle.scan.specs.Answers.{headOf, scanAt}
+use Rattle.scan_number.specs.Internal.{inRange, numbered}
+use Rattle.scan.specs.Internal.{fitted, andThen, ranged}
 use Rattle.scan.specs.declared.Head.{Head}
 use Rattle.token.proofs.Ends.{End, end-drop, getIf-end}
 
-pub left-le : (w : Bool) (s : List ℕ) (n : ℕ) (r : GetResult) → numbers.told r ≡ measured (getIf w s) → length s ≤ n → leftOf r ≤ n
+pub left-le : (w : Bool) (s : List ℕ) (n : ℕ) (r : GetResult) → numbers.answerOf r ≡ measured (getIf w s) → length s ≤ n → leftOf r ≤ n
 left-le w s n (Ok v left) e h = measured-ok (getIf w s) e (λ rest q l. omega (arith, getIf-end w s v rest q .short))
 left-le w s n (Err f) e h = omega arith
 
--- ---- `seen`
+-- ---- `headOf`
 
-seen-guard : (len : ℕ) (t : Bool) (e : Fault) (r : Res Fault Token) → seen len (guard t e r) ≡ pick t (seen len r) (error e)
-unfolding seen guard
+seen-guard : (len : ℕ) (t : Bool) (e : Fault) (r : Res Fault Token) → headOf len (guard t e r) ≡ pick t (headOf len r) (error e)
+unfolding headOf guard
 seen-guard len true e r = refl
 seen-guard len false e r = refl
 
 module _ (s : List ℕ) (at : ℕ) where
   seen-number : (w : Bool) (j : ℕ) (k : ℕ → List ℕ → Res Fault Token) (f : ℕ → ℕ → Answer Fault Head) → j ≤ length s
-      → ((v : ℕ) (rest : List ℕ) → End s rest → seen (length s) (k v rest) ≡ f v (length rest))
-      → seen (length s) (then (number at w (drop j s)) k) ≡ andThen at f (measured (getIf w (drop j s)))
-  unfolding number seen then orError measured
+      → ((v : ℕ) (rest : List ℕ) → End s rest → headOf (length s) (k v rest) ≡ f v (length rest))
+      → headOf (length s) (then (number at w (drop j s)) k) ≡ andThen at f (measured (getIf w (drop j s)))
+  unfolding number headOf then orError measured
   seen-number w j k f h same = go (getIf w (drop j s)) refl
     where
-      go : (r : Res ℕ ℕ) → getIf w (drop j s) ≡ r → seen (length s) (then (orError (λ e. fault e at) r) k) ≡ andThen at f (measured r)
+      go : (r : Res ℕ ℕ) → getIf w (drop j s) ≡ r → headOf (length s) (then (orError (λ e. fault e at) r) k) ≡ andThen at f (measured r)
       go (got v rest) e = same v rest (end-drop j s rest h (getIf-end w (drop j s) v rest e))
       go (bad e) q = refl
 
   seen-body : (k n a : ℕ) (m : List ℕ) → length m ≤ length s
-      → seen (length s) (body at k (rule k) n a m) ≡ fitted (length s) at k (rule k) n a (length m)
-  unfolding body seen
+      → headOf (length s) (body at k (rule k) n a m) ≡ fitted (length s) at k (rule k) n a (length m)
+  unfolding body headOf
   seen-body k n a m h =
       let z = size (rule k) n in
       rw seen-guard (pick-cong (leb (z + counted (rule k) n a) (length m))
       (λ t. let l : z ≤ length m = omega facts in
-      let behind = length-drop z m in
+      let after = length-drop z m in
       let own = length-take-le z m l in
       let first : length s - length (drop z m) - length (take z m) ≡ length s - length m = omega arith in
       let end : length s - length (drop z m) ≡ length s - length m + z = omega arith in
@@ -71,12 +71,12 @@ module _ (s : List ℕ) (at : ℕ) where
       (λ t. refl))
 
   seen-ranged : (k low v : ℕ) (m : List ℕ) → End s m
-      → seen (length s) ((need (leb (low + v) (rule k .most)) (fault RANGE at) >> (number at (rule k .args) >>= body at k (rule k) (low + v))) m)
+      → headOf (length s) ((need (leb (low + v) (rule k .most)) (fault RANGE at) >> (number at (rule k .args) >>= body at k (rule k) (low + v))) m)
       ≡ pick (leb (low + v) (rule k .most)) (ranged s at k (rule k) (low + v) (length m)) (error (fault RANGE at))
   unfolding _>>_ _>>=_
   seen-ranged k low v m e =
       rw seen-guard (pick-cong (leb (low + v) (rule k .most))
-      (λ t. ap (λ x. seen (length s) (then (number at (rule k .args) x) (body at k (rule k) (low + v)))) (e .end)
+      (λ t. ap (λ x. headOf (length s) (then (number at (rule k .args) x) (body at k (rule k) (low + v)))) (e .end)
       ∙ seen-number (rule k .args) (length s - length m) _ _ (omega arith) (λ a rest e′. seen-body k (low + v) a rest (e′ .short)))
       (λ t. refl))
 
@@ -117,9 +117,9 @@ pub record Number (inner : Bool) (s : List ℕ) (at k : ℕ) (r : Rule) (n left 
   pub short : left ≤ length s
   pub whole : ranged s at k r n left ≡ scanAt inner s at
 
-abbrev pub Behind : Bool → List ℕ → ℕ → Rule → GetResult → Type 0
-Behind inner s at r (Ok n left) = Number inner s at (getD s at 0 / 16) r n left
-Behind inner s at r (Err e) = error (fault (numberOf e) at) ≡ scanAt inner s at
+abbrev pub AfterNumber : Bool → List ℕ → ℕ → Rule → GetResult → Type 0
+AfterNumber inner s at r (Ok n left) = Number inner s at (getD s at 0 / 16) r n left
+AfterNumber inner s at r (Err e) = error (fault (numberOf e) at) ≡ scanAt inner s at
 
 -- behind the second number a
 pub record Second (inner : Bool) (s : List ℕ) (at k n a left : ℕ) : Type 0 where
@@ -133,7 +133,7 @@ Counted inner s at k n (Err e) = error (fault (numberOf e) at) ≡ scanAt inner 
 -- ---- the whole
 
 pub scan-past : (inner : Bool) (s : List ℕ) (at : ℕ) → length s ≤ at → error (fault TRUNC at) ≡ scanAt inner s at
-unfolding scanAt scan seen
+unfolding scanAt scan headOf
 scan-past inner s at h = rw (drop-of-length-le s {i = at} h)
 
 -- the header at `at`, with its kind, low nibble and rule
@@ -174,31 +174,31 @@ module _ (inner : Bool) (s : List ℕ) (at : ℕ) (there : at < length s) where
       scan-numbered : inner && not i ≡ false → andThen at (ranged s at kind r) (numbered low (r .most) (drop (at + 1) s)) ≡ scanAt inner s at
       scan-numbered h = rw (scan-head, ← ruled, lt-ltb _ _ used, ← flat, h)
 
-      behind : inner && not i ≡ false → (g : GetResult) → numbers.told g ≡ numbered low (r .most) (drop (at + 1) s) → Behind inner s at r g
+      after : inner && not i ≡ false → (g : GetResult) → numbers.answerOf g ≡ numbered low (r .most) (drop (at + 1) s) → AfterNumber inner s at r g
       unfolding numbered
-      behind h (Ok n left) e = range-ok low (r .most) (measured (getIf (leb 15 low) (drop (at + 1) s))) e (λ v q l. record {
+      after h (Ok n left) e = range-ok low (r .most) (measured (getIf (leb 15 low) (drop (at + 1) s))) e (λ v q l. record {
         row = ruled-row kind ruled;
         most = l;
         short = left-le (leb 15 low) (drop (at + 1) s) (length s) (Ok v left) q (rw length-drop (omega arith));
         whole = rw (← scan-numbered h, ← e);
       })
-      behind h (Err f) e = rw (← scan-numbered h, ← e)
+      after h (Err f) e = rw (← scan-numbered h, ← e)
 
-      pub scan-number : inner && not i ≡ false → (g x : GetResult) → numbers.told g ≡ numbered low (r .most) (drop (at + 1) s) → g ≡ x → Behind inner s at r x
-      scan-number h g x e is = behind h x (rw is at e)
+      pub scan-number : inner && not i ≡ false → (g x : GetResult) → numbers.answerOf g ≡ numbered low (r .most) (drop (at + 1) s) → g ≡ x → AfterNumber inner s at r x
+      scan-number h g x e is = after h x (rw is at e)
 
 -- ---- behind n
 
 module _ {inner : Bool} {s : List ℕ} {at k : ℕ} {r : Rule} {n left : ℕ} (b : Number inner s at k r n left) where
   -- items that a second number counts
-  pub scan-second : r .args ≡ true → (g x : GetResult) → numbers.told g ≡ measured (get 9 0 (drop (length s - left) s)) → g ≡ x → Counted inner s at k n x
+  pub scan-second : r .args ≡ true → (g x : GetResult) → numbers.answerOf g ≡ measured (get 9 0 (drop (length s - left) s)) → g ≡ x → Counted inner s at k n x
   unfolding getIf
   scan-second e g x q is = go x (rw is at q)
     where
       whole : andThen at (fitted (length s) at k r n) (measured (get 9 0 (drop (length s - left) s))) ≡ scanAt inner s at
       whole = rw (← b .whole, e)
 
-      go : (g : GetResult) → numbers.told g ≡ measured (get 9 0 (drop (length s - left) s)) → Counted inner s at k n g
+      go : (g : GetResult) → numbers.answerOf g ≡ measured (get 9 0 (drop (length s - left) s)) → Counted inner s at k n g
       go (Ok a l) q =
           let none = b .row .many e in
           let scale : r .scale ≡ 0 = omega arith in

@@ -1,4 +1,4 @@
 -- what the answer of `scan` means: `scanAt`
-pub mod Told
+pub mod Answers
 -- what remains to be made of a token
-pub mod Stages
+pub mod Internal

@@ -3,7 +3,7 @@ use error::Error;
 use error::ErrorKind;
 use leb128::GetResult;
 ghost use mathlib.Core.Path.{_≡_};
-ghost use Rattle.scan.specs.Told.{told, scanAt};
+ghost use Rattle.scan.specs.Answers.{answerOf, scanAt};
 
 // A token by its offsets in a region.
 pub struct Head {
@@ -27,7 +27,7 @@ pub enum ScanResult {
 // Reads the token at the offset `at` of a region, as an item where `inner` is true. At the region's end and past it: TRUNC, placed at `at`.
 // All answers are made here: an answer handed on from a function of its own costs more than the rest.
 pub fn scan(region: &[u8], at: usize, inner: bool) -> ScanResult
-    ensures { λ r. ⌜ told r ≡ scanAt inner (now (region .entry)) at ⌝ }
+    ensures { λ r. ⌜ answerOf r ≡ scanAt inner (now (region .entry)) at ⌝ }
 {
     let len = region.len();
     // TRUNC: a token is wanted at the region's end
@@ -57,7 +57,7 @@ pub fn scan(region: &[u8], at: usize, inner: bool) -> ScanResult
         });
     }
     let start = at + 1;
-    match header::number(low, rule.most, &region[start..]) {
+    match scan_number::number(low, rule.most, &region[start..]) {
         GetResult::Ok { value, left } => {
             let n = value;
             let first = len - left;
@@ -98,7 +98,7 @@ pub fn scan(region: &[u8], at: usize, inner: bool) -> ScanResult
                 });
             }
             // TRUNC: the body or the counted items exceed the bytes left
-            let room = header::has_room(rule, n, left as u64);
+            let room = scan_number::has_room(rule, n, left as u64);
             if !room {
                 return ScanResult::Err(Error {
                     kind: ErrorKind::Trunc,

@@ -49,7 +49,7 @@ number-short at w s v rest e = orError-by _ _ e (λ e₁. getIf-end w s v rest e
 
 -- the body and the rest are shorter than s, the counted items have a byte each, the kind is in use, and n is within its bound
 pub record Left (s : List ℕ) (t : Token) (rest : List ℕ) : Type 0 where
-  pub behind : length (t .body) + length rest < length s
+  pub after : length (t .body) + length rest < length s
   pub count : pending (rule (t .kind)) (t .n) (t .args) ≤ suc (length rest)
   pub used : 0 < rule (t .kind) .lows
   pub most : t .n ≤ rule (t .kind) .most
@@ -67,7 +67,7 @@ scan-left inner at (h ∷ s) t rest e =
     let one = number-short _ _ s v s₁ ev in
     let two = number-short _ _ s₁ a s₂ ea in
     rw et (record {
-      behind = omega (arith, ap length sc, length-append b rest);
+      after = omega (arith, ap length sc, length-append b rest);
       count = omega (arith, rule-row (h / 16) .single);
       used = omega facts;
       most = omega facts;

@@ -71,16 +71,16 @@ low-number n =
 record Nibble (low v : ℕ) : Type 0 where
   nibble : min (low + v) 15 ≡ low
   wanted : leb 15 (low + v) ≡ leb 15 low
-  behind : low + v - 15 ≡ v
+  after : low + v - 15 ≡ v
 
 nibble-number : (low v : ℕ) → low < 16 → (leb 15 low ≡ false → v ≡ 0) → Nibble low v
 nibble-number low v h none =
     split low 15
     (λ small. let z : v ≡ 0 = none (lt-leb 15 low small) in
     let e : low + v ≡ low = omega arith in
-    record { nibble = omega arith; wanted = rw e; behind = omega arith })
+    record { nibble = omega arith; wanted = rw e; after = omega arith })
     (λ large. let l : 15 ≤ low + v = omega arith in
-    record { nibble = omega arith; wanted = rw (le-leb 15 (low + v) l, le-leb 15 low large); behind = omega arith })
+    record { nibble = omega arith; wanted = rw (le-leb 15 (low + v) l, le-leb 15 low large); after = omega arith })
 
 -- ---- the bytes of a token
 
@@ -156,7 +156,7 @@ emit-scan inner at (h ∷ s) t rest b e =
     let i = nibble-number (h % 16) v (omega arith) none in
     let header : h ≡ h / 16 * 16 + min (h % 16 + v) 15 = omega (arith, i .nibble) in
     rw et (record {
-      same = simp (append-assoc, i .wanted, i .behind) (cc);
+      same = simp (append-assoc, i .wanted, i .after) (cc);
       fits = record {
         allowed = record { low = omega (facts, i .nibble); most = omega facts; alone = one; count = a<; sized = sized };
         flat = flat;

@@ -7,8 +7,8 @@ use Prim.Native.Nat.{ℕ}
 use mathlib.Core.List.{List}
 use Rattle.checker.specs.Check.{checkOf}
 use Rattle.depths.specs.Depths.{depthsOf}
-use Rattle.reply.specs.Reply.{Reply}
-use Rattle.tell.specs.Tell.{pairC}
+use Rattle.abi_error.specs.Reply.{Reply}
+use Rattle.abi_answer.specs.Answers.{pairC}
 
 pub record CheckReply : Type 0 where
   pub reply : Reply

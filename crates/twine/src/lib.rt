@@ -3,17 +3,17 @@
 use writer::Scalar;
 ghost use mathlib.Core.Path.{_≡_};
 ghost use lib.ListN.{length};
-ghost use Rattle.items.specs.Items.{skipOf, itemOf};
-ghost use Rattle.pointers.specs.Pointers.{followOf};
-ghost use Rattle.body.specs.Body.{bodyOf};
-ghost use Rattle.lookup.specs.Lookup.{lookupOf};
+ghost use Rattle.reader_items.specs.Items.{skipOf, itemOf};
+ghost use Rattle.reader_follow.specs.Follow.{followOf};
+ghost use Rattle.reader_body.specs.Body.{bodyPlaceOf};
+ghost use Rattle.reader_lookup.specs.Lookup.{lookupOf};
 ghost use Rattle.writer.specs.Step.{Call, fresh};
 ghost use Rattle.writer.specs.declared.Scalar as Scalar;
-ghost use Rattle.reply.specs.Reply.{nameC, reply};
-ghost use Rattle.tell.specs.Tell.{offsetC, pairC};
+ghost use Rattle.abi_error.specs.Reply.{nameC, reply};
+ghost use Rattle.abi_answer.specs.Answers.{offsetC, pairC};
 ghost use Rattle.twine.specs.Tables.{checkReply, checkC, depthsReply, depthsC};
-ghost use Rattle.tell.specs.Read.{readC};
-ghost use Rattle.state.specs.State.{wordsOf, truth, called, stepC};
+ghost use Rattle.abi_answer.specs.Read.{readC};
+ghost use Rattle.abi_writer.specs.Calls.{wordsOf, truth, called, stepC};
 
 // ---- names
 
@@ -22,7 +22,7 @@ ghost use Rattle.state.specs.State.{wordsOf, truth, called, stepC};
 pub extern "C" fn twine_spell_error(number: u32, name: &mut [u8; 11]) -> u32
     ensures { λ r. ⌜ reply r (now (name .exit)) ≡ reply 0 (nameC number) ⌝ }
 {
-    reply::spell_error(number, name)
+    abi_error::spell_error(number, name)
 }
 
 // ---- check and depths
@@ -32,7 +32,7 @@ pub extern "C" fn twine_spell_error(number: u32, name: &mut [u8; 11]) -> u32
 pub extern "C" fn twine_check(file: &[u8], starts: &mut [u32], out: &mut [u64; 2]) -> u32
     ensures { λ r. ⌜ checkReply (reply r (now (out .exit))) (now (starts .exit)) ≡ checkC (now (file .entry)) (length (now (starts .entry))) ⌝ }
 {
-    tell::tell_entry(checker::check(file, starts), out)
+    abi_answer::answer_entry(checker::check(file, starts), out)
 }
 
 // `depths::depths`: count and entry.
@@ -45,7 +45,7 @@ pub extern "C" fn twine_depths(
 ) -> u32
     ensures { λ r. ⌜ depthsReply (reply r (now (out .exit))) (now (starts .exit)) (now (depths .exit)) ≡ depthsC (now (file .entry)) (length (now (starts .entry))) (length (now (depths .entry))) ⌝ }
 {
-    tell::tell_entry(depths::depths(file, starts, depths), out)
+    abi_answer::answer_entry(depths::depths(file, starts, depths), out)
 }
 
 // ---- queries
@@ -55,7 +55,7 @@ pub extern "C" fn twine_depths(
 pub extern "C" fn twine_read(file: &[u8], at: usize, out: &mut [u64; 4]) -> u32
     ensures { λ r. ⌜ reply r (now (out .exit)) ≡ readC (now (file .entry)) at ⌝ }
 {
-    tell::read(file, at, out)
+    abi_answer::read(file, at, out)
 }
 
 // `reader::skip`: the offset just after the value, and 0.
@@ -63,7 +63,7 @@ pub extern "C" fn twine_read(file: &[u8], at: usize, out: &mut [u64; 4]) -> u32
 pub extern "C" fn twine_skip(file: &[u8], at: usize, out: &mut [u64; 2]) -> u32
     ensures { λ r. ⌜ reply r (now (out .exit)) ≡ offsetC (skipOf (now (file .entry)) at) ⌝ }
 {
-    tell::tell_offset(reader::skip(file, at), out)
+    abi_answer::answer_offset(reader::skip(file, at), out)
 }
 
 // `reader::item`: the item's offset, and 0.
@@ -71,7 +71,7 @@ pub extern "C" fn twine_skip(file: &[u8], at: usize, out: &mut [u64; 2]) -> u32
 pub extern "C" fn twine_item(file: &[u8], at: usize, index: usize, out: &mut [u64; 2]) -> u32
     ensures { λ r. ⌜ reply r (now (out .exit)) ≡ offsetC (itemOf (now (file .entry)) at index) ⌝ }
 {
-    tell::tell_offset(reader::item(file, at, index), out)
+    abi_answer::answer_offset(reader::item(file, at, index), out)
 }
 
 // `reader::follow`: offset and hops.
@@ -79,7 +79,7 @@ pub extern "C" fn twine_item(file: &[u8], at: usize, index: usize, out: &mut [u6
 pub extern "C" fn twine_follow(file: &[u8], at: usize, out: &mut [u64; 2]) -> u32
     ensures { λ r. ⌜ reply r (now (out .exit)) ≡ pairC (followOf (now (file .entry)) at) ⌝ }
 {
-    tell::tell_follow(reader::follow(file, at), out)
+    abi_answer::answer_follow(reader::follow(file, at), out)
 }
 
 // `reader::lookup`: the offset of the value, and 0.
@@ -87,15 +87,15 @@ pub extern "C" fn twine_follow(file: &[u8], at: usize, out: &mut [u64; 2]) -> u3
 pub extern "C" fn twine_lookup(file: &[u8], at: usize, key: &[u8], out: &mut [u64; 2]) -> u32
     ensures { λ r. ⌜ reply r (now (out .exit)) ≡ offsetC (lookupOf (now (file .entry)) at (now (key .entry))) ⌝ }
 {
-    tell::tell_offset(reader::lookup(file, at, key), out)
+    abi_answer::answer_offset(reader::lookup(file, at, key), out)
 }
 
 // `reader::body_place`: first offset and length.
 #[no_mangle]
 pub extern "C" fn twine_body(file: &[u8], at: usize, out: &mut [u64; 2]) -> u32
-    ensures { λ r. ⌜ reply r (now (out .exit)) ≡ pairC (bodyOf (now (file .entry)) at) ⌝ }
+    ensures { λ r. ⌜ reply r (now (out .exit)) ≡ pairC (bodyPlaceOf (now (file .entry)) at) ⌝ }
 {
-    tell::tell_body(reader::body_place(file, at), out)
+    abi_answer::answer_body(reader::body_place(file, at), out)
 }
 
 // ---- the writer's calls: those of `writer::Writer`, on the state that the words are
@@ -104,7 +104,7 @@ pub extern "C" fn twine_body(file: &[u8], at: usize, out: &mut [u64; 2]) -> u32
 pub extern "C" fn twine_writer_new(state: &mut [u64; 5]) -> u32
     ensures { λ r. ⌜ reply r (now (state .exit)) ≡ reply 0 (wordsOf fresh) ⌝ }
 {
-    state::begin(state)
+    abi_writer::begin(state)
 }
 
 #[no_mangle]
@@ -116,8 +116,8 @@ pub extern "C" fn twine_write_bool(
 ) -> u32
     ensures { λ r. ⌜ called r (now (state .exit)) (now (out .exit)) (now (starts .exit)) ≡ stepC (Call.scalar (truth value)) (now (state .entry)) (now (out .entry)) (now (starts .entry)) ⌝ }
 {
-    state::settle(
-        state::load(state).scalar(state::truth(value), out, starts),
+    abi_writer::settle(
+        abi_writer::writer_of(state).scalar(abi_writer::truth(value), out, starts),
         state,
     )
 }
@@ -126,7 +126,10 @@ pub extern "C" fn twine_write_bool(
 pub extern "C" fn twine_write_null(state: &mut [u64; 5], out: &mut [u8], starts: &mut [u32]) -> u32
     ensures { λ r. ⌜ called r (now (state .exit)) (now (out .exit)) (now (starts .exit)) ≡ stepC (Call.scalar Scalar.Null) (now (state .entry)) (now (out .entry)) (now (starts .entry)) ⌝ }
 {
-    state::settle(state::load(state).scalar(Scalar::Null, out, starts), state)
+    abi_writer::settle(
+        abi_writer::writer_of(state).scalar(Scalar::Null, out, starts),
+        state,
+    )
 }
 
 #[no_mangle]
@@ -138,7 +141,10 @@ pub extern "C" fn twine_write_integer(
 ) -> u32
     ensures { λ r. ⌜ called r (now (state .exit)) (now (out .exit)) (now (starts .exit)) ≡ stepC (Call.integer value) (now (state .entry)) (now (out .entry)) (now (starts .entry)) ⌝ }
 {
-    state::settle(state::load(state).integer(value, out, starts), state)
+    abi_writer::settle(
+        abi_writer::writer_of(state).integer(value, out, starts),
+        state,
+    )
 }
 
 #[no_mangle]
@@ -150,7 +156,10 @@ pub extern "C" fn twine_write_float32(
 ) -> u32
     ensures { λ r. ⌜ called r (now (state .exit)) (now (out .exit)) (now (starts .exit)) ≡ stepC (Call.float32 bits) (now (state .entry)) (now (out .entry)) (now (starts .entry)) ⌝ }
 {
-    state::settle(state::load(state).float32(bits, out, starts), state)
+    abi_writer::settle(
+        abi_writer::writer_of(state).float32(bits, out, starts),
+        state,
+    )
 }
 
 #[no_mangle]
@@ -162,7 +171,10 @@ pub extern "C" fn twine_write_float64(
 ) -> u32
     ensures { λ r. ⌜ called r (now (state .exit)) (now (out .exit)) (now (starts .exit)) ≡ stepC (Call.float64 bits) (now (state .entry)) (now (out .entry)) (now (starts .entry)) ⌝ }
 {
-    state::settle(state::load(state).float64(bits, out, starts), state)
+    abi_writer::settle(
+        abi_writer::writer_of(state).float64(bits, out, starts),
+        state,
+    )
 }
 
 #[no_mangle]
@@ -174,7 +186,7 @@ pub extern "C" fn twine_write_text(
 ) -> u32
     ensures { λ r. ⌜ called r (now (state .exit)) (now (out .exit)) (now (starts .exit)) ≡ stepC (Call.text (now (text .entry))) (now (state .entry)) (now (out .entry)) (now (starts .entry)) ⌝ }
 {
-    state::settle(state::load(state).text(text, out, starts), state)
+    abi_writer::settle(abi_writer::writer_of(state).text(text, out, starts), state)
 }
 
 #[no_mangle]
@@ -186,7 +198,10 @@ pub extern "C" fn twine_write_bytes(
 ) -> u32
     ensures { λ r. ⌜ called r (now (state .exit)) (now (out .exit)) (now (starts .exit)) ≡ stepC (Call.bytes (now (bytes .entry))) (now (state .entry)) (now (out .entry)) (now (starts .entry)) ⌝ }
 {
-    state::settle(state::load(state).bytes(bytes, out, starts), state)
+    abi_writer::settle(
+        abi_writer::writer_of(state).bytes(bytes, out, starts),
+        state,
+    )
 }
 
 #[no_mangle]
@@ -198,7 +213,10 @@ pub extern "C" fn twine_write_variant(
 ) -> u32
     ensures { λ r. ⌜ called r (now (state .exit)) (now (out .exit)) (now (starts .exit)) ≡ stepC (Call.variant index) (now (state .entry)) (now (out .entry)) (now (starts .entry)) ⌝ }
 {
-    state::settle(state::load(state).variant(index, out, starts), state)
+    abi_writer::settle(
+        abi_writer::writer_of(state).variant(index, out, starts),
+        state,
+    )
 }
 
 #[no_mangle]
@@ -210,7 +228,10 @@ pub extern "C" fn twine_write_reference(
 ) -> u32
     ensures { λ r. ⌜ called r (now (state .exit)) (now (out .exit)) (now (starts .exit)) ≡ stepC (Call.reference at) (now (state .entry)) (now (out .entry)) (now (starts .entry)) ⌝ }
 {
-    state::settle(state::load(state).reference(at, out, starts), state)
+    abi_writer::settle(
+        abi_writer::writer_of(state).reference(at, out, starts),
+        state,
+    )
 }
 
 #[no_mangle]
@@ -222,7 +243,7 @@ pub extern "C" fn twine_write_pointer(
 ) -> u32
     ensures { λ r. ⌜ called r (now (state .exit)) (now (out .exit)) (now (starts .exit)) ≡ stepC (Call.pointer at) (now (state .entry)) (now (out .entry)) (now (starts .entry)) ⌝ }
 {
-    state::settle(state::load(state).pointer(at, out, starts), state)
+    abi_writer::settle(abi_writer::writer_of(state).pointer(at, out, starts), state)
 }
 
 #[no_mangle]
@@ -234,7 +255,10 @@ pub extern "C" fn twine_open_array(
 ) -> u32
     ensures { λ r. ⌜ called r (now (state .exit)) (now (out .exit)) (now (starts .exit)) ≡ stepC (Call.openArray items) (now (state .entry)) (now (out .entry)) (now (starts .entry)) ⌝ }
 {
-    state::settle(state::load(state).open_array(items, out, starts), state)
+    abi_writer::settle(
+        abi_writer::writer_of(state).open_array(items, out, starts),
+        state,
+    )
 }
 
 #[no_mangle]
@@ -246,7 +270,10 @@ pub extern "C" fn twine_open_map(
 ) -> u32
     ensures { λ r. ⌜ called r (now (state .exit)) (now (out .exit)) (now (starts .exit)) ≡ stepC (Call.openMap pairs) (now (state .entry)) (now (out .entry)) (now (starts .entry)) ⌝ }
 {
-    state::settle(state::load(state).open_map(pairs, out, starts), state)
+    abi_writer::settle(
+        abi_writer::writer_of(state).open_map(pairs, out, starts),
+        state,
+    )
 }
 
 #[no_mangle]
@@ -258,7 +285,10 @@ pub extern "C" fn twine_open_tag(
 ) -> u32
     ensures { λ r. ⌜ called r (now (state .exit)) (now (out .exit)) (now (starts .exit)) ≡ stepC (Call.openTag tag) (now (state .entry)) (now (out .entry)) (now (starts .entry)) ⌝ }
 {
-    state::settle(state::load(state).open_tag(tag, out, starts), state)
+    abi_writer::settle(
+        abi_writer::writer_of(state).open_tag(tag, out, starts),
+        state,
+    )
 }
 
 #[no_mangle]
@@ -270,7 +300,10 @@ pub extern "C" fn twine_open_variant1(
 ) -> u32
     ensures { λ r. ⌜ called r (now (state .exit)) (now (out .exit)) (now (starts .exit)) ≡ stepC (Call.openVariant1 index) (now (state .entry)) (now (out .entry)) (now (starts .entry)) ⌝ }
 {
-    state::settle(state::load(state).open_variant1(index, out, starts), state)
+    abi_writer::settle(
+        abi_writer::writer_of(state).open_variant1(index, out, starts),
+        state,
+    )
 }
 
 #[no_mangle]
@@ -283,8 +316,8 @@ pub extern "C" fn twine_open_variantn(
 ) -> u32
     ensures { λ r. ⌜ called r (now (state .exit)) (now (out .exit)) (now (starts .exit)) ≡ stepC (Call.openVariantN index items) (now (state .entry)) (now (out .entry)) (now (starts .entry)) ⌝ }
 {
-    state::settle(
-        state::load(state).open_variant_n(index, items, out, starts),
+    abi_writer::settle(
+        abi_writer::writer_of(state).open_variant_n(index, items, out, starts),
         state,
     )
 }
@@ -298,5 +331,5 @@ pub extern "C" fn twine_close(
 ) -> u32
     ensures { λ r. ⌜ called r (now (state .exit)) (now (out .exit)) (now (starts .exit)) ≡ stepC (Call.close at) (now (state .entry)) (now (out .entry)) (now (starts .entry)) ⌝ }
 {
-    state::settle(state::load(state).close(at, out, starts), state)
+    abi_writer::settle(abi_writer::writer_of(state).close(at, out, starts), state)
 }

@@ -21,9 +21,9 @@ surrogate : isText (0xED ∷ 0xA0 ∷ 0x80 ∷ []) ≡ true
 unfolding textFrom next lead
 surrogate = refl
 
-no-trail : isText (0xC3 ∷ 0x28 ∷ []) ≡ false
+no-continuation : isText (0xC3 ∷ 0x28 ∷ []) ≡ false
 unfolding textFrom next lead
-no-trail = refl
+no-continuation = refl
 
 overlong : isText (0xC0 ∷ 0x80 ∷ []) ≡ false
 unfolding textFrom next lead
@@ -37,6 +37,6 @@ past-the-last-lead : isText (0xF5 ∷ 0x80 ∷ 0x80 ∷ 0x80 ∷ []) ≡ false
 unfolding textFrom next lead
 past-the-last-lead = refl
 
-lone-trail : isText (0x80 ∷ []) ≡ false
+lone-continuation : isText (0x80 ∷ []) ≡ false
 unfolding textFrom next lead
-lone-trail = refl
+lone-continuation = refl

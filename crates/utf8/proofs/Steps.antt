@@ -12,8 +12,8 @@ use lib.Dec.{eqb, leb·zero, eqb·suc-zero}
 use lib.ListN.{length, getD, drop, drop-of-length-le}
 use lib.Seq.{drop-cons}
 use borrow.Author.Tests.{le-leb, lt-leb, lt-ltb, le-ltb}
-use Rattle.utf8.specs.Text.{Range, range, trail, forms, within, lead, next, complete, textFrom}
-use Rattle.utf8.specs.Told.{dueOf}
+use Rattle.utf8.specs.Text.{Range, range, continuation, forms, within, lead, next, complete, textFrom}
+use Rattle.utf8.specs.Internal.{dueOf}
 use Rattle.utf8.proofs.Laws.{text-none}
 
 module _ (b : ℕ) where
@@ -44,12 +44,12 @@ pub next-first : (d b : ℕ) {due : Option (List Range)} → d ≡ 0 → due ≡
 unfolding dueOf next
 next-first d b z e = rw z e
 
-pub next-trail : (d b : ℕ) → (d ≡ 0 → ⊥) → d < 4 → within trail b ≡ true → dueOf (d - 1) ≡ next (dueOf d) b
+pub next-continuation : (d b : ℕ) → (d ≡ 0 → ⊥) → d < 4 → within continuation b ≡ true → dueOf (d - 1) ≡ next (dueOf d) b
 unfolding dueOf next
-next-trail zero b nz l e = absurd (nz refl)
-next-trail (suc d) b nz l e = let less : d < 4 = omega arith in rw (sub-one (suc d), lt-ltb d 4, lt-ltb (suc d) 4, e)
+next-continuation zero b nz l e = absurd (nz refl)
+next-continuation (suc d) b nz l e = let less : d < 4 = omega arith in rw (sub-one (suc d), lt-ltb d 4, lt-ltb (suc d) 4, e)
 
-pub next-bad : (d b : ℕ) → (d ≡ 0 → ⊥) → d < 4 → within trail b ≡ false → dueOf 4 ≡ next (dueOf d) b
+pub next-bad : (d b : ℕ) → (d ≡ 0 → ⊥) → d < 4 → within continuation b ≡ false → dueOf 4 ≡ next (dueOf d) b
 unfolding dueOf next
 next-bad zero b nz l e = absurd (nz refl)
 next-bad (suc d) b nz l e = rw (lt-ltb (suc d) 4, e)

@@ -1,4 +1,4 @@
 -- the rule of text: the table of forms, the grammar, the test
 pub mod Text
 -- what the states of the private functions mean; no public contract cites it
-pub mod Told
+pub mod Internal

@@ -27,15 +27,15 @@ abbrev pub range : ℕ → ℕ → Range
 range a b = record { lo = a; hi = b }
 
 -- the bytes after the first of a character
-abbrev pub trail : Range
-trail = range 0x80 0xBF
+abbrev pub continuation : Range
+continuation = range 0x80 0xBF
 
 abbrev pub forms : List (List Range)
 forms =
     (range 0x00 0x7F ∷ [])
-    ∷ (range 0xC2 0xDF ∷ trail ∷ [])
-    ∷ (range 0xE0 0xEF ∷ trail ∷ trail ∷ [])
-    ∷ (range 0xF0 0xF4 ∷ trail ∷ trail ∷ trail ∷ [])
+    ∷ (range 0xC2 0xDF ∷ continuation ∷ [])
+    ∷ (range 0xE0 0xEF ∷ continuation ∷ continuation ∷ [])
+    ∷ (range 0xF0 0xF4 ∷ continuation ∷ continuation ∷ continuation ∷ [])
     ∷ []
 
 -- ---- the grammar

@@ -2,7 +2,7 @@
 ghost use mathlib.Core.Path.{_≡_};
 ghost use Prim.Native.Nat.{_<_};
 ghost use Rattle.utf8.specs.Text.{forms, lead, next, isText};
-ghost use Rattle.utf8.specs.Told.{dueOf};
+ghost use Rattle.utf8.specs.Internal.{dueOf};
 
 // How many bytes are due after b, the first of a character; 4 where b begins none.
 fn lead(b: u8) -> u8

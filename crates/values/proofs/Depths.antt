@@ -17,10 +17,10 @@ use borrow.Author.Tests.{eqb-true, eq-eqb}
 use Rattle.prelude.specs.Search.{among, rank}
 use Rattle.prelude.proofs.Tests.{split, or-true}
 use Rattle.prelude.proofs.Searches.{rank-getD}
-use Rattle.values.specs.Values.{Value, tokens, bytes, starts, Each, Back, Values}
-use Rattle.values.specs.Paths.{targetsOf, Leads, Path, end, step, Depth, Falling, deepest, pass, depthsOfValues}
+use Rattle.values.specs.Values.{Value, tokens, bytes, starts, Each, TargetsEarlier, Values}
+use Rattle.values.specs.Paths.{targetsOf, Leads, Path, end, step, Depth, Falling, deepest, depthsFrom, depthsOfValues}
 use Rattle.values.proofs.Members.{each-imp, each-among, among-take}
-use Rattle.values.proofs.Laws.{length-starts, rising-starts, targets-aimed}
+use Rattle.values.proofs.Laws.{length-starts, rising-starts, targets-of-has-targets}
 
 -- ---- the greatest depth of the values that f numbers
 
@@ -50,36 +50,36 @@ module _ (f : ℕ → ℕ) where
 -- ---- one pass
 
 module _ (ss : List ℕ) where
-  length-pass : (ds : List ℕ) (more : List (List ℕ)) → length (pass ss ds more) ≡ length ds + length more
-  unfolding pass
-  length-pass ds [] = omega arith
-  length-pass ds (os ∷ more) =
+  length-depthsFrom : (ds : List ℕ) (more : List (List ℕ)) → length (depthsFrom ss ds more) ≡ length ds + length more
+  unfolding depthsFrom
+  length-depthsFrom ds [] = omega arith
+  length-depthsFrom ds (os ∷ more) =
       let d : List ℕ = suc (deepest ds (map (λ x. rank x ss) os)) ∷ [] in
-      omega (arith, length-pass (ds ++ d) more, length-append ds d)
+      omega (arith, length-depthsFrom (ds ++ d) more, length-append ds d)
 
-  pass-keeps : (ds : List ℕ) (more : List (List ℕ)) (i : ℕ) → i < length ds → getD (pass ss ds more) i 0 ≡ getD ds i 0
-  unfolding pass
-  pass-keeps ds [] i h = refl
-  pass-keeps ds (os ∷ more) i h =
+  depthsFrom-keeps : (ds : List ℕ) (more : List (List ℕ)) (i : ℕ) → i < length ds → getD (depthsFrom ss ds more) i 0 ≡ getD ds i 0
+  unfolding depthsFrom
+  depthsFrom-keeps ds [] i h = refl
+  depthsFrom-keeps ds (os ∷ more) i h =
       let d : List ℕ = suc (deepest ds (map (λ x. rank x ss) os)) ∷ [] in
-      pass-keeps (ds ++ d) more i (omega (arith, length-append ds d)) ∙ List·getD-append ds d 0 i h
+      depthsFrom-keeps (ds ++ d) more i (omega (arith, length-append ds d)) ∙ List·getD-append ds d 0 i h
 
   -- where the targets of a value are before it
-  pass-at : (ds : List ℕ) (more : List (List ℕ)) (k : ℕ) → k < length more → Each (λ x. rank x ss < length ds + k) (getD more k [])
-      → getD (pass ss ds more) (length ds + k) 0 ≡ suc (deepest (pass ss ds more) (map (λ x. rank x ss) (getD more k [])))
-  unfolding pass
-  pass-at ds [] k h e = absurd (omega arith)
-  pass-at ds (os ∷ more) zero h e =
+  depthsFrom-at : (ds : List ℕ) (more : List (List ℕ)) (k : ℕ) → k < length more → Each (λ x. rank x ss < length ds + k) (getD more k [])
+      → getD (depthsFrom ss ds more) (length ds + k) 0 ≡ suc (deepest (depthsFrom ss ds more) (map (λ x. rank x ss) (getD more k [])))
+  unfolding depthsFrom
+  depthsFrom-at ds [] k h e = absurd (omega arith)
+  depthsFrom-at ds (os ∷ more) zero h e =
       let d : List ℕ = suc (deepest ds (map (λ x. rank x ss) os)) ∷ [] in
       let l = length-append ds d in
       let z : length ds + 0 ≡ length ds = omega arith in
-      rw z (pass-keeps (ds ++ d) more (length ds) (omega arith) ∙ getD-append-seam ds _ [] 0
-      ∙ ap suc (deepest-same (λ x. rank x ss) (length ds) ds (pass ss (ds ++ d) more) os (rw z at e)
-      (λ j j<. sym (pass-keeps (ds ++ d) more j (omega arith) ∙ List·getD-append ds d 0 j j<))))
-  pass-at ds (os ∷ more) (suc k) h e =
+      rw z (depthsFrom-keeps (ds ++ d) more (length ds) (omega arith) ∙ getD-append-seam ds _ [] 0
+      ∙ ap suc (deepest-same (λ x. rank x ss) (length ds) ds (depthsFrom ss (ds ++ d) more) os (rw z at e)
+      (λ j j<. sym (depthsFrom-keeps (ds ++ d) more j (omega arith) ∙ List·getD-append ds d 0 j j<))))
+  depthsFrom-at ds (os ∷ more) (suc k) h e =
       let d : List ℕ = suc (deepest ds (map (λ x. rank x ss) os)) ∷ [] in
       let z : length ds + suc k ≡ length (ds ++ d) + k = omega (arith, length-append ds d) in
-      rw z (pass-at (ds ++ d) more k (omega arith) (rw z at e))
+      rw z (depthsFrom-at (ds ++ d) more k (omega arith) (rw z at e))
 
 -- ---- the targets of a value
 
@@ -89,30 +89,30 @@ length-targets at [] = refl
 length-targets at (v ∷ vs) = ap suc (length-targets (at + length (bytes (tokens v))) vs)
 
 -- they are among the starts of the values before it
-targets-before : (done : List ℕ) (at : ℕ) (vs : List Value) (i : ℕ) → i < length vs → Back done at vs
+targets-before : (done : List ℕ) (at : ℕ) (vs : List Value) (i : ℕ) → i < length vs → TargetsEarlier done at vs
     → Each (λ x. among x (done ++ take i (starts at vs)) ≡ true) (getD (targetsOf at vs) i [])
 unfolding targetsOf starts
 targets-before done at [] i h b = absurd (omega arith)
-targets-before done at (v ∷ vs) zero h b = rw append-nil (targets-aimed done at (tokens v) (b .0))
+targets-before done at (v ∷ vs) zero h b = rw append-nil (targets-of-has-targets done at (tokens v) (b .0))
 targets-before done at (v ∷ vs) (suc i) h b =
     rw (← append-snoc) (targets-before (done ++ (at ∷ [])) (at + length (bytes (tokens v))) vs i (omega arith) (b .1))
 
 pub length-depths : (vs : List Value) → length (depthsOfValues vs) ≡ length vs
 unfolding depthsOfValues
-length-depths vs = omega (arith, length-pass (starts 0 vs) [] (targetsOf 0 vs), length-targets 0 vs)
+length-depths vs = omega (arith, length-depthsFrom (starts 0 vs) [] (targetsOf 0 vs), length-targets 0 vs)
 
 -- the number of the value that starts at x
 abbrev number : List Value → ℕ → ℕ
 number vs x = rank x (starts 0 vs)
 
 -- the targets of value number i
-abbrev aims : List Value → ℕ → List ℕ
-aims vs i = getD (targetsOf 0 vs) i []
+abbrev has-targets : List Value → ℕ → List ℕ
+has-targets vs i = getD (targetsOf 0 vs) i []
 
 module _ (vs : List Value) (ok : Values vs) where
   -- so the value that starts at a target has a lower number
-  before : (i : ℕ) → i < length vs → Each (λ x. (number vs x < i) × (getD (starts 0 vs) (number vs x) 0 ≡ x)) (aims vs i)
-  before i h = each-imp _ _ (λ x m. among-take x (starts 0 vs) i (rising-starts 0 vs) m) (aims vs i) (targets-before [] 0 vs i h (ok .aimed))
+  before : (i : ℕ) → i < length vs → Each (λ x. (number vs x < i) × (getD (starts 0 vs) (number vs x) 0 ≡ x)) (has-targets vs i)
+  before i h = each-imp _ _ (λ x m. among-take x (starts 0 vs) i (rising-starts 0 vs) m) (has-targets vs i) (targets-before [] 0 vs i h (ok .targets))
 
   number-start : (j : ℕ) → j < length vs → number vs (getD (starts 0 vs) j 0) ≡ j
   number-start j h = rank-getD (starts 0 vs) (rising-starts 0 vs) j (omega (arith, length-starts 0 vs))
@@ -139,24 +139,24 @@ module _ (vs : List Value) (ok : Values vs) where
 
   -- ---- depths
 
-  depth-at : (i : ℕ) → i < length vs → getD (depthsOfValues vs) i 0 ≡ suc (deepest (depthsOfValues vs) (map (number vs) (aims vs i)))
+  depth-at : (i : ℕ) → i < length vs → getD (depthsOfValues vs) i 0 ≡ suc (deepest (depthsOfValues vs) (map (number vs) (has-targets vs i)))
   unfolding depthsOfValues
   depth-at i h =
-      let e = each-imp _ (λ x. number vs x < 0 + i) (λ x b. omega (arith, b .0)) (aims vs i) (before i h) in
-      rw zero-add at (pass-at (starts 0 vs) [] (targetsOf 0 vs) i (omega (arith, length-targets 0 vs)) e)
+      let e = each-imp _ (λ x. number vs x < 0 + i) (λ x b. omega (arith, b .0)) (has-targets vs i) (before i h) in
+      rw zero-add at (depthsFrom-at (starts 0 vs) [] (targetsOf 0 vs) i (omega (arith, length-targets 0 vs)) e)
 
   no-longer : {i : ℕ} {l : List ℕ} → i < length vs → Path vs i l → length l ≤ getD (depthsOfValues vs) i 0
   no-longer {i} h end = omega (arith, depth-at i h)
   no-longer {i} h (step {j = j} t p) =
       let j< = leads-earlier i j h t in
-      let d = deepest-ge (number vs) (depthsOfValues vs) (getD (starts 0 vs) j 0) (aims vs i) (t .1) in
+      let d = deepest-ge (number vs) (depthsOfValues vs) (getD (starts 0 vs) j 0) (has-targets vs i) (t .1) in
       omega (arith, depth-at i h, no-longer (omega arith) p, rw (number-start j (t .0)) at d)
 
   one-as-long : (f i : ℕ) → i < f → i < length vs → (l : List ℕ) × Path vs i l × (length l ≡ getD (depthsOfValues vs) i 0)
   one-as-long zero i b h = absurd (omega arith)
   one-as-long (suc f) i b h =
       let is = depth-at i h in
-      elim (deepest-by (number vs) (depthsOfValues vs) (aims vs i)) [
+      elim (deepest-by (number vs) (depthsOfValues vs) (has-targets vs i)) [
         | inl z ↦ (i ∷ [], end, omega arith)
         | inr m ↦
             let j = number vs (m .0) in

@@ -19,7 +19,7 @@ use Rattle.prelude.proofs.Tests.{pick-elim}
 use Rattle.kind.specs.Kind.{rule, counted, pending, immediate}
 use Rattle.kind.proofs.Laws.{immediate-none}
 use Rattle.token.specs.Token.{Token, emit, Fits}
-use Rattle.values.specs.Values.{Value, tokens, bytes, region, starts, Each, Item, Formed, Aimed, Back}
+use Rattle.values.specs.Values.{Value, tokens, bytes, region, starts, Each, Item, Formed, HasTargets, TargetsEarlier}
 use Rattle.values.specs.Paths.{targets}
 
 -- ---- bytes
@@ -150,20 +150,20 @@ fits-head v f s = record {
 
 -- ---- references and pointers
 
-pub back-append : (done : List ℕ) (at : ℕ) (a b : List Value)
-    → Back done at (a ++ b) ↔ (Back done at a × Back (done ++ starts at a) (at + length (region a)) b)
+pub targets-earlier-append : (done : List ℕ) (at : ℕ) (a b : List Value)
+    → TargetsEarlier done at (a ++ b) ↔ (TargetsEarlier done at a × TargetsEarlier (done ++ starts at a) (at + length (region a)) b)
 unfolding starts region
-back-append done at [] b = rw (append-nil, add-zero) (λ h. (tt, h), λ h. h .1)
-back-append done at (v ∷ a) b =
-    let ih = back-append (done ++ (at ∷ [])) (at + size v) a b in
+targets-earlier-append done at [] b = rw (append-nil, add-zero) (λ h. (tt, h), λ h. h .1)
+targets-earlier-append done at (v ∷ a) b =
+    let ih = targets-earlier-append (done ++ (at ∷ [])) (at + size v) a b in
     let e : at + length (region (v ∷ a)) ≡ at + size v + length (region a) = omega (arith, length-region v a) in
     rw (e, ← append-snoc done at (starts (at + size v) a))
     (λ h. let r = ih .0 (h .1) in ((h .0, r .0), r .1), λ h. (h .0 .0, ih .1 (h .0 .1, h .1)))
 
 -- the targets of tokens, each among `done`
-pub targets-aimed : (done : List ℕ) (q : ℕ) (ts : List Token) → Aimed done q ts → Each (λ x. among x done ≡ true) (targets q ts)
+pub targets-of-has-targets : (done : List ℕ) (q : ℕ) (ts : List Token) → HasTargets done q ts → Each (λ x. among x done ≡ true) (targets q ts)
 unfolding targets
-targets-aimed done q [] h = tt
-targets-aimed done q (t ∷ ts) h =
-    let ih = targets-aimed done (q + length (emit t)) ts (h .1) in
+targets-of-has-targets done q [] h = tt
+targets-of-has-targets done q (t ∷ ts) h =
+    let ih = targets-of-has-targets done (q + length (emit t)) ts (h .1) in
     pick-elim (Each (λ x. among x done ≡ true)) (leb 14 (t .kind)) (λ r. ((h .0 (leb-true 14 (t .kind) r)) .1, ih)) (λ r. ih)

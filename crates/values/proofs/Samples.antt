@@ -10,8 +10,8 @@ use Rattle.kind.specs.Kind.{rule}
 use Rattle.token.specs.Token.{Token, token, putIf, emit, Allowed}
 use Rattle.utf8.specs.Text.{isText, textFrom, next, lead}
 use Rattle.utf8.proofs.Laws.{isText-text}
-use Rattle.values.specs.Values.{Value, bytes, region, starts, Each, Sound, Item, Formed, Back, WellFormed}
-use Rattle.values.specs.Paths.{targets, targetsOf, deepest, pass, depthsOfValues}
+use Rattle.values.specs.Values.{Value, bytes, region, starts, Each, Sound, Item, Formed, TargetsEarlier, WellFormed}
+use Rattle.values.specs.Paths.{targets, targetsOf, deepest, depthsFrom, depthsOfValues}
 use Rattle.values.proofs.Unique.{values-same, last-same}
 
 abbrev text : List ℕ → Token
@@ -80,9 +80,9 @@ formed =
 none : {X : Type 0} (k : ℕ) → k < 14 → 14 ≤ k → X
 none k h l = absurd (omega arith)
 
-aimed : Back [] 0 hello
+targeted : TargetsEarlier [] 0 hello
 unfolding bytes emit putIf rule among
-aimed =
+targeted =
     (none 4 (omega arith) & tt)
     & (none 6 (omega arith) & (λ k. (omega arith, refl)) & tt)
     & (none 6 (omega arith) & (λ k. (omega arith, refl)) & (λ k. (omega arith, refl)) & tt)
@@ -92,24 +92,24 @@ aimed =
 well-formed : WellFormed
     (0x45 ∷ 0x68 ∷ 0x65 ∷ 0x6c ∷ 0x6c ∷ 0x6f ∷ 0x61 ∷ 0xf6 ∷ 0x62 ∷ 0xf8 ∷ 0xf3 ∷ 0x72 ∷ 0x41 ∷ 0x61 ∷ 0xf5 ∷ 0x41 ∷ 0x78 ∷ 0x01 ∷ 0x06 ∷ []) hello 11
 unfolding region bytes emit putIf rule starts among
-well-formed = record { short = omega arith; values = record { formed = formed; aimed = aimed }; delta = 6; same = refl; named = refl; start = refl }
+well-formed = record { short = omega arith; values = record { formed = formed; targets = targeted }; delta = 6; same = refl; named = refl; start = refl }
 
 starts-hello : starts 0 hello ≡ 0 ∷ 6 ∷ 8 ∷ 11 ∷ []
 unfolding starts bytes emit putIf rule
 starts-hello = refl
 
 depths-hello : depthsOfValues hello ≡ 1 ∷ 2 ∷ 3 ∷ 4 ∷ []
-unfolding depthsOfValues pass deepest targetsOf targets starts bytes emit putIf rule rank
+unfolding depthsOfValues depthsFrom deepest targetsOf targets starts bytes emit putIf rule rank
 depths-hello = refl
 
 -- ---- files without a reading
 
 -- formed values whose references and pointers do not go back to starts
-no-reading : (us : List Value) (d : ℕ) → Each Formed us → (Back [] 0 us → ⊥) → (vs : List Value) (entry : ℕ)
+no-reading : (us : List Value) (d : ℕ) → Each Formed us → (TargetsEarlier [] 0 us → ⊥) → (vs : List Value) (entry : ℕ)
     → WellFormed (region us ++ (d ∷ [])) vs entry → ⊥
-no-reading us d f astray vs entry w =
+no-reading us d f wrong vs entry w =
     let same = last-same (region vs) (region us) (w .delta) d (sym (w .same)) in
-    astray (subst (Back [] 0) (values-same vs us (w .values .formed) f (same .0)) (w .values .aimed))
+    wrong (subst (TargetsEarlier [] 0) (values-same vs us (w .values .formed) f (same .0)) (w .values .targets))
 
 -- an array that points to itself
 to-itself : (vs : List Value) (entry : ℕ) → WellFormed (0x61 ∷ 0xf0 ∷ 0x01 ∷ []) vs entry → ⊥

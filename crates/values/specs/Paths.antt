@@ -7,7 +7,7 @@
 --   Depth vs i d     d is the depth of value number i: a path from it meets d values, and none meets more
 --   Falling l        each is less than those before it, so none is met twice
 --   deepest ds js    the greatest depth of the values of numbers js; 0 where there are none
---   depthsOfValues vs  the depths, from left to right (`pass`), each one more than the greatest of its targets' depths
+--   depthsOfValues vs  the depths, from left to right (`depthsFrom`), each one more than the greatest of its targets' depths
 -- `-` stops at 0: a target q - n - 1 means something where n < q, as `Reaches` has it.
 use Prim.Native.Nat.{ℕ, suc, _+_, _-_, _≤_, _<_, max}
 use mathlib.Core.Path.{_≡_}
@@ -54,9 +54,9 @@ deepest ds [] = 0
 deepest ds (j ∷ js) = max (getD ds j 0) (deepest ds js)
 
 -- the values start at ss, and ds are the depths of those before
-unfoldable pub pass : List ℕ → List ℕ → List (List ℕ) → List ℕ
-pass ss ds [] = ds
-pass ss ds (os ∷ more) = pass ss (ds ++ (suc (deepest ds (map (λ x. rank x ss) os)) ∷ [])) more
+unfoldable pub depthsFrom : List ℕ → List ℕ → List (List ℕ) → List ℕ
+depthsFrom ss ds [] = ds
+depthsFrom ss ds (os ∷ more) = depthsFrom ss (ds ++ (suc (deepest ds (map (λ x. rank x ss) os)) ∷ [])) more
 
 unfoldable pub depthsOfValues : List Value → List ℕ
-depthsOfValues vs = pass (starts 0 vs) [] (targetsOf 0 vs)
+depthsOfValues vs = depthsFrom (starts 0 vs) [] (targetsOf 0 vs)

@@ -9,9 +9,11 @@
 --   Sound t             t's kind allows it, and a text is text
 --   Item t              t is sound and an immediate
 --   Formed v            the head is sound, the items are items, and as many as the head says
---   Reaches done q t    where t is a reference or pointer and its header is at q, its target q - n - 1 is not below 0, and is one of `done`
---   Aimed done q ts     so does each of the tokens ts, the first at q
---   Back done at vs     so do the tokens of each of the values vs, the first at `at`, with the starts of the values before it, which ended
+--   HasTarget done q t  where t is a reference or pointer and its header is at q, its target q - n - 1 is not below 0, and is one of `done`
+--   HasTargets done q ts
+--                       so does each of the tokens ts, the first at q
+--   TargetsEarlier done at vs
+--                       so do the tokens of each of the values vs, the first at `at`, with the starts of the values before it, which ended
 --                       before it began; `done` are those of the values before the first
 --   Values vs           vs are values as they may stand at the front of a file
 --   WellFormed file vs entry
@@ -66,20 +68,20 @@ pub record Formed (v : Value) : Type 0 where
   pub items : Each Item (v .items)
   pub count : length (v .items) ≡ pending (rule (v .head .kind)) (v .head .n) (v .head .args)
 
-abbrev pub Reaches : List ℕ → ℕ → Token → Type 0
-Reaches done q t = 14 ≤ t .kind → (t .n < q) × (among (q - t .n - 1) done ≡ true)
+abbrev pub HasTarget : List ℕ → ℕ → Token → Type 0
+HasTarget done q t = 14 ≤ t .kind → (t .n < q) × (among (q - t .n - 1) done ≡ true)
 
-abbrev pub Aimed : List ℕ → ℕ → List Token → Type 0
-Aimed done q [] = Unit {0}
-Aimed done q (t ∷ ts) = Reaches done q t × Aimed done (q + length (emit t)) ts
+abbrev pub HasTargets : List ℕ → ℕ → List Token → Type 0
+HasTargets done q [] = Unit {0}
+HasTargets done q (t ∷ ts) = HasTarget done q t × HasTargets done (q + length (emit t)) ts
 
-abbrev pub Back : List ℕ → ℕ → List Value → Type 0
-Back done at [] = Unit {0}
-Back done at (v ∷ vs) = Aimed done at (tokens v) × Back (done ++ (at ∷ [])) (at + length (bytes (tokens v))) vs
+abbrev pub TargetsEarlier : List ℕ → ℕ → List Value → Type 0
+TargetsEarlier done at [] = Unit {0}
+TargetsEarlier done at (v ∷ vs) = HasTargets done at (tokens v) × TargetsEarlier (done ++ (at ∷ [])) (at + length (bytes (tokens v))) vs
 
 pub record Values (vs : List Value) : Type 0 where
   pub formed : Each Formed vs
-  pub aimed : Back [] 0 vs
+  pub targets : TargetsEarlier [] 0 vs
 
 -- ---- the file
 

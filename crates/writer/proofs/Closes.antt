@@ -16,15 +16,15 @@ use Rattle.leb128.proofs.Sizes.{length-put-le}
 use Rattle.kind.specs.Kind.{rule}
 use Rattle.token.specs.Token.{Token, token, putIf, emit}
 use Rattle.token.proofs.Laws.{length-emit}
-use Rattle.judge.specs.Refusal.{refusal}
-use Rattle.writer.specs.Step.{Verdict, opens, bad, isListed, limit, early, judge, judgeDelta, Result, result, write, writeShut, settled, put}
-use Rattle.writer.specs.Stages.{Found, Refused, Shut, shutNear, shutFar}
-use Rattle.writer.specs.Told.{wrote}
+use Rattle.writer_refusal.specs.Refusal.{refusal}
+use Rattle.writer.specs.Step.{Verdict, opens, badState, isListed, limit, early, refusalOf, refusalOfDelta, Result, result, write, writePointerDelta, settled, putToken}
+use Rattle.writer.specs.Internal.{ListedTest, Refused, WroteDelta, closeNear, closeFar}
+use Rattle.writer.specs.Answers.{wrote}
 use Rattle.writer.specs.declared.Writer.{Writer}
 use Rattle.writer.specs.declared.WriteResult.{WriteResult}
 use Rattle.writer.specs.declared.WriteAnswer.the-variants.{Ok, Err}
-use Rattle.writer.proofs.Judged.{sound, Early, early-by, early-ok, past, judge-inv, behind}
-use Rattle.writer.proofs.Asked.{and-none, rung, rung-last}
+use Rattle.writer.proofs.Accepted.{sound, Early, early-by, early-ok, past, refusalOf-inv, room-after}
+use Rattle.writer.proofs.Fits.{and-none, refusal-step, refusal-last}
 
 -- ---- by the delta byte
 
@@ -33,8 +33,8 @@ pub record Near (e : ℕ) (s : Writer) (out table : List ℕ) : Type 0 where
   pub aim : isListed s table e ≡ true
   pub byte : s .written < limit (length out)
 
-pub delta-inv : (e : ℕ) (s : Writer) (out table : List ℕ) {u : Unit {0}} → judgeDelta e s out table ≡ ok u → Near e s out table
-unfolding judgeDelta
+pub delta-inv : (e : ℕ) (s : Writer) (out table : List ℕ) {u : Unit {0}} → refusalOfDelta e s out table ≡ ok u → Near e s out table
+unfolding refusalOfDelta
 delta-inv e s out table q =
     early-by true s (length out) (length table) _ q (λ p q₁.
     past (not (isListed s table e)) _ _ q₁ (λ a q₂.
@@ -42,13 +42,13 @@ delta-inv e s out table q =
 
 -- the state allows the delta byte
 abbrev may : Writer → ℕ → ℕ → Bool
-may s n m = not (bad s n m) && not (s .closed) && not (ltb 0 (s .pending)) && not (leb (limit n) (s .written))
+may s n m = not (badState s n m) && not (s .closed) && not (ltb 0 (s .pending)) && not (leb (limit n) (s .written))
 
-module _ (g : Bool) (e : ℕ) (s : Writer) (out table : List ℕ) (h : Found g e s table) where
+module _ (g : Bool) (e : ℕ) (s : Writer) (out table : List ℕ) (h : ListedTest g e s table) where
   module _ (q : g && may s (length out) (length table) ≡ true) where
     near : Near e s out table
     near =
-        let b = not (bad s (length out) (length table)) in
+        let b = not (badState s (length out) (length table)) in
         let z = not (s .closed) in
         let p = not (ltb 0 (s .pending)) in
         let f = leb (limit (length out)) (s .written) in
@@ -65,24 +65,24 @@ module _ (g : Bool) (e : ℕ) (s : Writer) (out table : List ℕ) (h : Found g e
     pub near-byte : s .written < length out
     near-byte = omega (arith, near .byte)
 
-    pub near-ok : (d : ℕ) (r : Writer) (o : List ℕ) → Shut d s out r o → result (ok tt) r o table ≡ shutNear e d s out table
-    unfolding judgeDelta
+    pub near-ok : (d : ℕ) (r : Writer) (o : List ℕ) → WroteDelta d s out r o → result (ok tt) r o table ≡ closeNear e d s out table
+    unfolding refusalOfDelta
     near-ok d r o k =
         rw (early-ok true s (length out) (length table) (near .passed), near .aim, lt-leb _ _ (near .byte)) (k .same table)
 
   pub near-refused : g && may s (length out) (length table) ≡ false → (d : ℕ) (w : WriteResult)
-      → Refused true false false (not g) s (length out) (length table) w → wrote w out table ≡ shutNear e d s out table
-  unfolding judgeDelta early refusal
+      → Refused true false false (not g) s (length out) (length table) w → wrote w out table ≡ closeNear e d s out table
+  unfolding refusalOfDelta early refusal
   near-refused q d w k = rw (reason, k .answer, k .writer)
     where
-      reason : judgeDelta e s out table
+      reason : refusalOfDelta e s out table
           ≡ error (refusal true false false (not g) (s .closed) (s .written) (s .count) (s .pending) (s .start) (length out) (length table))
       reason =
-          rung (bad s (length out) (length table)) _ _ _ _ refl (λ e₁. let d = sound s _ _ e₁ in
-          rung (s .closed) _ _ _ _ refl (λ e₂.
-          rung (ltb 0 (s .pending)) _ _ _ _ refl (λ e₃.
-          rung (not (isListed s table e)) _ _ _ _ (ap not (sym (h (d .short) (d .listed)))) (λ e₄.
-          rung-last (leb (limit (length out)) (s .written)) _ (λ e₅.
+          refusal-step (badState s (length out) (length table)) _ _ _ _ refl (λ e₁. let d = sound s _ _ e₁ in
+          refusal-step (s .closed) _ _ _ _ refl (λ e₂.
+          refusal-step (ltb 0 (s .pending)) _ _ _ _ refl (λ e₃.
+          refusal-step (not (isListed s table e)) _ _ _ _ (ap not (sym (h (d .short) (d .listed)))) (λ e₄.
+          refusal-last (leb (limit (length out)) (s .written)) _ (λ e₅.
           true≢false (rw (not-false g e₄, e₁, e₂, e₃, e₅) at q))))))
 
 -- ---- by a pointer and its delta byte
@@ -128,31 +128,31 @@ module _ (e back : ℕ) (s : Writer) (out table : List ℕ) where
   pointer = token 15 back 0 []
 
   pub far-refused : (g : Bool) → 0 < s .pending → (w : WriteResult)
-      → Refused true true false (not g) s (length out) (length table) w → wrote w out table ≡ shutFar e back s out table
-  unfolding judge early refusal
+      → Refused true true false (not g) s (length out) (length table) w → wrote w out table ≡ closeFar e back s out table
+  unfolding refusalOf early refusal
   far-refused g p w k = rw (reason, k .answer, k .writer)
     where
-      reason : judge true pointer e s out table
+      reason : refusalOf true pointer e s out table
           ≡ error (refusal true true false (not g) (s .closed) (s .written) (s .count) (s .pending) (s .start) (length out) (length table))
       reason =
-          rung (bad s (length out) (length table)) _ _ _ _ refl (λ e₁.
-          rung (s .closed) _ _ _ _ refl (λ e₂.
-          rung (ltb 0 (s .pending)) _ _ _ _ refl (λ e₃. absurd (omega (arith, ltb-false 0 (s .pending) e₃)))))
+          refusal-step (badState s (length out) (length table)) _ _ _ _ refl (λ e₁.
+          refusal-step (s .closed) _ _ _ _ refl (λ e₂.
+          refusal-step (ltb 0 (s .pending)) _ _ _ _ refl (λ e₃. absurd (omega (arith, ltb-false 0 (s .pending) e₃)))))
 
   -- with no items pending a close is judged as its pointer is
-  module _ (z : s .pending ≤ 0) (r : WriteResult) (o words : List ℕ) (j : wrote r o words ≡ put pointer e s out table) where
-    alone-is : judge true pointer e s out table ≡ judge (opens pointer) pointer e s out table
-    unfolding judge early
+  module _ (z : s .pending ≤ 0) (r : WriteResult) (o words : List ℕ) (j : wrote r o words ≡ putToken pointer e s out table) where
+    alone-is : refusalOf true pointer e s out table ≡ refusalOf (opens pointer) pointer e s out table
+    unfolding refusalOf early
     alone-is = let q : s .pending ≡ 0 = omega arith in rw (q, and-none (opens pointer))
 
-    pub far-error : (f : ErrorKind) → r .answer ≡ Err f → result (error (numberOf f)) (r .writer) o words ≡ shutFar e back s out table
-    unfolding put write
-    far-error f q = rw alone-is (settled-error (judge (opens pointer) pointer e s out table) s out table (write pointer s out table) (writeShut pointer s out table) refl _ _ o words (rw q at j))
+    pub far-error : (f : ErrorKind) → r .answer ≡ Err f → result (error (numberOf f)) (r .writer) o words ≡ closeFar e back s out table
+    unfolding putToken write
+    far-error f q = rw alone-is (settled-error (refusalOf (opens pointer) pointer e s out table) s out table (write pointer s out table) (writePointerDelta pointer s out table) refl _ _ o words (rw q at j))
 
     module _ (q : r .answer ≡ Ok) where
-      taken : (judge (opens pointer) pointer e s out table ≡ ok tt) × (result (ok tt) (r .writer) o words ≡ write pointer s out table)
-      unfolding put
-      taken = settled-ok (judge (opens pointer) pointer e s out table) s out table (write pointer s out table) _ o words (rw q at j)
+      taken : (refusalOf (opens pointer) pointer e s out table ≡ ok tt) × (result (ok tt) (r .writer) o words ≡ write pointer s out table)
+      unfolding putToken
+      taken = settled-ok (refusalOf (opens pointer) pointer e s out table) s out table (write pointer s out table) _ o words (rw q at j)
 
       pub far-room : Far (s .written) (r .writer .written) (length o)
       far-room =
@@ -163,12 +163,12 @@ module _ (e back : ℕ) (s : Writer) (out table : List ℕ) where
           record {
             after = omega arith;
             delta = omega arith;
-            room = omega (arith, length-is pointer s out table (r .writer) o words (taken .1), behind _ pointer e s out table (judge-inv _ pointer e s out table (taken .0)));
+            room = omega (arith, length-is pointer s out table (r .writer) o words (taken .1), room-after _ pointer e s out table (refusalOf-inv _ pointer e s out table (taken .0)));
           }
 
-      pub far-ok : (d : ℕ) → d ≡ r .writer .written - s .written - 1 → (w : Writer) (p : List ℕ) → Shut d (r .writer) o w p
-          → result (ok tt) w p words ≡ shutFar e back s out table
-      unfolding writeShut
+      pub far-ok : (d : ℕ) → d ≡ r .writer .written - s .written - 1 → (w : Writer) (p : List ℕ) → WroteDelta d (r .writer) o w p
+          → result (ok tt) w p words ≡ closeFar e back s out table
+      unfolding writePointerDelta
       far-ok d y w p h =
           let is : d ≡ length (emit pointer) - 1 = omega (arith, written-is pointer s out table (r .writer) o words (taken .1)) in
           rw (alone-is, taken .0, ← taken .1, ← is) (h .same words)

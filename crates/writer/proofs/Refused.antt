@@ -10,7 +10,7 @@ use lib.Dec.{leb}
 use Rattle.prelude.specs.Answer.{ok, error}
 use Rattle.prelude.proofs.Tests.{pick-elim}
 use Rattle.token.specs.Token.{Token, token}
-use Rattle.writer.specs.Step.{Call, Move, puts, closes, moveOf, opens, Verdict, judge, judgeDelta, Result, result, write, shut, writeShut, settled, put, closeAt, move, step}
+use Rattle.writer.specs.Step.{Call, Move, puts, closes, moveOf, opens, Verdict, refusalOf, refusalOfDelta, Result, result, write, writeDelta, writePointerDelta, settled, putToken, closeAt, move, step}
 use Rattle.writer.specs.declared.Writer.{Writer}
 
 -- a pointer to x behind the bytes written
@@ -18,14 +18,14 @@ abbrev pub pointerTo : ℕ → Writer → Token
 pointerTo x s = token 15 (s .written - x - 1) 0 []
 
 module _ (s : Writer) (out table : List ℕ) (P : Result → Type 0)
-    (judged : (alone : Bool) (t : Token) (target : ℕ) (r : Result) → r .answer ≡ ok tt → P (settled (judge alone t target s out table) s out table r))
-    (delta : (x : ℕ) (r : Result) → r .answer ≡ ok tt → P (settled (judgeDelta x s out table) s out table r)) where
+    (judged : (alone : Bool) (t : Token) (target : ℕ) (r : Result) → r .answer ≡ ok tt → P (settled (refusalOf alone t target s out table) s out table r))
+    (delta : (x : ℕ) (r : Result) → r .answer ≡ ok tt → P (settled (refusalOfDelta x s out table) s out table r)) where
   pub settled-by : (m : Move) → P (move m s out table)
-  unfolding put closeAt write shut writeShut
+  unfolding putToken closeAt write writeDelta writePointerDelta
   settled-by (puts t target) = judged (opens t) t target (write t s out table) refl
   settled-by (closes x) =
-      pick-elim P (leb (s .written - x - 1) 255) (λ _. delta x (shut (s .written - x - 1) s out table) refl)
-      (λ _. judged true (pointerTo x s) x (writeShut (pointerTo x s) s out table) refl)
+      pick-elim P (leb (s .written - x - 1) 255) (λ _. delta x (writeDelta (s .written - x - 1) s out table) refl)
+      (λ _. judged true (pointerTo x s) x (writePointerDelta (pointerTo x s) s out table) refl)
 
 module _ (s : Writer) (out table : List ℕ) (f : ℕ) where
   abbrev Same : Result → Type 0
@@ -40,6 +40,6 @@ pub refused-same : (c : Call) (s : Writer) (out table : List ℕ) (f : ℕ) → 
     → step c s out table ≡ result (error f) s out table
 refused-same c s out table f =
     settled-by s out table (Same s out table f)
-    (λ alone t target. settled-same s out table f (judge alone t target s out table))
-    (λ x. settled-same s out table f (judgeDelta x s out table))
+    (λ alone t target. settled-same s out table f (refusalOf alone t target s out table))
+    (λ x. settled-same s out table f (refusalOfDelta x s out table))
     (moveOf c (s .written))

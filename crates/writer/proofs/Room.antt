@@ -11,7 +11,7 @@ use Rattle.prelude.proofs.Tests.{split, pick-cong}
 use Rattle.error.specs.Error.{LIMIT}
 use Rattle.token.specs.Token.{Token, emit}
 use Rattle.writer.specs.Step.{limit, room, pendingOf, due}
-use Rattle.writer.specs.Stages.{need}
+use Rattle.writer.specs.Internal.{bytesNeeded}
 use Rattle.writer.specs.declared.Writer.{Writer}
 
 room-lt : (s : Writer) (n : ℕ) → room s n < LIMIT
@@ -26,7 +26,7 @@ sum-limit true r x own y h =
 sum-limit false r x own y h = refl
 
 pub room-limit : (s : Writer) (t : Token) (n : ℕ)
-    → ltb (room s n) (length (emit t) + due (s .pending) (limit (pendingOf t))) ≡ ltb (room s n) (need t s)
+    → ltb (room s n) (length (emit t) + due (s .pending) (limit (pendingOf t))) ≡ ltb (room s n) (bytesNeeded t s)
 room-limit s t n = sum-limit (eqb (s .pending) 0) _ _ _ _ (room-lt s n)
 
 -- items that have room are counted exactly

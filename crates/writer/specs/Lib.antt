@@ -3,6 +3,6 @@ pub mod Step
 -- the widths of their arguments
 pub mod Given
 -- what the code's answers mean
-pub mod Told
+pub mod Answers
 -- the steps inside a call
-pub mod Stages
+pub mod Internal

@@ -4,7 +4,7 @@
 --   fresh              a writer with no bytes, starts or items pending, not closed
 --   moveOf c w         what a call comes to with w bytes written: a token and the target that it names (0 where it names none), or the close
 --   opens t            t's kind may have items, so that it is no immediate
---   bad s n m          BAD_STATE, with an output of n bytes and a table of m words
+--   badState s n m     BAD_STATE, with an output of n bytes and a table of m words
 --   isListed s table x x is below the bytes written, and one of the table's first `count` words
 --   limit n            the bytes that may be written into an output of n bytes
 --   room s n           the bytes left there for tokens: one for the delta is held back
@@ -13,11 +13,13 @@
 --   early alone s n m v
 --                      the first reasons to refuse any call: BAD_STATE, CLOSED, and OWED of one that may not come while items are pending, an
 --                      opening or a close; v where there is none of these
---   judge ..           the first reason to refuse a token: those, BAD_TEXT, BAD_TARGET, FULL, NO_ROOM
---   judgeDelta ..      the first reason to refuse a close that needs no pointer
---   write, shut ..     answer, state, output and table after a token, and after the delta byte; `writeShut` after both. Where no items are
+--   refusalOf ..       the first reason to refuse a token: those, BAD_TEXT, BAD_TARGET, FULL, NO_ROOM
+--   refusalOfDelta ..  the first reason to refuse a close that needs no pointer
+--   write, writeDelta ..
+--                      answer, state, output and table after a token, and after the delta byte; `writePointerDelta` after both. Where no items are
 --                      pending, the state's `start` means nothing
---   put, closeAt ..    a token, and a close, judged and then written. `-` stops at 0: a target or close that is not below the bytes written is
+--   putToken, closeAt ..
+--                      a token, and a close, judged and then written. `-` stops at 0: a target or close that is not below the bytes written is
 --                      reckoned with a distance of 0, and is BAD_TARGET
 --   step c s out table what a call answers and leaves; a refused one leaves all as it was
 use Prim.Native.Nat.{ℕ, _+_, _-_, min}
@@ -32,7 +34,7 @@ use Rattle.prelude.specs.Answer.{Answer, ok, error}
 use Rattle.prelude.specs.Search.{among}
 use Rattle.error.specs.Error.{LIMIT, BAD_STATE, CLOSED, OWED, BAD_TEXT, BAD_TARGET, FULL, NO_ROOM}
 use Rattle.utf8.specs.Text.{isText}
-use Rattle.float.specs.Bits.{little}
+use Rattle.little_endian.specs.LittleEndian.{little}
 use Rattle.kind.specs.Kind.{rule, pending, immediate}
 use Rattle.token.specs.Token.{Token, token, emit}
 use Rattle.writer.specs.declared.Writer.{Writer}
@@ -97,8 +99,8 @@ fresh = record { written = 0; count = 0; pending = 0; start = 0; closed = false 
 abbrev pub opens : Token → Bool
 opens t = not (immediate (rule (t .kind)))
 
-abbrev pub bad : Writer → ℕ → ℕ → Bool
-bad s n m =
+abbrev pub badState : Writer → ℕ → ℕ → Bool
+badState s n m =
     ltb n (s .written)
     || (ltb LIMIT (s .written) || (ltb m (s .count) || (ltb 0 (s .pending) && (leb m (s .count) || leb (s .written) (s .start)))))
 
@@ -122,13 +124,13 @@ Verdict = Answer ℕ (Unit {0})
 
 unfoldable pub early : Bool → Writer → ℕ → ℕ → Verdict → Verdict
 early alone s n m v =
-    pick (bad s n m) (error BAD_STATE)
+    pick (badState s n m) (error BAD_STATE)
     (pick (s .closed) (error CLOSED)
     (pick (alone && ltb 0 (s .pending)) (error OWED)
     v))
 
-unfoldable pub judge : Bool → Token → ℕ → Writer → List ℕ → List ℕ → Verdict
-judge alone t target s out table =
+unfoldable pub refusalOf : Bool → Token → ℕ → Writer → List ℕ → List ℕ → Verdict
+refusalOf alone t target s out table =
     early alone s (length out) (length table)
     (pick (eqb (t .kind) 4 && not (isText (t .body))) (error BAD_TEXT)
     (pick (leb 14 (t .kind) && not (isListed s table target)) (error BAD_TARGET)
@@ -136,8 +138,8 @@ judge alone t target s out table =
     (pick (ltb (room s (length out)) (length (emit t) + due (s .pending) (pendingOf t))) (error NO_ROOM)
     (ok tt)))))
 
-unfoldable pub judgeDelta : ℕ → Writer → List ℕ → List ℕ → Verdict
-judgeDelta e s out table =
+unfoldable pub refusalOfDelta : ℕ → Writer → List ℕ → List ℕ → Verdict
+refusalOfDelta e s out table =
     early true s (length out) (length table)
     (pick (not (isListed s table e)) (error BAD_TARGET)
     (pick (leb (limit (length out)) (s .written)) (error NO_ROOM)
@@ -174,14 +176,14 @@ write t s out table =
     (pick (eqb left 0) (set table (s .count) (startOf s)) table)
 
 -- the delta byte d
-unfoldable pub shut : ℕ → Writer → List ℕ → List ℕ → Result
-shut d s out table =
+unfoldable pub writeDelta : ℕ → Writer → List ℕ → List ℕ → Result
+writeDelta d s out table =
     result (ok tt) (record { written = s .written + 1; count = s .count; pending = s .pending; start = s .start; closed = true })
     (sets out (s .written) (d ∷ [])) table
 
 -- a pointer, and the delta byte that names it
-unfoldable pub writeShut : Token → Writer → List ℕ → List ℕ → Result
-writeShut t s out table = let r = write t s out table in shut (length (emit t) - 1) (r .writer) (r .out) (r .table)
+unfoldable pub writePointerDelta : Token → Writer → List ℕ → List ℕ → Result
+writePointerDelta t s out table = let r = write t s out table in writeDelta (length (emit t) - 1) (r .writer) (r .out) (r .table)
 
 -- ---- any call
 
@@ -189,8 +191,8 @@ abbrev pub settled : Verdict → Writer → List ℕ → List ℕ → Result →
 settled (ok u) s out table r = r
 settled (error f) s out table r = result (error f) s out table
 
-unfoldable pub put : Token → ℕ → Writer → List ℕ → List ℕ → Result
-put t target s out table = settled (judge (opens t) t target s out table) s out table (write t s out table)
+unfoldable pub putToken : Token → ℕ → Writer → List ℕ → List ℕ → Result
+putToken t target s out table = settled (refusalOf (opens t) t target s out table) s out table (write t s out table)
 
 -- one delta byte reaches back 256 bytes
 unfoldable pub closeAt : ℕ → Writer → List ℕ → List ℕ → Result
@@ -198,11 +200,11 @@ closeAt e s out table =
     let back = s .written - e - 1 in
     let t = token 15 back 0 [] in
     pick (leb back 255)
-    (settled (judgeDelta e s out table) s out table (shut back s out table))
-    (settled (judge true t e s out table) s out table (writeShut t s out table))
+    (settled (refusalOfDelta e s out table) s out table (writeDelta back s out table))
+    (settled (refusalOf true t e s out table) s out table (writePointerDelta t s out table))
 
 abbrev pub move : Move → Writer → List ℕ → List ℕ → Result
-move (puts t target) s out table = put t target s out table
+move (puts t target) s out table = putToken t target s out table
 move (closes e) s out table = closeAt e s out table
 
 abbrev pub step : Call → Writer → List ℕ → List ℕ → Result

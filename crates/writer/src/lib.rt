@@ -10,9 +10,9 @@ ghost use lib.ListN.{length};
 ghost use Rattle.prelude.specs.Pick.{pick};
 ghost use Rattle.kind.specs.Kind.{rule, immediate};
 ghost use Rattle.token.specs.Token.{token};
-ghost use Rattle.writer.specs.Step.{Call, scalarOf, integerOf, startOf, put, fresh, step};
-ghost use Rattle.writer.specs.Told.{wrote};
-ghost use Rattle.writer.specs.Stages.{Found, Good, Asked, Advanced, Refused, Shut, shutNear, shutFar};
+ghost use Rattle.writer.specs.Step.{Call, scalarOf, integerOf, startOf, putToken, fresh, step};
+ghost use Rattle.writer.specs.Answers.{wrote};
+ghost use Rattle.writer.specs.Internal.{ListedTest, ArgumentTest, FitOf, Advanced, Refused, WroteDelta, closeNear, closeFar};
 
 // A writer's state. It goes in with each call and comes back as the next; output and table are lent each time.
 pub struct Writer {
@@ -45,7 +45,7 @@ pub struct WriteResult {
 }
 
 // What a token asks for.
-struct Ask {
+struct Fit {
     // Whether its text, or its target, is as it should be.
     good: bool,
     // Whether it is written.
@@ -116,7 +116,7 @@ impl Writer {
 
     // Whether `at` is a listed start; nothing is said of a state that is BAD_STATE.
     fn is_listed(self, starts: &[u32], at: usize) -> bool
-        ensures { λ r. ⌜ Found r at self (now (starts .entry)) ⌝ }
+        ensures { λ r. ⌜ ListedTest r at self (now (starts .entry)) ⌝ }
     {
         let count = self.count;
         if error::LIMIT < self.written {
@@ -128,11 +128,11 @@ impl Writer {
         if self.written <= at {
             return false;
         }
-        listing::lists(&starts[..count], at as u32)
+        writer_listing::is_among(&starts[..count], at as u32)
     }
 
     // What a token asks for that names the offset `target`; `good` tells of its text or target, `row` is the rule of its kind.
-    fn ask(
+    fn fit(
         self,
         good: bool,
         row: Rule,
@@ -143,15 +143,15 @@ impl Writer {
         target: usize,
         out: &[u8],
         starts: &[u32],
-    ) -> Ask
-        requires { ⌜ (kind < 16) × (row ≡ rule kind) × Good good kind (now body) target self (now starts) ⌝ }
-        ensures { λ r. ⌜ Asked (token kind n args (now (body .entry))) target self (now (out .entry)) (now (starts .entry)) r ⌝ }
+    ) -> Fit
+        requires { ⌜ (kind < 16) × (row ≡ rule kind) × ArgumentTest good kind (now body) target self (now starts) ⌝ }
+        ensures { λ r. ⌜ FitOf (token kind n args (now (body .entry))) target self (now (out .entry)) (now (starts .entry)) r ⌝ }
     {
         let size = emit::size_by(row, n, args, body);
-        let left = judge::left(self.pending, row, n, args);
-        let short = judge::is_short(self.written, size, left, out.len());
+        let left = writer_refusal::left(self.pending, row, n, args);
+        let short = writer_refusal::is_short(self.written, size, left, out.len());
         let immediate = kind::is_immediate(row);
-        let ready = judge::is_ready(
+        let ready = writer_refusal::is_ready(
             !immediate,
             self.closed,
             self.written,
@@ -160,7 +160,7 @@ impl Writer {
             self.start,
             starts.len(),
         );
-        Ask {
+        Fit {
             good,
             fits: good & ready & !short,
             second: row.args,
@@ -170,14 +170,14 @@ impl Writer {
     }
 
     // The state behind a token that is written; lists the start of a value that it finishes.
-    fn advance(self, ask: Ask, starts: &mut [u32]) -> Writer
+    fn advance(self, ask: Fit, starts: &mut [u32]) -> Writer
         requires { ⌜ (startOf self < 2 ^ 32) × (self .count < length (now starts)) × (self .written + ask .size < 2 ^ 64) ⌝ }
         ensures { λ r. ⌜ Advanced ask self (now (starts .entry)) r (now (starts .exit)) ⌝ }
     {
         let left = ask.left;
         let first = self.pending == 0;
         let start = pick(first, self.written, self.start);
-        let count = listing::list_start(left, start, self.count, starts);
+        let count = writer_listing::list_start(left, start, self.count, starts);
         Writer {
             written: self.written + ask.size,
             count,
@@ -187,7 +187,7 @@ impl Writer {
         }
     }
 
-    // A refused call leaves the state as it was; the flags are those of `judge::refusal`.
+    // A refused call leaves the state as it was; the flags are those of `writer_refusal::refusal`.
     fn refuse(
         self,
         alone: bool,
@@ -199,7 +199,7 @@ impl Writer {
     ) -> WriteResult
         ensures { λ r. ⌜ Refused alone adds text target self bytes words r ⌝ }
     {
-        let e = judge::refusal(
+        let e = writer_refusal::refusal(
             alone,
             adds,
             text,
@@ -222,16 +222,16 @@ impl Writer {
     fn refuse_token(self, good: bool, kind: u8, bytes: usize, words: usize) -> WriteResult
         ensures { λ r. ⌜ Refused (not (immediate (rule kind))) true (eqb kind 4 && not good) (leb 14 kind && not good) self bytes words r ⌝ }
     {
-        let alone = judge::is_opening(kind);
+        let alone = writer_refusal::is_opening(kind);
         let text = (kind == kind::KIND_TEXT) & !good;
         let target = (kind::KIND_REFERENCE <= kind) & !good;
         self.refuse(alone, true, text, target, bytes, words)
     }
 
     // Puts a token that has no body.
-    fn put(
+    fn put_token(
         self,
-        ask: Ask,
+        ask: Fit,
         kind: u8,
         n: u64,
         args: u64,
@@ -239,8 +239,8 @@ impl Writer {
         out: &mut [u8],
         starts: &mut [u32],
     ) -> WriteResult
-        requires { ⌜ Asked (token kind n args []) target self (now out) (now starts) ask ⌝ }
-        ensures { λ r. ⌜ wrote r (now (out .exit)) (now (starts .exit)) ≡ put (token kind n args []) target self (now (out .entry)) (now (starts .entry)) ⌝ }
+        requires { ⌜ FitOf (token kind n args []) target self (now out) (now starts) ask ⌝ }
+        ensures { λ r. ⌜ wrote r (now (out .exit)) (now (starts .exit)) ≡ putToken (token kind n args []) target self (now (out .entry)) (now (starts .entry)) ⌝ }
     {
         if ask.fits {
             let written = self.written;
@@ -256,15 +256,15 @@ impl Writer {
     // Puts a token that has a body.
     fn put_body(
         self,
-        ask: Ask,
+        ask: Fit,
         kind: u8,
         n: u64,
         body: &[u8],
         out: &mut [u8],
         starts: &mut [u32],
     ) -> WriteResult
-        requires { ⌜ Asked (token kind n 0 (now body)) 0 self (now out) (now starts) ask ⌝ }
-        ensures { λ r. ⌜ wrote r (now (out .exit)) (now (starts .exit)) ≡ put (token kind n 0 (now (body .entry))) 0 self (now (out .entry)) (now (starts .entry)) ⌝ }
+        requires { ⌜ FitOf (token kind n 0 (now body)) 0 self (now out) (now starts) ask ⌝ }
+        ensures { λ r. ⌜ wrote r (now (out .exit)) (now (starts .exit)) ≡ putToken (token kind n 0 (now (body .entry))) 0 self (now (out .entry)) (now (starts .entry)) ⌝ }
     {
         if ask.fits {
             let written = self.written;
@@ -280,9 +280,9 @@ impl Writer {
     // ---- the close
 
     // Writes the delta byte.
-    fn shut(self, delta: u8, out: &mut [u8]) -> Writer
+    fn write_delta(self, delta: u8, out: &mut [u8]) -> Writer
         requires { ⌜ self .written < length (now out) ⌝ }
-        ensures { λ r. ⌜ Shut delta self (now (out .entry)) r (now (out .exit)) ⌝ }
+        ensures { λ r. ⌜ WroteDelta delta self (now (out .entry)) r (now (out .exit)) ⌝ }
     {
         let written = self.written;
         out[written] = delta;
@@ -302,10 +302,10 @@ impl Writer {
         out: &mut [u8],
         starts: &[u32],
     ) -> WriteResult
-        requires { ⌜ Found good at self (now starts) ⌝ }
-        ensures { λ r. ⌜ wrote r (now (out .exit)) (now (starts .entry)) ≡ shutNear at delta self (now (out .entry)) (now (starts .entry)) ⌝ }
+        requires { ⌜ ListedTest good at self (now starts) ⌝ }
+        ensures { λ r. ⌜ wrote r (now (out .exit)) (now (starts .entry)) ≡ closeNear at delta self (now (out .entry)) (now (starts .entry)) ⌝ }
     {
-        let ready = judge::may_shut(
+        let ready = writer_refusal::may_close(
             self.closed,
             self.written,
             self.count,
@@ -316,7 +316,7 @@ impl Writer {
         );
         if good & ready {
             return WriteResult {
-                writer: self.shut(delta, out),
+                writer: self.write_delta(delta, out),
                 answer: WriteAnswer::Ok,
             };
         }
@@ -332,16 +332,16 @@ impl Writer {
         out: &mut [u8],
         starts: &mut [u32],
     ) -> WriteResult
-        requires { ⌜ Found good at self (now starts) ⌝ }
-        ensures { λ r. ⌜ wrote r (now (out .exit)) (now (starts .exit)) ≡ shutFar at back self (now (out .entry)) (now (starts .entry)) ⌝ }
+        requires { ⌜ ListedTest good at self (now starts) ⌝ }
+        ensures { λ r. ⌜ wrote r (now (out .exit)) (now (starts .exit)) ≡ closeFar at back self (now (out .entry)) (now (starts .entry)) ⌝ }
     {
         if 0 < self.pending {
             return self.refuse(true, true, false, !good, out.len(), starts.len());
         }
         let kind = kind::KIND_POINTER;
         let rule = kind::rule_of(kind);
-        let ask = self.ask(good, rule, kind, back, 0, b"", at, out, starts);
-        let r = self.put(ask, kind, back, 0, at, out, starts);
+        let ask = self.fit(good, rule, kind, back, 0, b"", at, out, starts);
+        let r = self.put_token(ask, kind, back, 0, at, out, starts);
         let answer = r.answer;
         let next = r.writer;
         match answer {
@@ -352,7 +352,7 @@ impl Writer {
             WriteAnswer::Ok => {
                 let size = next.written - self.written;
                 WriteResult {
-                    writer: next.shut((size - 1) as u8, out),
+                    writer: next.write_delta((size - 1) as u8, out),
                     answer: WriteAnswer::Ok,
                 }
             }
@@ -380,8 +380,8 @@ impl Writer {
         let kind = kind::KIND_SCALAR;
         let rule = kind::rule_of(kind);
         let n = number(value);
-        let ask = self.ask(true, rule, kind, n, 0, b"", 0, out, starts);
-        self.put(ask, kind, n, 0, 0, out, starts)
+        let ask = self.fit(true, rule, kind, n, 0, b"", 0, out, starts);
+        self.put_token(ask, kind, n, 0, 0, out, starts)
     }
 
     pub fn integer(self, value: i64, out: &mut [u8], starts: &mut [u32]) -> WriteResult
@@ -390,8 +390,8 @@ impl Writer {
         let kind = sign(value);
         let rule = kind::rule_of(kind);
         let n = magnitude(value);
-        let ask = self.ask(true, rule, kind, n, 0, b"", 0, out, starts);
-        self.put(ask, kind, n, 0, 0, out, starts)
+        let ask = self.fit(true, rule, kind, n, 0, b"", 0, out, starts);
+        self.put_token(ask, kind, n, 0, 0, out, starts)
     }
 
     // Bits, never computed with.
@@ -400,8 +400,8 @@ impl Writer {
     {
         let kind = kind::KIND_FLOAT;
         let rule = kind::rule_of(kind);
-        let body = float::bytes4(bits);
-        let ask = self.ask(true, rule, kind, 0, 0, &body, 0, out, starts);
+        let body = little_endian::bytes4(bits);
+        let ask = self.fit(true, rule, kind, 0, 0, &body, 0, out, starts);
         self.put_body(ask, kind, 0, &body, out, starts)
     }
 
@@ -410,8 +410,8 @@ impl Writer {
     {
         let kind = kind::KIND_FLOAT;
         let rule = kind::rule_of(kind);
-        let body = float::bytes8(bits);
-        let ask = self.ask(true, rule, kind, 1, 0, &body, 0, out, starts);
+        let body = little_endian::bytes8(bits);
+        let ask = self.fit(true, rule, kind, 1, 0, &body, 0, out, starts);
         self.put_body(ask, kind, 1, &body, out, starts)
     }
 
@@ -422,7 +422,7 @@ impl Writer {
         let rule = kind::rule_of(kind);
         let good = utf8::is_text(body);
         let n = body.len() as u64;
-        let ask = self.ask(good, rule, kind, n, 0, body, 0, out, starts);
+        let ask = self.fit(good, rule, kind, n, 0, body, 0, out, starts);
         self.put_body(ask, kind, n, body, out, starts)
     }
 
@@ -432,7 +432,7 @@ impl Writer {
         let kind = kind::KIND_BYTES;
         let rule = kind::rule_of(kind);
         let n = body.len() as u64;
-        let ask = self.ask(true, rule, kind, n, 0, body, 0, out, starts);
+        let ask = self.fit(true, rule, kind, n, 0, body, 0, out, starts);
         self.put_body(ask, kind, n, body, out, starts)
     }
 
@@ -442,8 +442,8 @@ impl Writer {
     {
         let kind = kind::KIND_VARIANT;
         let rule = kind::rule_of(kind);
-        let ask = self.ask(true, rule, kind, index as u64, 0, b"", 0, out, starts);
-        self.put(ask, kind, index as u64, 0, 0, out, starts)
+        let ask = self.fit(true, rule, kind, index as u64, 0, b"", 0, out, starts);
+        self.put_token(ask, kind, index as u64, 0, 0, out, starts)
     }
 
     // A reference to the value that starts at `at`.
@@ -454,8 +454,8 @@ impl Writer {
         let rule = kind::rule_of(kind);
         let n = distance(self.written, at);
         let good = self.is_listed(starts, at);
-        let ask = self.ask(good, rule, kind, n, 0, b"", at, out, starts);
-        self.put(ask, kind, n, 0, at, out, starts)
+        let ask = self.fit(good, rule, kind, n, 0, b"", at, out, starts);
+        self.put_token(ask, kind, n, 0, at, out, starts)
     }
 
     // A pointer to the value that starts at `at`.
@@ -466,8 +466,8 @@ impl Writer {
         let rule = kind::rule_of(kind);
         let n = distance(self.written, at);
         let good = self.is_listed(starts, at);
-        let ask = self.ask(good, rule, kind, n, 0, b"", at, out, starts);
-        self.put(ask, kind, n, 0, at, out, starts)
+        let ask = self.fit(good, rule, kind, n, 0, b"", at, out, starts);
+        self.put_token(ask, kind, n, 0, at, out, starts)
     }
 
     // An array of n items, which are the next immediates.
@@ -476,8 +476,8 @@ impl Writer {
     {
         let kind = kind::KIND_ARRAY;
         let rule = kind::rule_of(kind);
-        let ask = self.ask(true, rule, kind, n, 0, b"", 0, out, starts);
-        self.put(ask, kind, n, 0, 0, out, starts)
+        let ask = self.fit(true, rule, kind, n, 0, b"", 0, out, starts);
+        self.put_token(ask, kind, n, 0, 0, out, starts)
     }
 
     // A map of n pairs, key and value by turns.
@@ -486,8 +486,8 @@ impl Writer {
     {
         let kind = kind::KIND_MAP;
         let rule = kind::rule_of(kind);
-        let ask = self.ask(true, rule, kind, n, 0, b"", 0, out, starts);
-        self.put(ask, kind, n, 0, 0, out, starts)
+        let ask = self.fit(true, rule, kind, n, 0, b"", 0, out, starts);
+        self.put_token(ask, kind, n, 0, 0, out, starts)
     }
 
     // A tag of the next immediate.
@@ -496,8 +496,8 @@ impl Writer {
     {
         let kind = kind::KIND_TAG;
         let rule = kind::rule_of(kind);
-        let ask = self.ask(true, rule, kind, tag, 0, b"", 0, out, starts);
-        self.put(ask, kind, tag, 0, 0, out, starts)
+        let ask = self.fit(true, rule, kind, tag, 0, b"", 0, out, starts);
+        self.put_token(ask, kind, tag, 0, 0, out, starts)
     }
 
     // A variant whose one argument is the next immediate.
@@ -506,8 +506,8 @@ impl Writer {
     {
         let kind = kind::KIND_VARIANT1;
         let rule = kind::rule_of(kind);
-        let ask = self.ask(true, rule, kind, index as u64, 0, b"", 0, out, starts);
-        self.put(ask, kind, index as u64, 0, 0, out, starts)
+        let ask = self.fit(true, rule, kind, index as u64, 0, b"", 0, out, starts);
+        self.put_token(ask, kind, index as u64, 0, 0, out, starts)
     }
 
     // A variant of n arguments.
@@ -522,8 +522,8 @@ impl Writer {
     {
         let kind = kind::KIND_VARIANTN;
         let rule = kind::rule_of(kind);
-        let ask = self.ask(true, rule, kind, index as u64, n, b"", 0, out, starts);
-        self.put(ask, kind, index as u64, n, 0, out, starts)
+        let ask = self.fit(true, rule, kind, index as u64, n, b"", 0, out, starts);
+        self.put_token(ask, kind, index as u64, n, 0, out, starts)
     }
 
     // Closes at the value that starts at `at`: the file's entry is that value, or a pointer to it, added where one delta byte does not reach it.

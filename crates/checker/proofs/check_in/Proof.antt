@@ -7,7 +7,7 @@ use lib.ListN.{length, length-take}
 use lib.Seq.{length-take-le}
 use Rattle.prelude.proofs.Tests.{ladder}
 use Rattle.checker.specs.Check.{checkIn}
-use Rattle.checker.proofs.Checks.{listed-fits, listed-rising, check-error, check-walked}
+use Rattle.checker.proofs.Checks.{listed-fits, listed-rising, check-error, check-walk}
 use Rattle.checker.proofs.check_in.Statement.{statement}
 use Rattle.checker.proofs.check_in.Tie as tie
 
@@ -39,8 +39,8 @@ check-in-spec =
     (λ c. let k = c .before .before .before .before in
     let w = walked k .before .before .before .before in
     let a = w .before .before .before .args in
-    let e = check-walked (a .file .now) _ (length (a .starts .now)) (w .if1 .left) (omega arith) _ (walked k .list-starts .ensures .0) _ (k .count .given .1) (fits k) (c .entry-at .result) (c .entry-at .ensures) in
-    (e .told, e .fits))
+    let e = check-walk (a .file .now) _ (length (a .starts .now)) (w .if1 .left) (omega arith) _ (walked k .list-starts .ensures .0) _ (k .count .given .1) (fits k) (c .entry-at .result) (c .entry-at .ensures) in
+    (e .reported, e .fits))
     (λ c. search needs)
     (λ c. let k = c .before in
     let l = k .before .before .before .before in

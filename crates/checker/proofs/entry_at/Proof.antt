@@ -18,6 +18,6 @@ entry-at-spec =
     (λ c. search needs)
     (λ c. search needs)
     (λ c κs. (search needs, counted-none _))
-    (λ c. rw (lt-ltb _ _ (c .before .before .before .if1 .taken), sym (c .before .has .ensures) ∙ c .if2 .taken))
-    (λ c. rw (lt-ltb _ _ (c .before .before .before .if1 .taken), sym (c .before .has .ensures) ∙ c .if2 .left))
+    (λ c. rw (lt-ltb _ _ (c .before .before .before .if1 .taken), sym (c .before .is-among .ensures) ∙ c .if2 .taken))
+    (λ c. rw (lt-ltb _ _ (c .before .before .before .if1 .taken), sym (c .before .is-among .ensures) ∙ c .if2 .left))
     (λ c. rw (le-ltb _ _ (c .if1 .left))))

@@ -31,7 +31,7 @@ abbrev headed : tie.After-nibble → List ℕ
 headed c = set (start c .args .out .now) 0 (start c .args .kind * 16 + c .nibble .result)
 
 one : (c : tie.After-put-if) → PutAt (number (start (c .before .before))) (headed (c .before .before)) 1 (c .put-if .last .0) (c .put-if .result)
-one c = rw (c .before .before .before .excess .ensures) at (c .put-if .ensures)
+one c = rw (c .before .before .before .above-15 .ensures) at (c .put-if .ensures)
 
 abbrev first : tie.After-put-if2 → tie.After-put-if
 first c = c .before .before .before .before
@@ -65,7 +65,7 @@ put-head-spec =
     (λ c κs. search needs)
     (λ c. search needs)
     (λ c. omega (arith, room (start c)))
-    (λ c κs. rw (length-set, c .before .before .excess .ensures) (omega (arith, room (start (c .before)))))
+    (λ c κs. rw (length-set, c .before .before .above-15 .ensures) (omega (arith, room (start (c .before)))))
     (λ c κs. let p = c .before .before .before in
     rw (start (p .before .before) .pre .1) (omega (arith, room (start (p .before .before)), one p .after, same p)))
     (λ c. put-same _ (start (first (c .before .before) .before .before) .args .out .now) _ _ (returns c))

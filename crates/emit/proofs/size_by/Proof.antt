@@ -13,4 +13,4 @@ size-by-spec =
     (λ c κs. search needs)
     (λ c. search needs)
     (λ c. search needs)
-    (λ c. rw (c .before .size-if .ensures .0, c .size-if2 .ensures .0, c .before .before .excess .ensures)))
+    (λ c. rw (c .before .size-if .ensures .0, c .size-if2 .ensures .0, c .before .before .above-15 .ensures)))

@@ -5,7 +5,7 @@ use Prim.Native.Nat.{ℕ}
 use borrow.Author.Needs.{needs}
 use Rattle.prelude.proofs.Tables.{getD-coded}
 use Rattle.kind.specs.Kind.{rule, table, reserved}
-use Rattle.kind.specs.Packed.{unpack, bound}
+use Rattle.kind.specs.Internal.{unpack, bound}
 use Rattle.kind.proofs.Laws.{rule-past}
 use Rattle.kind.proofs.rule_of.Statement.{statement}
 use Rattle.kind.proofs.rule_of.Tie as tie

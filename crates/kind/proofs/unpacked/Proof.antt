@@ -1,6 +1,6 @@
 -- `kind::unpacked` meets its contract, field by field.
 use borrow.Author.Needs.{needs}
-use Rattle.kind.specs.Packed.{unpack}
+use Rattle.kind.specs.Internal.{unpack}
 use Rattle.kind.proofs.unpacked.Statement.{statement}
 use Rattle.kind.proofs.unpacked.Tie as tie
 
@@ -16,4 +16,4 @@ unpacked-spec =
     (λ c. search needs)
     (λ c. search needs)
     (λ c. search needs)
-    (λ c. rw (c .most .ensures)))
+    (λ c. rw (c .bound .ensures)))

@@ -1,7 +1,7 @@
 -- `leb128::last_byte` meets its contract.
 use borrow.Author.Tests.{le-leb}
 use Rattle.prelude.proofs.Tests.{ladder}
-use Rattle.leb128.specs.Stages.{last}
+use Rattle.leb128.specs.Internal.{last}
 use Rattle.leb128.proofs.last_byte.Statement.{statement}
 use Rattle.leb128.proofs.last_byte.Tie as tie
 

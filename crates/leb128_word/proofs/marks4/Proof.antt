@@ -1,7 +1,7 @@
 -- `leb128_word::marks4` meets its contract.
 use native.Mathlib.Omega.{arith}
 use borrow.Author.Needs.{needs}
-use Rattle.leb128_word.specs.Word.{marks}
+use Rattle.leb128_word.specs.Internal.{marks}
 use Rattle.leb128_word.proofs.marks4.Statement.{statement}
 use Rattle.leb128_word.proofs.marks4.Tie as tie
 

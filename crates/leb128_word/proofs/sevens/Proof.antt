@@ -1,7 +1,7 @@
 -- `leb128_word::sevens` meets its contract: four bytes and four.
 use native.Mathlib.Omega.{arith}
 use borrow.Author.Needs.{needs}
-use Rattle.leb128_word.specs.Word.{sevens}
+use Rattle.leb128_word.specs.Internal.{sevens}
 use Rattle.leb128_word.proofs.sevens.Statement.{statement}
 use Rattle.leb128_word.proofs.sevens.Tie as tie
 

@@ -1,7 +1,7 @@
 -- `leb128_word::sevens4` meets its contract.
 use native.Mathlib.Omega.{arith}
 use borrow.Author.Needs.{needs}
-use Rattle.leb128_word.specs.Word.{sevens}
+use Rattle.leb128_word.specs.Internal.{sevens}
 use Rattle.leb128_word.proofs.sevens4.Statement.{statement}
 use Rattle.leb128_word.proofs.sevens4.Tie as tie
 

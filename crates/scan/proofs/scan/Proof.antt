@@ -11,7 +11,7 @@ use Rattle.leb128.specs.declared.GetResult.{GetResult}
 use Rattle.leb128.specs.declared.GetResult.the-variants.{Ok}
 use Rattle.kind.specs.Kind.{size}
 use Rattle.kind.specs.declared.Rule.{Rule}
-use Rattle.scan.proofs.Steps.{Behind, Counted, ruled-row, scan-past, scan-reserved, scan-nested, scan-number, scan-second, scan-bare, scan-full, scan-sized}
+use Rattle.scan.proofs.Steps.{AfterNumber, Counted, ruled-row, scan-past, scan-reserved, scan-nested, scan-number, scan-second, scan-bare, scan-full, scan-sized}
 use Rattle.scan.proofs.scan.Statement.{statement}
 use Rattle.scan.proofs.scan.Tie as tie
 
@@ -23,7 +23,7 @@ start c = c .before .before .before .before .before .before .before .before .bef
 abbrev rule : tie.After-number → Rule
 rule c = c .before .before .before .before .before .before .rule-of .result
 
-first : (c : tie.After-number) (x : GetResult) → c .number .result ≡ x → let a = start c .args in Behind (a .inner) (a .region .now) (a .at) (rule c) x
+first : (c : tie.After-number) (x : GetResult) → c .number .result ≡ x → let a = start c .args in AfterNumber (a .inner) (a .region .now) (a .at) (rule c) x
 first c x is =
     let i = c .before .before .before in
     let e = i .before in
@@ -41,7 +41,7 @@ n w = w .before .value .given .0 .0
 abbrev left : tie.After-known-told → ℕ
 left w = w .before .value .given .0 .1 .0
 
-number : (w : tie.After-known-told) → let a = start (read w) .args in Behind (a .inner) (a .region .now) (a .at) (rule (read w)) (Ok (n w) (left w))
+number : (w : tie.After-known-told) → let a = start (read w) .args in AfterNumber (a .inner) (a .region .now) (a .at) (rule (read w)) (Ok (n w) (left w))
 number w = first (read w) _ (w .before .value .given .1)
 
 left-lt : (w : tie.After-known-told) → left w < 2 ^ 63

@@ -1,7 +1,7 @@
 -- `twine::twine_body` meets its contract.
 use mathlib.Core.Path.{ap, _∙_}
 use borrow.Author.Needs.{needs}
-use Rattle.tell.specs.Tell.{pairC}
+use Rattle.abi_answer.specs.Answers.{pairC}
 use Rattle.twine.proofs.twine_body.Statement.{statement}
 use Rattle.twine.proofs.twine_body.Tie as tie
 
@@ -11,4 +11,4 @@ twine-body-spec =
     (tie.spec
     (λ c κs. search needs)
     (λ c κs. search needs)
-    (λ c. c .tell-body .ensures ∙ ap pairC (c .before .before .body-place .ensures)))
+    (λ c. c .answer-body .ensures ∙ ap pairC (c .before .before .body-place .ensures)))

@@ -2,8 +2,8 @@
 use mathlib.Core.Path.{ap, _∙_}
 use borrow.Author.Needs.{needs}
 use Rattle.checker.specs.Check.{Checked}
-use Rattle.reply.specs.Reply.{Reply}
-use Rattle.tell.specs.Tell.{pairC}
+use Rattle.abi_error.specs.Reply.{Reply}
+use Rattle.abi_answer.specs.Answers.{pairC}
 use Rattle.twine.specs.Tables.{checkReply}
 use Rattle.twine.proofs.twine_check.Statement.{statement}
 use Rattle.twine.proofs.twine_check.Tie as tie
@@ -16,5 +16,5 @@ twine-check-spec =
     (λ c κs. search needs)
     (λ c. search needs)
     (λ c. let k = c .before .before .before .before in
-    ap (λ (r : Reply). checkReply r (k .check .last .1 .0)) (c .tell-entry .ensures)
+    ap (λ (r : Reply). checkReply r (k .check .last .1 .0)) (c .answer-entry .ensures)
     ∙ ap (λ (x : Checked). checkReply (pairC (x .answer)) (x .starts)) (k .check .ensures)))

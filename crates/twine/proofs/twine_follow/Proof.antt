@@ -1,7 +1,7 @@
 -- `twine::twine_follow` meets its contract.
 use mathlib.Core.Path.{ap, _∙_}
 use borrow.Author.Needs.{needs}
-use Rattle.tell.specs.Tell.{pairC}
+use Rattle.abi_answer.specs.Answers.{pairC}
 use Rattle.twine.proofs.twine_follow.Statement.{statement}
 use Rattle.twine.proofs.twine_follow.Tie as tie
 
@@ -11,4 +11,4 @@ twine-follow-spec =
     (tie.spec
     (λ c κs. search needs)
     (λ c κs. search needs)
-    (λ c. c .tell-follow .ensures ∙ ap pairC (c .before .before .follow .ensures)))
+    (λ c. c .answer-follow .ensures ∙ ap pairC (c .before .before .follow .ensures)))

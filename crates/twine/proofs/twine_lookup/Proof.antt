@@ -1,7 +1,7 @@
 -- `twine::twine_lookup` meets its contract.
 use mathlib.Core.Path.{ap, _∙_}
 use borrow.Author.Needs.{needs}
-use Rattle.tell.specs.Tell.{offsetC}
+use Rattle.abi_answer.specs.Answers.{offsetC}
 use Rattle.twine.proofs.twine_lookup.Statement.{statement}
 use Rattle.twine.proofs.twine_lookup.Tie as tie
 
@@ -11,4 +11,4 @@ twine-lookup-spec =
     (tie.spec
     (λ c κs. search needs)
     (λ c κs. search needs)
-    (λ c. c .tell-offset .ensures ∙ ap offsetC (c .before .before .lookup .ensures)))
+    (λ c. c .answer-offset .ensures ∙ ap offsetC (c .before .before .lookup .ensures)))

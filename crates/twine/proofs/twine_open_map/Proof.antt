@@ -1,6 +1,6 @@
 -- `twine::twine_open_map` meets its contract.
 use borrow.Author.Needs.{needs}
-use Rattle.state.proofs.Calls.{step-called}
+use Rattle.abi_writer.proofs.Calls.{step-called}
 use Rattle.twine.proofs.twine_open_map.Statement.{statement}
 use Rattle.twine.proofs.twine_open_map.Tie as tie
 
@@ -14,4 +14,4 @@ twine-open-map-spec =
     (λ c. search needs)
     (λ c. search needs)
     (λ c. let k = c .before .before .before .before .before .before in
-    step-called _ _ _ _ (k .open-map .result) (k .before .before .before .load .ensures) (k .open-map .ensures) (c .settle .ensures)))
+    step-called _ _ _ _ (k .open-map .result) (k .before .before .before .writer-of .ensures) (k .open-map .ensures) (c .settle .ensures)))

@@ -1,6 +1,6 @@
 -- `twine::twine_open_variant1` meets its contract.
 use borrow.Author.Needs.{needs}
-use Rattle.state.proofs.Calls.{step-called}
+use Rattle.abi_writer.proofs.Calls.{step-called}
 use Rattle.twine.proofs.twine_open_variant1.Statement.{statement}
 use Rattle.twine.proofs.twine_open_variant1.Tie as tie
 
@@ -14,4 +14,4 @@ twine-open-variant1-spec =
     (λ c. search needs)
     (λ c. search needs)
     (λ c. let k = c .before .before .before .before .before .before in
-    step-called _ _ _ _ (k .open-variant1 .result) (k .before .before .before .load .ensures) (k .open-variant1 .ensures) (c .settle .ensures)))
+    step-called _ _ _ _ (k .open-variant1 .result) (k .before .before .before .writer-of .ensures) (k .open-variant1 .ensures) (c .settle .ensures)))

@@ -1,6 +1,6 @@
 -- `twine::twine_write_bool` meets its contract: `truth` is the scalar that is put.
 use borrow.Author.Needs.{needs}
-use Rattle.state.proofs.Calls.{step-called}
+use Rattle.abi_writer.proofs.Calls.{step-called}
 use Rattle.twine.proofs.twine_write_bool.Statement.{statement}
 use Rattle.twine.proofs.twine_write_bool.Tie as tie
 
@@ -15,4 +15,4 @@ twine-write-bool-spec =
     (λ c. search needs)
     (λ c. search needs)
     (λ c. let k = c .before .before .before .before .before .before in
-    step-called _ _ _ _ (k .scalar .result) (k .before .before .before .before .load .ensures) (rw (k .before .before .before .truth .ensures) at (k .scalar .ensures)) (c .settle .ensures)))
+    step-called _ _ _ _ (k .scalar .result) (k .before .before .before .before .writer-of .ensures) (rw (k .before .before .before .truth .ensures) at (k .scalar .ensures)) (c .settle .ensures)))

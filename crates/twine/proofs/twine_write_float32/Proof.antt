@@ -1,6 +1,6 @@
 -- `twine::twine_write_float32` meets its contract.
 use borrow.Author.Needs.{needs}
-use Rattle.state.proofs.Calls.{step-called}
+use Rattle.abi_writer.proofs.Calls.{step-called}
 use Rattle.twine.proofs.twine_write_float32.Statement.{statement}
 use Rattle.twine.proofs.twine_write_float32.Tie as tie
 
@@ -14,4 +14,4 @@ twine-write-float32-spec =
     (λ c. search needs)
     (λ c. search needs)
     (λ c. let k = c .before .before .before .before .before .before in
-    step-called _ _ _ _ (k .float32 .result) (k .before .before .before .load .ensures) (k .float32 .ensures) (c .settle .ensures)))
+    step-called _ _ _ _ (k .float32 .result) (k .before .before .before .writer-of .ensures) (k .float32 .ensures) (c .settle .ensures)))

@@ -1,6 +1,6 @@
 -- `twine::twine_write_float64` meets its contract.
 use borrow.Author.Needs.{needs}
-use Rattle.state.proofs.Calls.{step-called}
+use Rattle.abi_writer.proofs.Calls.{step-called}
 use Rattle.twine.proofs.twine_write_float64.Statement.{statement}
 use Rattle.twine.proofs.twine_write_float64.Tie as tie
 
@@ -14,4 +14,4 @@ twine-write-float64-spec =
     (λ c. search needs)
     (λ c. search needs)
     (λ c. let k = c .before .before .before .before .before .before in
-    step-called _ _ _ _ (k .float64 .result) (k .before .before .before .load .ensures) (k .float64 .ensures) (c .settle .ensures)))
+    step-called _ _ _ _ (k .float64 .result) (k .before .before .before .writer-of .ensures) (k .float64 .ensures) (c .settle .ensures)))

@@ -2,7 +2,7 @@
 use borrow.Author.Needs.{needs}
 use mir.Syntax.{w64}
 use mir.ValLaws.{toZ-ofZ}
-use Rattle.state.proofs.Calls.{step-called}
+use Rattle.abi_writer.proofs.Calls.{step-called}
 use Rattle.twine.proofs.twine_write_integer.Statement.{statement}
 use Rattle.twine.proofs.twine_write_integer.Tie as tie
 
@@ -18,4 +18,4 @@ twine-write-integer-spec =
     (λ c. let k = c .before .before .before .before .before .before in
     let l = k .before .before .before in
     let s = l .before .before .before .before in
-    step-called _ _ _ _ (k .integer .result) (l .load .ensures) (rw (toZ-ofZ w64 (s .args .value) (s .fits .value)) at (k .integer .ensures)) (c .settle .ensures)))
+    step-called _ _ _ _ (k .integer .result) (l .writer-of .ensures) (rw (toZ-ofZ w64 (s .args .value) (s .fits .value)) at (k .integer .ensures)) (c .settle .ensures)))

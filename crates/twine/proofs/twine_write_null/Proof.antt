@@ -1,6 +1,6 @@
 -- `twine::twine_write_null` meets its contract.
 use borrow.Author.Needs.{needs}
-use Rattle.state.proofs.Calls.{step-called}
+use Rattle.abi_writer.proofs.Calls.{step-called}
 use Rattle.twine.proofs.twine_write_null.Statement.{statement}
 use Rattle.twine.proofs.twine_write_null.Tie as tie
 
@@ -14,4 +14,4 @@ twine-write-null-spec =
     (λ c. search needs)
     (λ c. search needs)
     (λ c. let k = c .before .before .before .before .before .before in
-    step-called _ _ _ _ (k .scalar .result) (k .before .before .before .load .ensures) (k .scalar .ensures) (c .settle .ensures)))
+    step-called _ _ _ _ (k .scalar .result) (k .before .before .before .writer-of .ensures) (k .scalar .ensures) (c .settle .ensures)))

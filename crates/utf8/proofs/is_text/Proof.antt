@@ -5,7 +5,7 @@ use native.Mathlib.Omega.{arith}
 use lib.ListN.{length, drop}
 use borrow.Author.Needs.{needs}
 use Rattle.utf8.specs.Text.{textFrom, isText}
-use Rattle.utf8.specs.Told.{dueOf}
+use Rattle.utf8.specs.Internal.{dueOf}
 use Rattle.utf8.proofs.Steps.{text-next, text-bad, text-end}
 use Rattle.utf8.proofs.is_text.Statement.{statement}
 use Rattle.utf8.proofs.is_text.Tie as tie

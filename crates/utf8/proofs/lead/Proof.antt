@@ -1,5 +1,5 @@
 -- `utf8::lead` meets its contract: row by row of the table.
-use Rattle.utf8.specs.Told.{dueOf}
+use Rattle.utf8.specs.Internal.{dueOf}
 use Rattle.utf8.proofs.Steps.{rows}
 use Rattle.utf8.proofs.lead.Statement.{statement}
 use Rattle.utf8.proofs.lead.Tie as tie

@@ -1,7 +1,7 @@
 -- `utf8::next` meets its contract: a first byte, a byte that is due, a byte that cannot stand there.
 use native.Mathlib.Omega.{arith}
 use borrow.Author.Needs.{needs}
-use Rattle.utf8.proofs.Steps.{next-first, next-trail, next-bad}
+use Rattle.utf8.proofs.Steps.{next-first, next-continuation, next-bad}
 use Rattle.utf8.proofs.next.Statement.{statement}
 use Rattle.utf8.proofs.next.Tie as tie
 
@@ -12,5 +12,5 @@ next-spec =
     (λ c κs. search needs)
     (λ c. search (next-first, arith))
     (λ c. search needs)
-    (λ c. search (next-trail, arith))
+    (λ c. search (next-continuation, arith))
     (λ c. search (next-bad, arith)))

@@ -13,17 +13,17 @@ close-near-spec =
     let m = t .before in
     let s = m .before .before .before in
     let a = s .args in
-    near-byte (a .good) (a .at) (a .self) (a .out .now) (a .starts .now) (s .pre) (rw (m .may-shut .ensures) at (t .if1 .taken)))
+    near-byte (a .good) (a .at) (a .self) (a .out .now) (a .starts .now) (s .pre) (rw (m .may-close .ensures) at (t .if1 .taken)))
     (λ c. search needs)
     (λ c. let h = c .before .before in
     let t = h .before .before in
     let m = t .before in
     let s = m .before .before .before in
     let a = s .args in
-    near-ok (a .good) (a .at) (a .self) (a .out .now) (a .starts .now) (s .pre) (rw (m .may-shut .ensures) at (t .if1 .taken)) _ _ _ (h .shut .ensures))
+    near-ok (a .good) (a .at) (a .self) (a .out .now) (a .starts .now) (s .pre) (rw (m .may-close .ensures) at (t .if1 .taken)) _ _ _ (h .write-delta .ensures))
     (λ c κs. search needs)
     (λ c. let t = c .before in
     let m = t .before in
     let s = m .before .before .before in
     let a = s .args in
-    near-refused (a .good) (a .at) (a .self) (a .out .now) (a .starts .now) (s .pre) (rw (m .may-shut .ensures) at (t .if1 .left)) _ _ (c .refuse .ensures)))
+    near-refused (a .good) (a .at) (a .self) (a .out .now) (a .starts .now) (s .pre) (rw (m .may-close .ensures) at (t .if1 .left)) _ _ (c .refuse .ensures)))

@@ -36,4 +36,4 @@ integer-spec =
     let m = p .before .before .before .before .before .before .before in
     let s = m .before .before .before .before .before in
     rw (m .before .before .sign .ensures .0, m .magnitude .ensures, toZ-ofZ w64 (s .args .value) (s .fits .value), integer-token (s .args .value)) at
-    (p .put .ensures)))
+    (p .put-token .ensures)))

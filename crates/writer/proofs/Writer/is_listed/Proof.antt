@@ -17,4 +17,4 @@ is-listed-spec =
     (λ c. sym (length-take-le _ _ (omega arith)))
     (λ c. search needs)
     (λ c κs. search needs)
-    (λ c w h. rw (lt-ltb _ _ (c .before .before .if3 .left)) (c .lists .ensures)))
+    (λ c w h. rw (lt-ltb _ _ (c .before .before .if3 .left)) (c .is-among .ensures)))

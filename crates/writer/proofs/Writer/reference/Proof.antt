@@ -15,4 +15,4 @@ reference-spec =
     (λ c κs. search needs)
     (λ c. search needs)
     (λ c. search needs)
-    (λ c. let p = c .before .before .before .before in rw (p .before .before .before .before .before .before .before .before .before .distance .ensures) at (p .put .ensures)))
+    (λ c. let p = c .before .before .before .before in rw (p .before .before .before .before .before .before .before .before .before .distance .ensures) at (p .put-token .ensures)))

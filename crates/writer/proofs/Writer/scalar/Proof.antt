@@ -14,4 +14,4 @@ scalar-spec =
     (λ c κs. search needs)
     (λ c. search needs)
     (λ c. search needs)
-    (λ c. let p = c .before .before .before .before in rw (p .before .before .before .before .before .before .before .number .ensures) at (p .put .ensures)))
+    (λ c. let p = c .before .before .before .before in rw (p .before .before .before .before .before .before .before .number .ensures) at (p .put-token .ensures)))

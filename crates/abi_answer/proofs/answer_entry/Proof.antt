@@ -1,0 +1,14 @@
+-- `abi_answer::answer_entry` meets its contract.
+use borrow.Author.Needs.{needs}
+use Rattle.abi_answer.proofs.answer_entry.Statement.{statement}
+use Rattle.abi_answer.proofs.answer_entry.Tie as tie
+
+pub answer-entry-spec : {M : Type 1} → statement M
+answer-entry-spec =
+    tie.close
+    (tie.spec
+    (λ c. search needs)
+    (λ c. search needs)
+    (λ c κs. search needs)
+    (λ c. rw (c .before .before .answer .given .1))
+    (λ c. rw (c .before .before .before .answer2 .given .1) (c .answer-error .ensures)))

@@ -1,0 +1,60 @@
+-- What `twine_read` tells of a value: its kind, its number, the offset just after the header's numbers, and its count.
+--
+--   floatBits file h   the bits of a float, 4 bytes for n = 0 and 8 for n = 1
+--   rowsC file at h    number and count of the value of head h at `at`, a row for each kind in their order. The number is the scalar's low
+--                      nibble, the integer in two's complement, the float's bits, the body's length, the items, the pairs, the tag, the
+--                      variant's index, the target; the count is the body's bytes or the items. 9 and 13 are reserved and never read
+--   rowOf file at h    the row of its kind
+--   readC file at      the four words, or the error's number, and its place and zeros
+use Prim.Native.Nat.{ℕ, _-_, _^_}
+use mathlib.Core.List.{List, [], _∷_}
+use lib.Dec.{eqb}
+use lib.ListN.{drop, getD}
+use Rattle.prelude.specs.Pick.{pick}
+use Rattle.prelude.specs.Answer.{Answer, ok, error}
+use Rattle.error.specs.Error.{Fault}
+use Rattle.little_endian.specs.LittleEndian.{load}
+use Rattle.scan.specs.declared.Head.{Head}
+use Rattle.reader_region.specs.Region.{peekOf}
+use Rattle.abi_answer.specs.declared.Row.{Row}
+use Rattle.abi_error.specs.Reply.{Reply, reply}
+
+abbrev pub floatBits : List ℕ → Head → ℕ
+floatBits file h = pick (eqb (h .n) 0) (load 4 (drop (h .first) file)) (load 8 (drop (h .first) file))
+
+abbrev pub rowC : ℕ → ℕ → Row
+rowC number count = record { number = number; count = count }
+
+abbrev pub rowsC : List ℕ → ℕ → Head → List Row
+rowsC file at h =
+    let n = h .n in
+    let items = h .items in
+    let body = h .end - h .first in
+    let target = at - n - 1 in
+    rowC n 0  -- false, true, null
+    ∷ rowC n 0  -- the integer n
+    ∷ rowC (2 ^ 64 - 1 - n) 0  -- the integer -n-1
+    ∷ rowC (floatBits file h) body  -- float
+    ∷ rowC body body  -- text
+    ∷ rowC body body  -- byte string
+    ∷ rowC n items  -- array
+    ∷ rowC n items  -- map: pairs, and items
+    ∷ rowC n items  -- tag
+    ∷ rowC n 0  -- reserved
+    ∷ rowC n 0  -- variant of none
+    ∷ rowC n items  -- variant of one
+    ∷ rowC n items  -- variant of many
+    ∷ rowC n items  -- reserved
+    ∷ rowC target 0  -- reference
+    ∷ rowC target 0  -- pointer
+    ∷ []
+
+unfoldable pub rowOf : List ℕ → ℕ → Head → Row
+rowOf file at h = getD (rowsC file at h) (h .kind) (rowC 0 0)
+
+abbrev pub headC : List ℕ → ℕ → Answer Fault Head → Reply
+headC file at (ok h) = let r = rowOf file at h in reply 0 (h .kind ∷ r .number ∷ h .first ∷ r .count ∷ [])
+headC file at (error e) = reply (e .number) (e .place ∷ 0 ∷ 0 ∷ 0 ∷ [])
+
+abbrev pub readC : List ℕ → ℕ → Reply
+readC file at = headC file at (peekOf file at)

@@ -1,0 +1,27 @@
+-- What a call answers in C: a number, 0 or an error's, and words in an array of the caller's.
+--
+--   nameC n          the name of the error n with zeros behind it, 11 bytes; zeros alone for a number that no error has
+--   reply n ws       the number n, and the array's words
+--   errorC e         an error: its number, and its place and 0
+use Prim.Native.Nat.{ℕ, _-_}
+use mathlib.Core.List.{List, [], _∷_, _++_}
+use lib.ListN.{length, getD, replicate}
+use Rattle.error.specs.Error.{names, Fault}
+
+abbrev pub ended : List ℕ → List ℕ
+ended name = name ++ replicate (11 - length name) 0
+
+unfoldable pub nameC : ℕ → List ℕ
+nameC n = ended (getD names n [])
+
+-- ---- answers
+
+pub record Reply : Type 0 where
+  pub number : ℕ
+  pub words : List ℕ
+
+abbrev pub reply : ℕ → List ℕ → Reply
+reply n ws = record { number = n; words = ws }
+
+abbrev pub errorC : Fault → Reply
+errorC e = reply (e .number) (e .place ∷ 0 ∷ [])

@@ -1,0 +1,30 @@
+-- The writer's calls: a call of the writer whose state is stored is the call of C.
+use mathlib.Core.Path.{_≡_, sym, ap, _∙_}
+use mathlib.Core.List.{List}
+use Prim.Native.Nat.{ℕ}
+use Rattle.error.specs.Error.{numberOf}
+use Rattle.writer.specs.Step.{Call, Result, result, step}
+use Rattle.writer.specs.Answers.{answerOf, wrote}
+use Rattle.writer.specs.declared.Writer.{Writer}
+use Rattle.writer.specs.declared.WriteAnswer.{WriteAnswer}
+use Rattle.writer.specs.declared.WriteAnswer.the-variants.{Ok, Err}
+use Rattle.writer.specs.declared.WriteResult.{WriteResult}
+use Rattle.writer.proofs.Refused.{refused-same}
+use Rattle.abi_error.specs.Reply.{Reply, reply}
+use Rattle.abi_writer.specs.Calls.{writerOf, called, stepC, settleC}
+
+module _ (c : Call) (state out table : List ℕ) (n : ℕ) (state′ out′ table′ : List ℕ) where
+  by-answer : (a : WriteAnswer) (v : Writer) → result (answerOf a) v out′ table′ ≡ step c (writerOf state) out table
+      → reply n state′ ≡ settleC a v state → called n state′ out′ table′ ≡ stepC c state out table
+  unfolding stepC
+  by-answer Ok v e k = rw (← e) (ap (λ (s : Reply). called (s .number) (s .words) out′ table′) k)
+  by-answer (Err f) v e k =
+      let same = e ∙ refused-same c (writerOf state) out table (numberOf f) (ap (λ (r : Result). r .answer) (sym e)) in
+      rw (← e, ← ap (λ (r : Result). r .out) same, ← ap (λ (r : Result). r .table) same)
+      (ap (λ (s : Reply). called (s .number) (s .words) out′ table′) k)
+
+pub step-called : (c : Call) (state out table : List ℕ) (r : WriteResult) {out′ table′ state′ : List ℕ} {w : Writer} {n : ℕ} → w ≡ writerOf state
+    → wrote r out′ table′ ≡ step c w out table → reply n state′ ≡ settleC (r .answer) (r .writer) state
+    → called n state′ out′ table′ ≡ stepC c state out table
+step-called c state out table r {out′} {table′} {state′} {w} {n} e f k =
+    by-answer c state out table n state′ out′ table′ (r .answer) (r .writer) (rw e at f) k

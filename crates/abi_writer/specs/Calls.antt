@@ -1,0 +1,62 @@
+-- The writer's calls in C. Its state is five words of the caller's, which may hold anything.
+--
+--   writerOf state            the writer that the words are: written, count, pending, start, closed; any word but 0 means closed
+--   wordsOf w                 the words of a writer; 1 where it is closed
+--   truth b                   the scalar of a bool
+--   called n state out table  the number that a call answers, and what state, output and table hold then
+--   calledBy v r ..           the same where the writer says v and makes r of a call: 0 and what r leaves, or the error and all as it was
+--   stepC c state out table   what the call c answers and leaves
+use Prim.Native.Nat.{ℕ}
+use mathlib.Core.Bool.{Bool, true, false, not}
+use mathlib.Core.List.{List, [], _∷_}
+use lib.Dec.{eqb}
+use lib.ListN.{getD}
+use Rattle.prelude.specs.Pick.{pick}
+use Rattle.prelude.specs.Answer.{ok, error}
+use Rattle.error.specs.Error.{numberOf}
+use Rattle.writer.specs.Step.{Call, Verdict, Result, step}
+use Rattle.writer.specs.declared.Writer.{Writer}
+use Rattle.writer.specs.declared.Scalar.{Scalar}
+use Rattle.writer.specs.declared.Scalar.the-variants.{False, True}
+use Rattle.writer.specs.declared.WriteAnswer.{WriteAnswer}
+use Rattle.writer.specs.declared.WriteAnswer.the-variants.{Ok, Err}
+use Rattle.abi_error.specs.Reply.{Reply, reply}
+
+abbrev pub writerOf : List ℕ → Writer
+writerOf state = record {
+  written = getD state 0 0;
+  count = getD state 1 0;
+  pending = getD state 2 0;
+  start = getD state 3 0;
+  closed = not (eqb (getD state 4 0) 0);
+}
+
+abbrev pub wordsOf : Writer → List ℕ
+wordsOf w = w .written ∷ w .count ∷ w .pending ∷ w .start ∷ pick (w .closed) 1 0 ∷ []
+
+abbrev pub truth : Bool → Scalar
+truth true = True
+truth false = False
+
+-- ---- the calls
+
+pub record Called : Type 0 where
+  pub number : ℕ
+  pub state : List ℕ
+  pub out : List ℕ
+  pub table : List ℕ
+
+abbrev pub called : ℕ → List ℕ → List ℕ → List ℕ → Called
+called n state out table = record { number = n; state = state; out = out; table = table }
+
+abbrev pub calledBy : Verdict → Result → List ℕ → List ℕ → List ℕ → Called
+calledBy (ok u) r state out table = called 0 (wordsOf (r .writer)) (r .out) (r .table)
+calledBy (error f) r state out table = called f state out table
+
+unfoldable pub stepC : Call → List ℕ → List ℕ → List ℕ → Called
+stepC c state out table = let r = step c (writerOf state) out table in calledBy (r .answer) r state out table
+
+-- the number, and the state's words, where the writer w is the next; no contract of C's functions cites it
+abbrev pub settleC : WriteAnswer → Writer → List ℕ → Reply
+settleC Ok w state = reply 0 (wordsOf w)
+settleC (Err e) w state = reply (numberOf e) state

@@ -1,0 +1,2 @@
+-- the writer's state as five words, and its calls
+pub mod Calls

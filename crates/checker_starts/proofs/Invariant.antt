@@ -1,0 +1,101 @@
+-- The walk of check as the code makes it, with the starts in the first words of a table, counted by blocks.
+--
+-- In order: what holds between two values; the ways on from there, and out.
+use mathlib.Core.Path.{_≡_, refl, _∙_}
+use Prim.Native.Nat.{ℕ, _+_, _-_, _*_, _/_, _≤_, _<_, _^_}
+use mathlib.Core.List.{List, [], _∷_, _++_}
+use native.Mathlib.Numerals.{add-one}
+use native.Mathlib.Omega.{arith}
+use borrow.Author.Tests.{le-leb}
+use lib.ListN.{length, take, getD, set, length-set, length-take, length-append}
+use lib.Seq.{length-take-le, take-suc-set}
+use Rattle.prelude.specs.Answer.{ok, error}
+use Rattle.prelude.proofs.Tests.{split}
+use Rattle.prelude.proofs.Searches.{rising-ge}
+use Rattle.error.specs.Error as errors
+use Rattle.error.specs.Error.{fault, LIMIT, FULL}
+use Rattle.error.specs.declared.Error.{Error}
+use Rattle.table.specs.Blocks.{BLOCK, Counted, Below}
+use Rattle.table.proofs.Blocks.{counted-first, counted-snoc}
+use Rattle.checker_value.specs.declared.ValueResult.{ValueResult}
+use Rattle.checker_value.specs.declared.ValueResult.the-variants as results-are
+use Rattle.checker_value.specs.Walk.{between, startsFrom}
+use Rattle.checker_value.specs.Internal.{ChecksValue}
+use Rattle.checker_value.proofs.Walks.{WalkInvariant, invariant-begun, below-snoc, invariant-finished, walk-end, value-full}
+
+-- between two values at `at`, with the starts in the first `count` words of the table t
+pub record TableInvariant (s t : List ℕ) (cap at count : ℕ) : Type 0 where
+  pub long : length t ≡ cap
+  pub fits : count ≤ length t
+  pub going : WalkInvariant s cap (between at (take count t))
+  pub leads : startsFrom s cap (between at (take count t)) ≡ startsFrom s cap (between 0 [])
+
+-- the starts are counted for the blocks that begin at most at `at`; each block of the region has a word
+pub record Indexed (s t blocks : List ℕ) (at count : ℕ) : Type 0 where
+  pub long : length s < length blocks * BLOCK
+  pub counted : Counted (take (at / BLOCK + 1) blocks) (take count t)
+
+pub indexed-start : (s t blocks : List ℕ) → length s < length blocks * BLOCK → getD blocks 0 0 ≡ 0 → Indexed s t blocks 0 0
+indexed-start s t blocks h e = record { long = h; counted = counted-first blocks e }
+
+pub known-fits : (s t : List ℕ) (cap at count : ℕ) → TableInvariant s t cap at count → (blocks : List ℕ) → Indexed s t blocks at count → at / BLOCK + 1 ≤ length blocks
+known-fits s t cap at count a blocks i = omega (arith, a .going .inside, i .long)
+
+-- what `table::count_blocks` asks for, where a value is finished that begins at `start` and ends at `end`
+pub record Countable (t blocks : List ℕ) (start count end : ℕ) : Type 0 where
+  pub next : start / BLOCK + 1 ≤ end / BLOCK + 1
+  pub last : end / BLOCK < length blocks
+  pub few : length (take count t) < 2 ^ 32
+  pub below : Below ((start / BLOCK + 1) * BLOCK) (take count t)
+  pub counted : Counted (take (start / BLOCK + 1) blocks) (take count t)
+
+pub table-start : (s t : List ℕ) → TableInvariant s t (length t) 0 0
+table-start s t = record { long = refl; fits = omega arith; going = invariant-begun s (length t); leads = refl }
+
+module _ (s t : List ℕ) (cap at count : ℕ) (a : TableInvariant s t cap at count) where
+  pub table-end : length s ≤ at → ok (take count t) ≡ startsFrom s cap (between 0 [])
+  table-end h = walk-end s cap (between at (take count t)) (rw (le-leb (length s) at h)) ∙ a .leads
+
+  pub table-full : at < length s → length t ≤ count → error (fault FULL at) ≡ startsFrom s cap (between 0 [])
+  table-full more full = value-full s (take count t) at more cap (omega (arith, a .long, length-take-le count t (a .fits))) ∙ a .leads
+
+  module _ (free : count < length t) where
+    word : length (take count t) < cap
+    word = omega (arith, a .long, length-take-le count t (a .fits))
+
+    module _ (r : ValueResult) (reported : ChecksValue r s (take count t) at) where
+      pub table-error : (f : Error) → r ≡ results-are.Err f → error (errors.faultOf f) ≡ startsFrom s cap (between 0 [])
+      table-error f is = let e = reported .0 cap word in rw is at e ∙ a .leads
+
+    module _ (end : ℕ) (r : ValueResult) (reported : ChecksValue r s (take count t) at) (is : r ≡ results-are.Ok end) where
+      table-ends : (at < end) × (end ≤ length s)
+      table-ends = let e = reported .1 in let h : (at + 1 ≤ end) × (end ≤ length s) = rw is at e in (omega (arith, h .0), h .1)
+
+      pub table-less : length s - end < length s - at
+      table-less = let h = table-ends in omega (arith, h .0, h .1)
+
+      -- the starts with the one of the value that is finished
+      words : take (count + 1) (set t count at) ≡ take count t ++ (at ∷ [])
+      words = rw add-one (take-suc-set t count at free)
+
+      pub table-finished : TableInvariant s (set t count at) cap end (count + 1)
+      table-finished = let h = table-ends in let e = reported .0 cap word in record {
+        long = length-set t count at ∙ a .long;
+        fits = rw length-set (omega (arith, free));
+        going = rw words (invariant-finished s cap (between at (take count t)) (a .going) word end (h .0) (h .1));
+        leads = rw words (rw is at e ∙ a .leads);
+      }
+
+      pub table-counts : (blocks : List ℕ) → length s ≤ LIMIT → Indexed s t blocks at count → Countable (set t count at) blocks at (count + 1) end
+      table-counts blocks short i =
+          let g = a .going in
+          let h = table-ends in
+          let n = length-take-le count t (a .fits) in
+          let few : count ≤ at = split 0 count (λ p. omega (arith, rising-ge (take count t) (g .rising) (count - 1) (omega arith), g .below (count - 1) (omega arith))) (λ z. omega arith) in
+          record {
+            next = omega (arith, h .0);
+            last = omega (arith, h .1, i .long);
+            few = rw (words, length-append) (omega (arith, g .inside));
+            below = rw words (below-snoc (take count t) at _ (λ k b. omega (arith, g .below k b)) (omega arith));
+            counted = rw words (counted-snoc (take (at / BLOCK + 1) blocks) (take count t) at (omega (arith, length-take (at / BLOCK + 1) blocks)) (i .counted));
+          }

@@ -1,0 +1,2 @@
+-- the walk as the code makes it
+mod Invariant

@@ -1,0 +1,2 @@
+-- what the answer means
+pub mod Answers

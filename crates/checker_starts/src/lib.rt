@@ -1,0 +1,64 @@
+// The starts of a region's values, listed in a table (document 01, "Check and depths").
+use checker_value::ValueResult;
+use error::Error;
+use error::ErrorKind;
+ghost use mathlib.Core.Path.{_≡_};
+ghost use mathlib.Core.List.{[]};
+ghost use Prim.Native.Nat.{_*_, _≤_, _<_};
+ghost use lib.ListN.{length, getD};
+ghost use Rattle.error.specs.Error.{LIMIT};
+ghost use Rattle.table.specs.Blocks.{BLOCK};
+ghost use Rattle.checker_value.specs.Walk.{between, startsFrom};
+ghost use Rattle.checker_starts.specs.Answers.{listAnswer, Listed};
+
+// How many values a region has.
+pub enum ListResult {
+    Ok(usize),
+    Err(Error),
+}
+
+// Lists the starts of a region's values in the first words of the table, and counts them by blocks of the region.
+fn walk(region: &[u8], starts: &mut [u32], blocks: &mut [u32]) -> ListResult
+    requires { ⌜ (length (now region) ≤ LIMIT) × (length (now region) < length (now blocks) * BLOCK) × (getD (now blocks) 0 0 ≡ 0) ⌝ }
+    ensures { λ r. ⌜ (listAnswer r (now (starts .exit)) ≡ startsFrom (now (region .entry)) (length (now (starts .entry))) (between 0 [])) × (Listed r (now (starts .exit))) ⌝ }
+{
+    let mut at: usize = 0;
+    let mut count: usize = 0;
+    while at < region.len() {
+        // FULL: a new value without a word
+        if starts.len() <= count {
+            return ListResult::Err(Error {
+                kind: ErrorKind::Full,
+                place: at,
+            });
+        }
+        // the blocks that begin at most at `at` are counted
+        let known = at / table::BLOCK + 1;
+        match checker_value::check_value(region, &starts[..count], &blocks[..known], at) {
+            ValueResult::Ok(end) => {
+                starts[count] = at as u32;
+                count = count + 1;
+                table::count_blocks(&starts[..count], blocks, known, end / table::BLOCK);
+                at = end;
+            }
+            ValueResult::Err(e) => {
+                return ListResult::Err(e);
+            }
+        }
+    }
+    ListResult::Ok(count)
+}
+
+// Lists the starts of a region's values in the first words of the table. A short region has few blocks: for a small file, the zeros of the
+// large array would take longer than the walk.
+pub fn list_starts(region: &[u8], starts: &mut [u32]) -> ListResult
+    requires { ⌜ length (now region) < LIMIT ⌝ }
+    ensures { λ r. ⌜ (listAnswer r (now (starts .exit)) ≡ startsFrom (now (region .entry)) (length (now (starts .entry))) (between 0 [])) × (Listed r (now (starts .exit))) ⌝ }
+{
+    if region.len() < table::LONG {
+        let mut few = [0u32; table::FEW];
+        return walk(region, starts, &mut few);
+    }
+    let mut blocks = [0u32; table::BLOCKS];
+    walk(region, starts, &mut blocks)
+}

@@ -1,0 +1,41 @@
+-- What this crate's functions make, in terms of the walk.
+--
+--   inValue at start pending done
+--                     the walk at `at` in the value that begins at `start`, with so many items pending there; behind it where none is
+--   rest r s cap done start
+--                     what the walk comes to where a `PassResult` tells the end of that value, or an error in it
+--   Ends r at n       the end that it tells is one of at to n
+--   ChecksItems r s done at items
+--                     it tells what the walk finds in so many items of a value, from `at` on
+--   ChecksValue r s done at
+--                     the same of a value, where the table has a word for it
+use mathlib.Core.Path.{_≡_}
+use Prim.Native.Nat.{ℕ, _+_, _≤_, _<_}
+use mathlib.Core.List.{List, [], _∷_, _++_}
+use lib.Dec.{eqb}
+use lib.ListN.{length}
+use Rattle.prelude.specs.Pick.{pick}
+use Rattle.prelude.specs.Answer.{Answer, error}
+use Rattle.error.specs.Error as errors
+use Rattle.error.specs.Error.{Fault}
+use Rattle.checker_value.specs.declared.ValueResult as results
+use Rattle.checker_value.specs.declared.ValueResult.the-variants as results-are
+use Rattle.checker_value.specs.Walk.{Walk, between, startsFrom}
+
+abbrev pub inValue : ℕ → ℕ → ℕ → List ℕ → Walk
+inValue at start pending done = pick (eqb pending 0) (between at (done ++ (start ∷ []))) (record { at = at; start = start; pending = pending; done = done })
+
+abbrev pub rest : results.ValueResult → List ℕ → ℕ → List ℕ → ℕ → Answer Fault (List ℕ)
+rest (results-are.Ok end) s cap done start = startsFrom s cap (between end (done ++ (start ∷ [])))
+rest (results-are.Err e) s cap done start = error (errors.faultOf e)
+
+abbrev pub Ends : results.ValueResult → ℕ → ℕ → Type 0
+Ends (results-are.Ok end) at n = (at ≤ end) × (end ≤ n)
+Ends (results-are.Err e) at n = Unit {0}
+
+abbrev pub ChecksItems : results.ValueResult → List ℕ → List ℕ → ℕ → ℕ → Type 0
+ChecksItems r s done at items =
+    ((cap start : ℕ) → rest r s cap done start ≡ startsFrom s cap (inValue at start items done)) × (Ends r at (length s))
+
+abbrev pub ChecksValue : results.ValueResult → List ℕ → List ℕ → ℕ → Type 0
+ChecksValue r s done at = ((cap : ℕ) → length done < cap → rest r s cap done at ≡ startsFrom s cap (between at done)) × (Ends r (at + 1) (length s))

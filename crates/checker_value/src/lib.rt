@@ -1,0 +1,131 @@
+// A value that check passes (document 01, "Check and depths"): its token, its text and its target, and its items.
+use error::Error;
+use error::ErrorKind;
+use scan::Head;
+use scan::ScanResult;
+ghost use mathlib.Core.Path.{_≡_};
+ghost use mathlib.Core.Bool.{not, _&&_};
+ghost use Prim.Native.Nat.{_≤_, _<_, _^_};
+ghost use lib.Dec.{eqb, leb};
+ghost use lib.ListN.{length};
+ghost use Rattle.prelude.specs.Search.{Rising};
+ghost use Rattle.error.specs.Error.{LIMIT};
+ghost use Rattle.utf8.specs.Text.{isText};
+ghost use Rattle.table.specs.Blocks.{Counted};
+ghost use Rattle.scan.specs.Answers as scans;
+ghost use Rattle.checker_value.specs.Walk.{hasTarget};
+ghost use Rattle.checker_value.specs.Internal.{ChecksItems, ChecksValue};
+
+// The offset just after a value.
+pub enum ValueResult {
+    Ok(usize),
+    Err(Error),
+}
+
+// ---- one token
+
+// Whether a token of head h is a text that is not text.
+fn is_bad_text(region: &[u8], h: Head) -> bool
+    requires { ⌜ (h .first ≤ h .end) × (h .end ≤ length (now region)) ⌝ }
+    ensures { λ r. ⌜ r ≡ eqb (h .kind) 4 && not (isText (scans.bodyOn (now (region .entry)) h)) ⌝ }
+{
+    let first = h.first;
+    let end = h.end;
+    if h.kind == kind::KIND_TEXT {
+        let text = utf8::is_text(&region[first..end]);
+        return !text;
+    }
+    false
+}
+
+// Whether the target of a reference or pointer of head h at `at` is one of the starts.
+fn has_target(starts: &[u32], blocks: &[u32], at: usize, h: Head) -> bool
+    requires { ⌜ (Rising (now starts)) × (Counted (now blocks) (now starts)) × (at < 2 ^ 32) ⌝ }
+    ensures { λ r. ⌜ r ≡ hasTarget (now (starts .entry)) at h ⌝ }
+{
+    let q = at as u64;
+    if h.n < q {
+        let target = q - h.n - 1;
+        return table_search::is_among(starts, blocks, target as u32);
+    }
+    false
+}
+
+// Whether a token of head h at `at` is a reference or pointer to no start.
+fn is_bad_target(starts: &[u32], blocks: &[u32], at: usize, h: Head) -> bool
+    requires { ⌜ (Rising (now starts)) × (Counted (now blocks) (now starts)) × (at < 2 ^ 32) ⌝ }
+    ensures { λ r. ⌜ r ≡ leb 14 (h .kind) && not (hasTarget (now (starts .entry)) at h) ⌝ }
+{
+    if kind::KIND_REFERENCE <= h.kind {
+        let good = has_target(starts, blocks, at, h);
+        return !good;
+    }
+    false
+}
+
+// ---- a value
+
+// Passes so many items of a value, the first at `from`, after the values that begin at `starts`, counted by blocks. The answers are made here and
+// in `check_value`: one handed on from a function for both costs more than the tests.
+fn check_items(
+    region: &[u8],
+    starts: &[u32],
+    blocks: &[u32],
+    from: usize,
+    items: u64,
+) -> ValueResult
+    requires { ⌜ (Rising (now starts)) × (Counted (now blocks) (now starts)) × (from ≤ length (now region)) × (length (now region) ≤ LIMIT) ⌝ }
+    ensures { λ r. ⌜ ChecksItems r (now (region .entry)) (now (starts .entry)) from items ⌝ }
+{
+    let mut at = from;
+    let mut pending = items;
+    while 0 < pending {
+        match checker_item::scan_item(region, at) {
+            ScanResult::Ok(h) => {
+                if is_bad_text(region, h) {
+                    return ValueResult::Err(Error {
+                        kind: ErrorKind::BadText,
+                        place: at,
+                    });
+                }
+                if is_bad_target(starts, blocks, at, h) {
+                    return ValueResult::Err(Error {
+                        kind: ErrorKind::BadTarget,
+                        place: at,
+                    });
+                }
+                at = h.end;
+                pending = pending - 1;
+            }
+            ScanResult::Err(e) => {
+                return ValueResult::Err(e);
+            }
+        }
+    }
+    ValueResult::Ok(at)
+}
+
+// Passes the value at `at` with its items, after the values that begin at `starts`, counted by blocks.
+pub fn check_value(region: &[u8], starts: &[u32], blocks: &[u32], at: usize) -> ValueResult
+    requires { ⌜ (Rising (now starts)) × (Counted (now blocks) (now starts)) × (at < length (now region)) × (length (now region) ≤ LIMIT) ⌝ }
+    ensures { λ r. ⌜ ChecksValue r (now (region .entry)) (now (starts .entry)) at ⌝ }
+{
+    match scan::scan(region, at, false) {
+        ScanResult::Ok(h) => {
+            if is_bad_text(region, h) {
+                return ValueResult::Err(Error {
+                    kind: ErrorKind::BadText,
+                    place: at,
+                });
+            }
+            if is_bad_target(starts, blocks, at, h) {
+                return ValueResult::Err(Error {
+                    kind: ErrorKind::BadTarget,
+                    place: at,
+                });
+            }
+            check_items(region, starts, blocks, h.end, h.items)
+        }
+        ScanResult::Err(e) => ValueResult::Err(e),
+    }
+}

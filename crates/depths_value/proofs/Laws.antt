@@ -1,0 +1,151 @@
+-- The depth of a value.
+--
+-- In order: where a value ends; turns over the tokens of a value; no depth is above its value's number and one; the depths of the first
+-- values.
+use mathlib.Core.Path.{_≡_, refl, sym, ap, _∙_, subst}
+use Prim.Native.Nat.{ℕ, zero, suc, _+_, _-_, _≤_, _<_, max}
+use mathlib.Core.Bool.{false, _&&_}
+use mathlib.Core.List.{List, [], _∷_, _++_}
+use native.Mathlib.Nat.{not-suc-le-zero}
+use native.Mathlib.Numerals.{add-one}
+use native.Mathlib.Omega.{arith}
+use borrow.Author.Tests.{lt-leb, le-leb}
+use lib.Dec.{leb, ltb}
+use lib.ListN.{length, take, getD, set, length-append, List·getD-append, List·getD-eq-default}
+use lib.Seq.{take-suc-set, getD-append-seam}
+use Rattle.prelude.specs.Answer.{Answer, ok, error}
+use Rattle.prelude.specs.Loop.{Turn, go, stop}
+use Rattle.prelude.proofs.Tests.{pick-elim, split}
+use Rattle.prelude.proofs.Searches.{rising-ge}
+use Rattle.prelude.proofs.Turns.{from-go, from-stop, from-all}
+use Rattle.error.specs.Error as errors
+use Rattle.error.specs.Error.{Fault, LIMIT}
+use Rattle.error.specs.declared.Error.{Error}
+use Rattle.scan.specs.Answers as scans
+use Rattle.scan.specs.Answers.{scanAt}
+use Rattle.scan.specs.declared.Head.{Head}
+use Rattle.scan.specs.declared.ScanResult.{ScanResult}
+use Rattle.scan.specs.declared.ScanResult.the-variants.{Ok, Err}
+use Rattle.scan.proofs.Places.{scan-within}
+use Rattle.depths_value.specs.Depth.{targetDepth, DepthState, depthState, depthTurned, depthTurn, deepestFrom, deepestIn, depthAt, depthsTo}
+use Rattle.depths_value.specs.Internal.{Starts}
+
+-- a word of a list, whatever stands for those past it
+pub getD-in : (xs : List ℕ) (i d e : ℕ) → i < length xs → getD xs i d ≡ getD xs i e
+getD-in [] i d e h = absurd (not-suc-le-zero h)
+getD-in (x ∷ xs) zero d e h = refl
+getD-in (x ∷ xs) (suc i) d e h = getD-in xs i d e (omega arith)
+
+pub getD-past : (xs : List ℕ) (i j : ℕ) → i ≡ j → length xs ≤ i → 0 ≡ getD xs j 0
+getD-past xs i j e h = sym (List·getD-eq-default xs 0 {n = j} (omega arith))
+
+pub end-next : (ss : List ℕ) (i len : ℕ) → i + 1 < length ss → getD ss (i + 1) 0 ≡ getD ss (suc i) len
+end-next ss i len h = rw (← add-one i) (getD-in ss (i + 1) 0 len h)
+
+pub end-last : (ss : List ℕ) (i len : ℕ) → length ss ≤ i + 1 → len ≡ getD ss (suc i) len
+end-last ss i len h = sym (List·getD-eq-default ss len (omega arith))
+
+-- ---- turns
+
+abbrev Falls : List ℕ → DepthState → Turn DepthState ℕ → Type 0
+Falls s w (go v) = length s - v .at < length s - w .at
+Falls s w (stop a) = Unit {0}
+
+module _ (s ss ds : List ℕ) (end : ℕ) where
+  turn-falls : (w : DepthState) → Falls s w (depthTurn s ss ds end w)
+  unfolding depthTurn
+  turn-falls w = pick-elim (Falls s w) (leb end (w .at)) (λ t. tt) (λ t. by-cases (scanAt false s (w .at)) refl)
+    where
+      by-cases : (a : Answer Fault Head) → scanAt false s (w .at) ≡ a → Falls s w (depthTurned ss ds w a)
+      by-cases (ok h) e = let i = scan-within false s (w .at) h (sym e) in omega (arith, i .numbers, i .body, i .end)
+      by-cases (error f) e = tt
+
+  falls : (w v : DepthState) → depthTurn s ss ds end w ≡ go v → length s - v .at < length s - w .at
+  falls w v e = subst (Falls s w) e (turn-falls w)
+
+  module _ (at deep : ℕ) where
+    pub deepest-end : end ≤ at → deep ≡ deepestFrom s ss ds end (depthState at deep)
+    unfolding deepestFrom depthTurn
+    deepest-end h = sym (from-stop (depthTurn s ss ds end) _ _ falls (depthState at deep) _ (rw (le-leb _ _ h)))
+
+    module _ (more : at < end) (r : ScanResult) (reported : scans.answerOf r ≡ scanAt false s at) where
+      pub deepest-error : (f : Error) → r ≡ Err f → deep ≡ deepestFrom s ss ds end (depthState at deep)
+      unfolding deepestFrom depthTurn
+      deepest-error f is =
+          let e : error (errors.faultOf f) ≡ scanAt false s at = rw is at reported in
+          sym (from-stop (depthTurn s ss ds end) _ _ falls (depthState at deep) _ (rw (lt-leb _ _ more, ← e)))
+
+      pub deepest-token : (h : Head) → r ≡ Ok h → (d m : ℕ) → d ≡ targetDepth ss ds at h → m ≡ max deep d
+          → deepestFrom s ss ds end (depthState (h .end) m) ≡ deepestFrom s ss ds end (depthState at deep)
+      unfolding deepestFrom depthTurn
+      deepest-token h is d m ed em =
+          let e : ok h ≡ scanAt false s at = rw is at reported in
+          sym (from-go (depthTurn s ss ds end) _ _ falls (depthState at deep) (depthState (h .end) m) (rw (lt-leb _ _ more, ← e, em, ed)))
+
+      pub deepest-less : (h : Head) → r ≡ Ok h → length s - h .end < length s - at
+      deepest-less h is = let i = scan-within false s at h (rw is at reported) in omega (arith, i .numbers, i .body, i .end)
+
+      pub deepest-inside : (h : Head) → r ≡ Ok h → h .end ≤ length s
+      deepest-inside h is = scan-within false s at h (rw is at reported) .end
+
+-- ---- no depth is above its value's number and one
+
+module _ (s ss ds : List ℕ) (end b : ℕ) (small : (k : ℕ) → getD ds k 0 ≤ b) where
+  abbrev Small : Turn DepthState ℕ → Type 0
+  Small (go v) = v .deep ≤ b
+  Small (stop d) = d ≤ b
+
+  target-depth-le : (at : ℕ) (h : Head) → targetDepth ss ds at h ≤ b
+  target-depth-le at h = pick-elim (λ d. d ≤ b) (leb 14 (h .kind) && ltb (h .n) at) (λ t. small _) (λ t. omega arith)
+
+  turn-small : (w : DepthState) → w .deep ≤ b → Small (depthTurn s ss ds end w)
+  unfolding depthTurn
+  turn-small w l = pick-elim Small (leb end (w .at)) (λ t. l) (λ t. by-cases (scanAt false s (w .at)))
+    where
+      by-cases : (a : Answer Fault Head) → Small (depthTurned ss ds w a)
+      by-cases (ok h) = let r = target-depth-le (w .at) h in omega arith
+      by-cases (error f) = l
+
+  deepest-le : (at : ℕ) → deepestIn s ss ds end at ≤ b
+  unfolding deepestFrom
+  deepest-le at =
+      from-all (depthTurn s ss ds end) _ (λ w. w .deep ≤ b) (λ d. d ≤ b) (λ w v l e. subst Small e (turn-small w l)) (λ w a l e. subst Small e (turn-small w l))
+      (omega arith) _ (depthState at 0) (omega arith)
+
+module _ (s ss : List ℕ) where
+  pub length-depths : (k : ℕ) → length (depthsTo s ss k) ≡ k
+  unfolding depthsTo
+  length-depths zero = refl
+  length-depths (suc k) = length-append (depthsTo s ss k) _ ∙ omega (arith, length-depths k)
+
+  depthAt-small : (ds : List ℕ) (k : ℕ) → ((j : ℕ) → getD ds j 0 ≤ k) → depthAt s ss ds k ≤ suc k
+  unfolding depthAt
+  depthAt-small ds k small = omega (arith, deepest-le s ss ds (getD ss (suc k) (length s)) k small (getD ss k 0))
+
+  depths-le : (k j : ℕ) → getD (depthsTo s ss k) j 0 ≤ k
+  unfolding depthsTo
+  depths-le zero j = omega arith
+  depths-le (suc k) j =
+      let ds = depthsTo s ss k in
+      let d = depthAt s ss ds k in
+      split j k
+      (λ lt. rw (List·getD-append ds (d ∷ []) 0 j (omega (arith, length-depths k))) (omega (arith, depths-le k j)))
+      (λ ge. split k j
+      (λ past. rw (List·getD-eq-default (ds ++ (d ∷ [])) 0 {n = j} (rw length-append (omega (arith, length-depths k)))) (omega arith))
+      (λ le. let e : j ≡ length ds = omega (arith, length-depths k) in rw (e, getD-append-seam ds d [] 0) (depthAt-small ds k (depths-le k))))
+
+  pub depthAt-fits : (ds : List ℕ) (i : ℕ) → Starts s ss → length s ≤ LIMIT → i < length ss → ds ≡ depthsTo s ss i → depthAt s ss ds i ≤ LIMIT
+  depthAt-fits ds i st short h e = omega (arith, depthAt-small ds i (rw e (depths-le i)), rising-ge ss (st .rising) i h, st .inside i h)
+
+  pub depthAt-is : (ds : List ℕ) (i end r : ℕ) → r ≡ deepestIn s ss ds end (getD ss i 0) → end ≡ getD ss (suc i) (length s) → r + 1 ≡ depthAt s ss ds i
+  unfolding depthAt
+  depthAt-is ds i end r e is = add-one r ∙ ap suc (rw is at e)
+
+-- one depth more
+pub depths-more : (s ss t : List ℕ) (i d : ℕ) → i < length t → take i t ≡ depthsTo s ss i → d ≡ depthAt s ss (take i t) i
+    → take (i + 1) (set t i d) ≡ depthsTo s ss (i + 1)
+unfolding depthsTo
+depths-more s ss t i d h e is = rw (add-one i, take-suc-set t i d h, is, e)
+
+pub depths-all : (s ss t : List ℕ) (i : ℕ) → take i t ≡ depthsTo s ss i → i ≡ length ss → take (length ss) t ≡ depthsTo s ss (length ss)
+depths-all s ss t i e same = rw (← same) e

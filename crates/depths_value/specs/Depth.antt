@@ -1,0 +1,53 @@
+-- The depth of a value (document 01, "Check and depths"), by the depths of those before it.
+--
+--   targetDepth ss ds at h     the depth of what the token of head h at `at` targets, where the values start at ss and ds are the depths of
+--                              those before; 0 where it targets nothing
+--   depthTurn s ss ds end w    one turn: a token that starts before `end`, and the greater of its depth and the one so far
+--   deepestIn s ss ds end at   the greatest such depth of the tokens of the region s from `at` to `end`; a token that does not scan ends it,
+--                              which no accepted file has
+--   depthAt s ss ds i          the depth of value number i: one more than the greatest depth of its targets
+--   depthsTo s ss k            the depths of the first k values
+use Prim.Native.Nat.{ℕ, zero, suc, _-_, max}
+use mathlib.Core.Bool.{false, _&&_}
+use mathlib.Core.List.{List, [], _∷_, _++_}
+use lib.Dec.{ltb, leb}
+use lib.ListN.{length, getD}
+use Rattle.prelude.specs.Pick.{pick}
+use Rattle.prelude.specs.Answer.{Answer, ok, error}
+use Rattle.prelude.specs.Loop.{Turn, go, stop, from}
+use Rattle.prelude.specs.Search.{rank}
+use Rattle.error.specs.Error.{Fault}
+use Rattle.scan.specs.Answers.{scanAt}
+use Rattle.scan.specs.declared.Head.{Head}
+
+abbrev pub targetDepth : List ℕ → List ℕ → ℕ → Head → ℕ
+targetDepth ss ds at h = pick (leb 14 (h .kind) && ltb (h .n) at) (getD ds (rank (at - h .n - 1) ss) 0) 0
+
+-- an offset, and the greatest depth so far
+pub record DepthState : Type 0 where
+  pub at : ℕ
+  pub deep : ℕ
+
+abbrev pub depthState : ℕ → ℕ → DepthState
+depthState at deep = record { at = at; deep = deep }
+
+abbrev pub depthTurned : List ℕ → List ℕ → DepthState → Answer Fault Head → Turn DepthState ℕ
+depthTurned ss ds w (ok h) = go (depthState (h .end) (max (w .deep) (targetDepth ss ds (w .at) h)))
+depthTurned ss ds w (error e) = stop (w .deep)
+
+unfoldable pub depthTurn : List ℕ → List ℕ → List ℕ → ℕ → DepthState → Turn DepthState ℕ
+depthTurn s ss ds end w = pick (leb end (w .at)) (stop (w .deep)) (depthTurned ss ds w (scanAt false s (w .at)))
+
+unfoldable pub deepestFrom : List ℕ → List ℕ → List ℕ → ℕ → DepthState → ℕ
+deepestFrom s ss ds end w = from (depthTurn s ss ds end) (λ v. length s - v .at) 0 w
+
+abbrev pub deepestIn : List ℕ → List ℕ → List ℕ → ℕ → ℕ → ℕ
+deepestIn s ss ds end at = deepestFrom s ss ds end (depthState at 0)
+
+-- value number i ends where the next one starts, the last at the region's end
+unfoldable pub depthAt : List ℕ → List ℕ → List ℕ → ℕ → ℕ
+depthAt s ss ds i = suc (deepestIn s ss ds (getD ss (suc i) (length s)) (getD ss i 0))
+
+unfoldable pub depthsTo : List ℕ → List ℕ → ℕ → List ℕ
+depthsTo s ss zero = []
+depthsTo s ss (suc k) = let ds = depthsTo s ss k in ds ++ (depthAt s ss ds k ∷ [])

@@ -1,2 +1,0 @@
--- numbers as little-endian bytes
-pub mod Bits

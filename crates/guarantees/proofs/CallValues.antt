@@ -1,0 +1,46 @@
+-- What is told of a part is what reading must tell of the call that asked for it.
+use mathlib.Core.Path.{_≡_, refl, sym, ap, _∙_}
+use mathlib.Core.List.{List, []}
+use Prim.Native.Nat.{ℕ, _-_}
+use native.Mathlib.Omega.{arith}
+use lib.IntN.{pos, negsuc}
+use lib.ListN.{length}
+use Rattle.little_endian.proofs.Laws.{value-little}
+use Rattle.token.specs.Token.{token}
+use Rattle.token.proofs.Laws.{length-emit}
+use Rattle.writer.specs.Step.{Call, scalar, integer, float32, float64, text, bytes, variant, reference, pointer, openArray, openMap, openTag, openVariant1, openVariantN, close}
+use Rattle.writer.specs.Given.{Given}
+use Rattle.writer.specs.declared.Scalar.the-variants.{False, True, Null}
+use Rattle.guarantees.specs.TokenValues.{tokenEnd, valueOfToken}
+use Rattle.guarantees.specs.Model.{Part, adds, requestOf, formOf}
+use Rattle.guarantees.specs.ReadsBack.{valueOfPart}
+use Rattle.guarantees.specs.CallValues.{first, valueOfCall}
+use Rattle.guarantees.proofs.Invariant.{addedBy}
+
+-- where the body starts
+body-first : (q k n a : ℕ) (b : List ℕ) → tokenEnd q (token k n a b) - length b ≡ first q k n a
+body-first q k n a b = omega (arith, length-emit k n a b, length-emit k n a [])
+
+call-value : (c : Call) → Given c → (q : ℕ) → valueOfPart q (addedBy (requestOf c)) ≡ valueOfCall q c
+unfolding valueOfPart valueOfToken formOf
+call-value (scalar False) g q = refl
+call-value (scalar True) g q = refl
+call-value (scalar Null) g q = refl
+call-value (integer (pos n)) g q = refl
+call-value (integer (negsuc n)) g q = refl
+call-value (float32 b) g q = rw (value-little 4 b g)
+call-value (float64 b) g q = rw (value-little 8 b g)
+call-value (text s) g q = rw (body-first q 4 (length s) 0 s)
+call-value (bytes s) g q = rw (body-first q 5 (length s) 0 s)
+call-value (openArray n) g q = refl
+call-value (openMap n) g q = refl
+call-value (openTag n) g q = refl
+call-value (variant i) g q = refl
+call-value (openVariant1 i) g q = refl
+call-value (openVariantN i n) g q = refl
+call-value (reference x) g q = refl
+call-value (pointer x) g q = refl
+call-value (close e) g q = refl
+
+pub value-of-call : (c : Call) → Given c → (q : ℕ) (p : Part) → requestOf c ≡ adds p → valueOfPart q p ≡ valueOfCall q c
+value-of-call c g q p e = ap (λ l. valueOfPart q (addedBy l)) (sym e) ∙ call-value c g q

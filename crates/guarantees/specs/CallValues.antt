@@ -1,0 +1,36 @@
+-- What reading must tell of what a call wrote (document 01, "Row of a file").
+--
+--   first q k n a   the offset just behind the header at q and its numbers, of kind k with the number n and the argument count a: where a body, or
+--                   the items, start
+--   valueOfCall q c
+--                   the value that reading tells of what the call c wrote at q: of a close, the pointer where it adds one
+use Prim.Native.Nat.{ℕ, _+_, _*_}
+use mathlib.Core.List.{[]}
+use lib.ListN.{length}
+use Rattle.token.specs.Token.{token, emit}
+use Rattle.writer.specs.Step.{Call, scalar, integer, float32, float64, text, bytes, variant, reference, pointer, openArray, openMap, openTag, openVariant1, openVariantN, close}
+use Rattle.writer.specs.declared.Scalar.the-variants.{False, True, Null}
+use Rattle.reader_value.specs.declared.Value.{Value}
+use Rattle.reader_value.specs.declared.Value.the-variants as Value
+
+abbrev pub first : ℕ → ℕ → ℕ → ℕ → ℕ
+first q k n a = q + length (emit (token k n a []))
+
+abbrev pub valueOfCall : ℕ → Call → Value
+valueOfCall q (scalar False) = Value.False
+valueOfCall q (scalar True) = Value.True
+valueOfCall q (scalar Null) = Value.Null
+valueOfCall q (integer z) = Value.Integer z
+valueOfCall q (float32 b) = Value.Float32 b
+valueOfCall q (float64 b) = Value.Float64 b
+valueOfCall q (text s) = Value.Text (first q 4 (length s) 0) (length s)
+valueOfCall q (bytes s) = Value.Bytes (first q 5 (length s) 0) (length s)
+valueOfCall q (openArray n) = Value.Array n (first q 6 n 0)
+valueOfCall q (openMap n) = Value.Map n (2 * n) (first q 7 n 0)
+valueOfCall q (openTag n) = Value.Tag n (first q 8 n 0)
+valueOfCall q (variant i) = Value.Variant i
+valueOfCall q (openVariant1 i) = Value.Variant1 i (first q 11 i 0)
+valueOfCall q (openVariantN i n) = Value.VariantN i n (first q 12 i n)
+valueOfCall q (reference x) = Value.Reference x
+valueOfCall q (pointer x) = Value.Pointer x
+valueOfCall q (close e) = Value.Pointer e

@@ -1,2 +1,0 @@
--- the number n of a header
-pub mod Header

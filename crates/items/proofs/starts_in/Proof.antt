@@ -1,9 +1,0 @@
--- `items::starts_in` meets its contract.
-use Rattle.prelude.proofs.Tests.{ladder}
-use Rattle.items.specs.Items.{startsIn}
-use Rattle.items.proofs.starts_in.Statement.{statement}
-use Rattle.items.proofs.starts_in.Tie as tie
-
-pub starts-in-spec : {M : Type 1} → statement M
-unfolding startsIn
-starts-in-spec = tie.close (tie.spec (λ c. search ladder) (λ c. search ladder))

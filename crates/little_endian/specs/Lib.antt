@@ -1,0 +1,2 @@
+-- numbers as little-endian bytes
+pub mod LittleEndian

@@ -1,4 +1,0 @@
--- the value that a map has for a key
-pub mod Lookup
--- what the private functions make
-pub mod Stages

@@ -1,4 +1,0 @@
--- the walk over a region's tokens
-pub mod Walk
--- what the functions make, in terms of the walk
-pub mod Stages

@@ -1,4 +1,0 @@
--- what `read` tells
-pub mod Read
--- what the code's answers mean
-pub mod Told

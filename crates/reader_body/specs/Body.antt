@@ -1,0 +1,33 @@
+-- The body of a text or byte string (document 01, "Questions at an offset"), in files that nobody checked.
+--
+--   bodyPlaceOf file at  first offset and length of the text or byte string that `at` leads to; it begins with `inRegion`: EMPTY, TOO_LONG,
+--                        OUTSIDE
+--   bodyOf file at       its bytes; none on an error
+use Prim.Native.Nat.{ℕ, _-_}
+use mathlib.Core.Bool.{_||_}
+use mathlib.Core.List.{List, []}
+use lib.Dec.{eqb}
+use lib.ListN.{take, drop}
+use Rattle.prelude.specs.Pick.{pick}
+use Rattle.prelude.specs.Answer.{Answer, ok, error, bind}
+use Rattle.error.specs.Error.{Fault, fault, WRONG_KIND}
+use Rattle.scan.specs.declared.Head.{Head}
+use Rattle.reader_region.specs.Region.{inRegion}
+use Rattle.reader_follow.specs.Follow.{position, followFrom}
+
+-- the body of a value that following came to
+abbrev pub bodyPlaceOn : ℕ → Head → Answer Fault (ℕ × ℕ)
+bodyPlaceOn at h = pick (eqb (h .kind) 4 || eqb (h .kind) 5) (ok (h .first, h .end - h .first)) (error (fault WRONG_KIND at))
+
+unfoldable pub bodyPlaceIn : List ℕ → ℕ → Answer Fault (ℕ × ℕ)
+bodyPlaceIn s at = bind (followFrom s (position at 0)) (λ m. bodyPlaceOn (m .place) (m .head))
+
+abbrev pub bodyPlaceOf : List ℕ → ℕ → Answer Fault (ℕ × ℕ)
+bodyPlaceOf file at = inRegion file at (λ s. bodyPlaceIn s at)
+
+abbrev pub bodyPart : List ℕ → Answer Fault (ℕ × ℕ) → List ℕ
+bodyPart file (ok p) = take (p .1) (drop (p .0) file)
+bodyPart file (error e) = []
+
+abbrev pub bodyOf : List ℕ → ℕ → List ℕ
+bodyOf file at = bodyPart file (bodyPlaceOf file at)

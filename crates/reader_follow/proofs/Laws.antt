@@ -1,0 +1,90 @@
+-- Laws of following: a pointer leads where its target leads, another value ends it; where it comes to.
+use mathlib.Core.Path.{_≡_, refl, sym, subst}
+use Prim.Native.Nat.{ℕ, _+_, _-_, _≤_, _<_}
+use mathlib.Core.Bool.{false}
+use mathlib.Core.List.{List}
+use native.Mathlib.Omega.{arith}
+use lib.Dec.{eqb}
+use borrow.Author.Tests.{eqb-true, eqb-false, eq-eqb, ne-eqb}
+use Rattle.prelude.specs.Loop.{Turn, go, stop}
+use Rattle.prelude.specs.Answer.{Answer, ok, error}
+use Rattle.prelude.proofs.Tests.{pick-elim}
+use Rattle.prelude.proofs.Turns.{from-go, from-stop, from-all}
+use Rattle.error.specs.Error.{Fault, fault}
+use Rattle.scan.specs.declared.Head.{Head}
+use Rattle.scan.proofs.Places.{Within, scan-within}
+use Rattle.reader_region.specs.Region.{peekIn}
+use Rattle.reader_region.proofs.Laws.{TargetBelow, peek-target, peek-scan}
+use Rattle.reader_follow.specs.Follow.{Followed, followed, Position, position, followTurned, followTurn, followFrom}
+
+-- a turn that goes on goes down
+abbrev Falls : Position → Turn Position (Answer Fault Followed) → Type 0
+Falls p (go q) = q .place < p .place
+Falls p (stop a) = Unit {0}
+
+falls : (p : Position) (a : Answer Fault Head) → TargetBelow (p .place) a → Falls p (followTurned p a)
+falls p (ok h) lt = pick-elim (Falls p) (eqb (h .kind) 15) (λ e. let k = eqb-true (h .kind) 15 e in let l = lt (omega arith) in omega arith) (λ e. tt)
+falls p (error e) lt = tt
+
+module _ (s : List ℕ) where
+  turn-falls : (p q : Position) → followTurn s p ≡ go q → q .place < p .place
+  unfolding followTurn
+  turn-falls p q e = subst (Falls p) e (falls p (peekIn false s (p .place)) (peek-target false s (p .place)))
+
+  module _ (q hops : ℕ) (h : Head) (e : ok h ≡ peekIn false s q) where
+    pub followFrom-pointer : h .kind ≡ 15 → followFrom s (position (q - h .n - 1) (hops + 1)) ≡ followFrom s (position q hops)
+    unfolding followFrom followTurn
+    followFrom-pointer k = sym (from-go (followTurn s) (λ p. p .place) _ turn-falls (position q hops) _ (rw (← e, eq-eqb _ _ k)))
+
+    pub followFrom-end : (h .kind ≡ 15 → ⊥) → ok (followed q hops h) ≡ followFrom s (position q hops)
+    unfolding followFrom followTurn
+    followFrom-end k = sym (from-stop (followTurn s) (λ p. p .place) _ turn-falls (position q hops) _ (rw (← e, ne-eqb _ _ k)))
+
+  pub followFrom-error : (q hops : ℕ) (f : Fault) → error f ≡ peekIn false s q → error f ≡ followFrom s (position q hops)
+  unfolding followFrom followTurn
+  followFrom-error q hops f e = sym (from-stop (followTurn s) (λ p. p .place) _ turn-falls (position q hops) _ (rw (← e)))
+
+-- ---- where following comes to
+
+-- a value that following from p came to was looked at, is no pointer, and each hop went down
+pub record FollowedHead (s : List ℕ) (p : Position) (m : Followed) : Type 0 where
+  pub peeked : ok (m .head) ≡ peekIn false s (m .place)
+  pub other : m .head .kind ≡ 15 → ⊥
+  pub down : m .place + m .hops ≤ p .place + p .hops
+
+abbrev pub FollowsTo : List ℕ → Position → Answer Fault Followed → Type 0
+FollowsTo s p (ok m) = FollowedHead s p m
+FollowsTo s p (error e) = Unit {0}
+
+module _ (s : List ℕ) (p : Position) where
+  abbrev Down : Position → Type 0
+  Down q = q .place + q .hops ≤ p .place + p .hops
+
+  -- a turn that goes on stays down, and one that stops has come there
+  abbrev Turns : Turn Position (Answer Fault Followed) → Type 0
+  Turns (go q) = Down q
+  Turns (stop a) = FollowsTo s p a
+
+  turns : (q : Position) (a : Answer Fault Head) → peekIn false s (q .place) ≡ a → Down q → TargetBelow (q .place) a → Turns (followTurned q a)
+  turns q (ok h) e d lt =
+      pick-elim Turns (eqb (h .kind) 15)
+      (λ k. let f = eqb-true (h .kind) 15 k in let l = lt (omega arith) in omega arith)
+      (λ k. record { peeked = sym e; other = eqb-false (h .kind) 15 k; down = d })
+  turns q (error f) e d lt = tt
+
+  turn-turns : (q : Position) → Down q → Turns (followTurn s q)
+  unfolding followTurn
+  turn-turns q d = turns q (peekIn false s (q .place)) refl d (peek-target false s (q .place))
+
+  pub follow-leads : FollowsTo s p (followFrom s p)
+  unfolding followFrom
+  follow-leads =
+      from-all (followTurn s) (error (fault 0 0)) Down (FollowsTo s p) (λ q q′ d e. subst Turns e (turn-turns q d)) (λ q a d e. subst Turns e (turn-turns q d)) tt
+      (λ q. q .place) p (omega arith)
+
+pub follow-head-inv : (s : List ℕ) (p : Position) (m : Followed) → ok m ≡ followFrom s p → FollowedHead s p m
+follow-head-inv s p m e = subst (FollowsTo s p) (sym e) (follow-leads s p)
+
+-- the head there is in the region
+pub followed-within : (s : List ℕ) (p : Position) (m : Followed) → ok m ≡ followFrom s p → Within s (m .place) (m .head)
+followed-within s p m e = scan-within false s (m .place) (m .head) (peek-scan false s (m .place) (m .head) (follow-head-inv s p m e .peeked))

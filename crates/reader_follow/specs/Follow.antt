@@ -1,0 +1,54 @@
+-- Pointers followed (document 01, "Questions at an offset"), in files that nobody checked.
+--
+--   followFrom s p      from the spot p, an offset and the pointers met before it, from pointer to pointer to a value of another kind: its
+--                       offset, its head, and the pointers met
+--   followHeadOf file at
+--                       the same from any offset of a file, which begins with `inRegion`: EMPTY, TOO_LONG, OUTSIDE
+--   followOf file at    the same: offset and hops
+use Prim.Native.Nat.{ℕ, _+_, _-_}
+use mathlib.Core.Bool.{false}
+use mathlib.Core.List.{List}
+use lib.Dec.{eqb}
+use Rattle.prelude.specs.Pick.{pick}
+use Rattle.prelude.specs.Answer.{Answer, ok, error, bind}
+use Rattle.prelude.specs.Loop.{Turn, go, stop, from}
+use Rattle.error.specs.Error.{Fault, fault}
+use Rattle.scan.specs.declared.Head.{Head}
+use Rattle.reader_region.specs.Region.{inRegion, peekIn}
+
+-- a value that following came to, and the pointers met
+pub record Followed : Type 0 where
+  pub place : ℕ
+  pub hops : ℕ
+  pub head : Head
+
+abbrev pub followed : ℕ → ℕ → Head → Followed
+followed at hops h = record { place = at; hops = hops; head = h }
+
+-- an offset, and the pointers met before it
+pub record Position : Type 0 where
+  pub place : ℕ
+  pub hops : ℕ
+
+abbrev pub position : ℕ → ℕ → Position
+position at hops = record { place = at; hops = hops }
+
+abbrev pub followTurned : Position → Answer Fault Head → Turn Position (Answer Fault Followed)
+followTurned p (ok h) = pick (eqb (h .kind) 15) (go (position (p .place - h .n - 1) (p .hops + 1))) (stop (ok (followed (p .place) (p .hops) h)))
+followTurned p (error e) = stop (error e)
+
+unfoldable pub followTurn : List ℕ → Position → Turn Position (Answer Fault Followed)
+followTurn s p = followTurned p (peekIn false s (p .place))
+
+-- each pointer leads to a lower offset, so the loop stops; `fault 0 0` is never told
+unfoldable pub followFrom : List ℕ → Position → Answer Fault Followed
+followFrom s p = from (followTurn s) (λ q. q .place) (error (fault 0 0)) p
+
+abbrev pub followHeadOf : List ℕ → ℕ → Answer Fault Followed
+followHeadOf file at = inRegion file at (λ s. followFrom s (position at 0))
+
+unfoldable pub followIn : List ℕ → ℕ → Answer Fault (ℕ × ℕ)
+followIn s at = bind (followFrom s (position at 0)) (λ m. ok (m .place, m .hops))
+
+abbrev pub followOf : List ℕ → ℕ → Answer Fault (ℕ × ℕ)
+followOf file at = inRegion file at (λ s. followIn s at)

@@ -1,0 +1,44 @@
+-- The end of a value, and its items (document 01, "Questions at an offset"), in files that nobody checked. Each query begins with `inRegion`:
+-- EMPTY, TOO_LONG, OUTSIDE.
+--
+--   skipItems s k at    the offset after k items from `at` on, each looked at
+--   skipOf file at      where the value ends; its items are looked at
+--   itemOf file at i    the offset of item i: WRONG_KIND of a kind without items, NO_ITEM, the items before it, and TRUNC where it would
+--                       start at the region's end
+use Prim.Native.Nat.{ℕ, zero, suc}
+use mathlib.Core.Bool.{true, false}
+use mathlib.Core.List.{List}
+use lib.Dec.{ltb, leb}
+use lib.ListN.{length}
+use Rattle.prelude.specs.Pick.{pick}
+use Rattle.prelude.specs.Answer.{Answer, ok, error, bind}
+use Rattle.error.specs.Error.{Fault, fault, TRUNC, NO_ITEM, WRONG_KIND}
+use Rattle.kind.specs.Kind.{rule, immediate}
+use Rattle.scan.specs.declared.Head.{Head}
+use Rattle.reader_region.specs.Region.{inRegion, peekIn}
+
+unfoldable pub skipItems : List ℕ → ℕ → ℕ → Answer Fault ℕ
+skipItems s zero at = ok at
+skipItems s (suc k) at = bind (peekIn true s at) (λ h. skipItems s k (h .end))
+
+unfoldable pub skipIn : List ℕ → ℕ → Answer Fault ℕ
+skipIn s at = bind (peekIn false s at) (λ h. skipItems s (h .items) (h .end))
+
+abbrev pub skipOf : List ℕ → ℕ → Answer Fault ℕ
+skipOf file at = inRegion file at (λ s. skipIn s at)
+
+-- an offset where an item is to start, in a region of len bytes
+unfoldable pub startsIn : ℕ → ℕ → Answer Fault ℕ
+startsIn len q = pick (ltb q len) (ok q) (error (fault TRUNC len))
+
+unfoldable pub itemOn : List ℕ → ℕ → ℕ → Head → Answer Fault ℕ
+itemOn s at i h =
+    pick (immediate (rule (h .kind))) (error (fault WRONG_KIND at))
+    (pick (leb (h .items) i) (error (fault NO_ITEM at))
+    (bind (skipItems s i (h .end)) (startsIn (length s))))
+
+unfoldable pub itemIn : List ℕ → ℕ → ℕ → Answer Fault ℕ
+itemIn s at i = bind (peekIn false s at) (itemOn s at i)
+
+abbrev pub itemOf : List ℕ → ℕ → ℕ → Answer Fault ℕ
+itemOf file at i = inRegion file at (λ s. itemIn s at i)

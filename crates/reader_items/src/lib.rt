@@ -1,0 +1,91 @@
+// The end of a value, and its items, at an offset of any file (document 01, "Questions at an offset").
+use error::Error;
+use error::ErrorKind;
+use reader_region::OffsetResult;
+use scan::Head;
+use scan::ScanResult;
+ghost use mathlib.Core.Path.{_≡_};
+ghost use Rattle.reader_region.specs.Answers.{offsetAnswer};
+ghost use Rattle.reader_items.specs.Items.{skipItems, skipOf, startsIn, itemOn, itemOf};
+
+// The offset after `items` items from `at` on.
+fn skip_items(region: &[u8], at: usize, items: u64) -> OffsetResult
+    ensures { λ r. ⌜ offsetAnswer r ≡ skipItems (now (region .entry)) items at ⌝ }
+{
+    let mut q = at;
+    let mut k = items;
+    while 0 < k {
+        match reader_region::peek_in(region, q, true) {
+            ScanResult::Ok(h) => {
+                q = h.end;
+                k = k - 1;
+            }
+            ScanResult::Err(e) => {
+                return OffsetResult::Err(e);
+            }
+        }
+    }
+    OffsetResult::Ok(q)
+}
+
+// Where the value at `at` ends. Looks at its items, but at neither text bytes nor targets beyond 0.
+pub fn skip(file: &[u8], at: usize) -> OffsetResult
+    ensures { λ r. ⌜ offsetAnswer r ≡ skipOf (now (file .entry)) at ⌝ }
+{
+    match reader_region::peek(file, at) {
+        ScanResult::Ok(h) => skip_items(reader_region::region(file), h.end, h.items),
+        ScanResult::Err(e) => OffsetResult::Err(e),
+    }
+}
+
+// An offset where an item is to start.
+pub fn starts_in(len: usize, q: usize) -> OffsetResult
+    ensures { λ r. ⌜ offsetAnswer r ≡ startsIn len q ⌝ }
+{
+    if q < len {
+        return OffsetResult::Ok(q);
+    }
+    // TRUNC: the item would start at the region's end
+    OffsetResult::Err(Error {
+        kind: ErrorKind::Trunc,
+        place: len,
+    })
+}
+
+// An item of the value at `at` of a region, which has the head h.
+fn item_on(region: &[u8], at: usize, index: usize, h: Head) -> OffsetResult
+    ensures { λ r. ⌜ offsetAnswer r ≡ itemOn (now (region .entry)) at index h ⌝ }
+{
+    let kind = h.kind;
+    let rule = kind::rule_of(kind);
+    // WRONG_KIND: a kind without items
+    if kind::is_immediate(rule) {
+        return OffsetResult::Err(Error {
+            kind: ErrorKind::WrongKind,
+            place: at,
+        });
+    }
+    // NO_ITEM: the item number is at or past the count
+    let i = index as u64;
+    if h.items <= i {
+        return OffsetResult::Err(Error {
+            kind: ErrorKind::NoItem,
+            place: at,
+        });
+    }
+    match skip_items(region, h.end, i) {
+        OffsetResult::Ok(q) => starts_in(region.len(), q),
+        OffsetResult::Err(e) => OffsetResult::Err(e),
+    }
+}
+
+// The offset of an item of the value at `at`, which is not followed. It takes time with the items before it: of a value that `skip` accepts,
+// a loop over its items takes item 0 and then, as often as it has more, what `skip` tells of the one before.
+pub fn item(file: &[u8], at: usize, index: usize) -> OffsetResult
+    ensures { λ r. ⌜ offsetAnswer r ≡ itemOf (now (file .entry)) at index ⌝ }
+{
+    match reader_region::peek(file, at) {
+        ScanResult::Ok(h) => item_on(reader_region::region(file), at, index, h),
+        ScanResult::Err(e) => OffsetResult::Err(e),
+    }
+}

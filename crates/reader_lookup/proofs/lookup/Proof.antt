@@ -1,0 +1,20 @@
+-- `reader_lookup::lookup` meets its contract: what is made of the head, in the region.
+use borrow.Author.Needs.{needs}
+use Rattle.reader_region.proofs.Laws.{in-region-then, in-region-failed}
+use Rattle.reader_lookup.specs.Lookup.{lookupIn}
+use Rattle.reader_lookup.proofs.lookup.Statement.{statement}
+use Rattle.reader_lookup.proofs.lookup.Tie as tie
+
+pub lookup-spec : {M : Type 1} → statement M
+unfolding lookupIn
+lookup-spec =
+    tie.close
+    (tie.spec
+    (λ c κs. search needs)
+    (λ c. search needs)
+    (λ c κs. search needs)
+    (λ c κs. search needs)
+    (λ c. search needs)
+    (λ c. let t = c .before .before .before in
+    in-region-then _ _ _ _ (rw (t .h .given .1) at (t .before .before .peek .ensures)) (rw (c .before .region .ensures) at (c .lookup-on .ensures)))
+    (λ c. let t = c .before in in-region-failed _ _ _ _ (rw (t .e .given .1) at (t .before .before .peek .ensures))))

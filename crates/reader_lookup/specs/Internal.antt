@@ -1,0 +1,37 @@
+-- What this crate's private functions make. No public contract cites this file.
+--
+--   pairOf s key q      one pair of a map, from q on: where the next one starts, or the answer; the key is looked at and followed
+--   matchKey s key q h  the rest of it, where the key, followed, has the head h and the value starts at q: the key is held against
+--                       `key`; where it is another, the value is looked at
+--   pairAnswer r        a `PairResult` as such a turn
+--   orStop a f          what f makes of a's value; a stop with a's error where it is one
+use Prim.Native.Nat.{ℕ}
+use mathlib.Core.Bool.{true}
+use mathlib.Core.List.{List}
+use lib.ListN.{length}
+use Rattle.prelude.specs.Pick.{pick}
+use Rattle.prelude.specs.Answer.{Answer, ok, error}
+use Rattle.prelude.specs.Loop.{Turn, go, stop}
+use Rattle.error.specs.Error.{Fault}
+use Rattle.scan.specs.declared.Head.{Head}
+use Rattle.reader_region.specs.Region.{peekIn}
+use Rattle.reader_region.specs.Answers.{offsetAnswer}
+use Rattle.reader_items.specs.Items.{startsIn}
+use Rattle.reader_follow.specs.Follow.{position, followFrom}
+use Rattle.reader_lookup.specs.Lookup.{isKey}
+use Rattle.reader_lookup.specs.declared.PairResult.{PairResult}
+use Rattle.reader_lookup.specs.declared.PairResult.the-variants.{Next, Stop}
+
+unfoldable pub orStop : {A S R : Type 0} → Answer Fault A → (A → Turn S (Answer Fault R)) → Turn S (Answer Fault R)
+orStop (ok a) f = f a
+orStop (error e) f = stop (error e)
+
+abbrev pub matchKey : List ℕ → List ℕ → ℕ → Head → Turn ℕ (Answer Fault ℕ)
+matchKey s key q h = pick (isKey s key h) (stop (startsIn (length s) q)) (orStop (peekIn true s q) (λ v. go (v .end)))
+
+abbrev pub pairOf : List ℕ → List ℕ → ℕ → Turn ℕ (Answer Fault ℕ)
+pairOf s key q = orStop (peekIn true s q) (λ h. orStop (followFrom s (position q 0)) (λ m. matchKey s key (h .end) (m .head)))
+
+abbrev pub pairAnswer : PairResult → Turn ℕ (Answer Fault ℕ)
+pairAnswer (Next q) = go q
+pairAnswer (Stop r) = stop (offsetAnswer r)

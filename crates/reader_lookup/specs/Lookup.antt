@@ -1,0 +1,46 @@
+-- The value that a map has for a key (document 01, "Questions at an offset"), in files that nobody checked.
+--
+--   same a b                whether two parts have the same bytes
+--   lookupOf file at key    in a map, the offset of the value of the first pair whose key, followed, is a text of these bytes; it begins with
+--                           `inRegion`: EMPTY, TOO_LONG, OUTSIDE
+use Prim.Native.Nat.{ℕ, zero, suc}
+use mathlib.Core.Bool.{Bool, true, false, _&&_}
+use mathlib.Core.List.{List, [], _∷_}
+use lib.Dec.{eqb}
+use lib.ListN.{length}
+use Rattle.prelude.specs.Pick.{pick}
+use Rattle.prelude.specs.Answer.{Answer, error, bind}
+use Rattle.error.specs.Error.{Fault, fault, NO_ITEM, WRONG_KIND}
+use Rattle.scan.specs.Answers.{bodyOn}
+use Rattle.scan.specs.declared.Head.{Head}
+use Rattle.reader_region.specs.Region.{inRegion, peekIn}
+use Rattle.reader_items.specs.Items.{startsIn}
+use Rattle.reader_follow.specs.Follow.{position, followFrom}
+
+unfoldable pub same : List ℕ → List ℕ → Bool
+same [] [] = true
+same [] (b ∷ t) = false
+same (a ∷ s) [] = false
+same (a ∷ s) (b ∷ t) = eqb a b && same s t
+
+-- a value of head h is a text of these bytes
+abbrev pub isKey : List ℕ → List ℕ → Head → Bool
+isKey s key h = eqb (h .kind) 4 && same (bodyOn s h) key
+
+-- k pairs from q on, of the map at `at`
+unfoldable pub pairs : List ℕ → ℕ → List ℕ → ℕ → ℕ → Answer Fault ℕ
+pairs s at key zero q = error (fault NO_ITEM at)
+pairs s at key (suc k) q =
+    bind (peekIn true s q) (λ h.
+    bind (followFrom s (position q 0)) (λ m.
+    pick (isKey s key (m .head)) (startsIn (length s) (h .end))
+    (bind (peekIn true s (h .end)) (λ v. pairs s at key k (v .end)))))
+
+abbrev pub lookupOn : List ℕ → ℕ → List ℕ → Head → Answer Fault ℕ
+lookupOn s at key h = pick (eqb (h .kind) 7) (pairs s at key (h .n) (h .end)) (error (fault WRONG_KIND at))
+
+unfoldable pub lookupIn : List ℕ → ℕ → List ℕ → Answer Fault ℕ
+lookupIn s at key = bind (peekIn false s at) (lookupOn s at key)
+
+abbrev pub lookupOf : List ℕ → ℕ → List ℕ → Answer Fault ℕ
+lookupOf file at key = inRegion file at (λ s. lookupIn s at key)

@@ -1,0 +1,40 @@
+-- A file and its region (document 01, "Row of a file" and "Questions at an offset").
+--
+--   regionLen len at
+--                    how long the region of a file of len bytes is, where the offset `at` is in it: all bytes but the last, which is the
+--                    delta; EMPTY, TOO_LONG, OUTSIDE in this order
+--   inRegion file at k what k makes of the region, or `regionLen`'s error
+--   peekIn inner s at
+--                    the token at the offset `at` of the region s, as a query looks at it, and as an item (NESTED) where `inner` is true: its
+--                    faults, then BAD_TARGET where its target is below 0; of text and targets nothing more
+--   peekOf file at   the same of a value at any offset of a file
+use Prim.Native.Nat.{ℕ, _-_}
+use mathlib.Core.Bool.{Bool, false, _&&_}
+use mathlib.Core.List.{List}
+use lib.Dec.{eqb, ltb, leb}
+use lib.ListN.{length, take}
+use Rattle.prelude.specs.Pick.{pick}
+use Rattle.prelude.specs.Answer.{Answer, ok, error, bind}
+use Rattle.error.specs.Error.{Fault, fault, LIMIT, EMPTY, TOO_LONG, OUTSIDE, BAD_TARGET}
+use Rattle.scan.specs.Answers.{scanAt}
+use Rattle.scan.specs.declared.Head.{Head}
+
+unfoldable pub regionLen : ℕ → ℕ → Answer Fault ℕ
+regionLen len at =
+    pick (eqb len 0) (error (fault EMPTY 0))
+    (pick (ltb LIMIT len) (error (fault TOO_LONG 0))
+    (pick (ltb at (len - 1)) (ok (len - 1))
+    (error (fault OUTSIDE at))))
+
+unfoldable pub inRegion : {A : Type 0} → List ℕ → ℕ → (List ℕ → Answer Fault A) → Answer Fault A
+inRegion file at k = bind (regionLen (length file) at) (λ n. k (take n file))
+
+-- a reference or pointer at `at` whose distance reaches below offset 0: its target would be at - n - 1, and n < at does not hold
+abbrev pub below : ℕ → Head → Bool
+below at h = leb 14 (h .kind) && leb at (h .n)
+
+unfoldable pub peekIn : Bool → List ℕ → ℕ → Answer Fault Head
+peekIn inner s at = bind (scanAt inner s at) (λ h. pick (below at h) (error (fault BAD_TARGET at)) (ok h))
+
+abbrev pub peekOf : List ℕ → ℕ → Answer Fault Head
+peekOf file at = inRegion file at (λ s. peekIn false s at)

@@ -1,0 +1,4 @@
+-- what `read` tells
+pub mod Value
+-- what the code's answers mean
+pub mod Answers

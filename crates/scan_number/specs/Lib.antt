@@ -1,0 +1,2 @@
+-- the number n of a header
+pub mod Internal

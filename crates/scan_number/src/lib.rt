@@ -1,0 +1,49 @@
+// The number n of a header, and the room for what it counts.
+use error::ErrorKind;
+use kind::Rule;
+use leb128::GetResult;
+ghost use mathlib.Core.Path.{_≡_};
+ghost use Prim.Native.Nat.{_+_, _*_, _≤_, _<_, _^_};
+ghost use lib.Dec.{leb};
+ghost use Rattle.leb128.specs.Answers as numbers;
+ghost use Rattle.kind.specs.Kind.{size};
+ghost use Rattle.kind.proofs.Laws.{Row};
+ghost use Rattle.scan_number.specs.Internal.{numbered};
+
+// The number n of a header with this low nibble, where s stands behind it, and the bytes left behind n.
+pub fn number(low: u8, most: u64, s: &[u8]) -> GetResult
+    requires { ⌜ (low ≤ most) × (low < 16) ⌝ }
+    ensures { λ r. ⌜ numbers.answerOf r ≡ numbered low most (now (s .entry)) ⌝ }
+{
+    if low < kind::EXTENDED as u8 {
+        return GetResult::Ok {
+            value: low as u64,
+            left: s.len(),
+        };
+    }
+    match leb128_word::get(s) {
+        GetResult::Ok { value, left } => {
+            // RANGE: n is over its kind's bound
+            if most - kind::EXTENDED < value {
+                return GetResult::Err(ErrorKind::Range);
+            }
+            GetResult::Ok {
+                value: kind::EXTENDED + value,
+                left,
+            }
+        }
+        GetResult::Err(error) => GetResult::Err(error),
+    }
+}
+
+// Whether the body and the items that n counts have room in the bytes left.
+pub fn has_room(rule: Rule, n: u64, left: u64) -> bool
+    requires { ⌜ (Row rule) × (n ≤ rule .most) × (left < 2 ^ 63) ⌝ }
+    ensures { λ r. ⌜ r ≡ leb (size rule n + rule .each * n) left ⌝ }
+{
+    let unit = rule.scale + rule.each;
+    if (0 < unit) & (left < n) {
+        return false;
+    }
+    rule.fixed + unit * n <= left
+}

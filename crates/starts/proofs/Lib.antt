@@ -1,2 +1,0 @@
--- the walk as the code makes it
-mod Along

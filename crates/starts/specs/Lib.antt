@@ -1,2 +1,0 @@
--- what the answer means
-pub mod Told

@@ -1,2 +1,0 @@
--- the writer's state as five words, and its calls
-pub mod State

@@ -1,4 +1,0 @@
--- what an answer is in C
-pub mod Tell
--- what `twine_read` tells: a row for each kind
-pub mod Read

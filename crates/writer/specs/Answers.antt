@@ -1,0 +1,19 @@
+-- What the answers of this crate's functions mean.
+--
+--   answerOf a        a `WriteAnswer` as document 01 tells it: an error has a number and no place
+--   wrote r out table what a call answered, and the output and table that it left
+use Prim.Native.Nat.{ℕ}
+use mathlib.Core.List.{List}
+use Rattle.prelude.specs.Answer.{ok, error}
+use Rattle.error.specs.Error.{numberOf}
+use Rattle.writer.specs.Step.{Verdict, Result, result}
+use Rattle.writer.specs.declared.WriteAnswer.{WriteAnswer}
+use Rattle.writer.specs.declared.WriteAnswer.the-variants.{Ok, Err}
+use Rattle.writer.specs.declared.WriteResult.{WriteResult}
+
+abbrev pub answerOf : WriteAnswer → Verdict
+answerOf Ok = ok tt
+answerOf (Err e) = error (numberOf e)
+
+abbrev pub wrote : WriteResult → List ℕ → List ℕ → Result
+wrote r out table = result (answerOf (r .answer)) (r .writer) out table
