@@ -64,3 +64,5 @@ pub mod CallValues
 pub mod Demands
 -- lists of calls write their bytes
 pub mod Written
+-- the demands, restated in their order
+pub mod Main
