@@ -4,7 +4,7 @@
  * Link with libtwine.a, which `rt staticlib twine` writes to target/staticlib/ (x86-64 Linux). Nothing is
  * allocated, printed or kept between calls.
  *
- * A file is values back to back, the region, and one last byte, which names the value where a reader starts,
+ * A file is values back to back, the region, and one last byte, which names the value at which a reader starts,
  * the entry. Offsets count from the file's first byte. A value is a header with its numbers, and then a body or
  * items; an item is a value that has no items itself.
  *
@@ -12,7 +12,7 @@
  * error, and touches no memory but what it is handed; what it answers and leaves there is proved for every input
  * (the contracts in crates/twine/src/lib.rt). The caller's part, which nothing checks:
  *
- *   - a pointer is not NULL, also where its length is 0, and names as many initialized elements as said;
+ *   - a pointer is not NULL, even if its length is 0, and points to as many initialized elements as said;
  *   - memory that a call writes (starts, depths, out, state, name) overlaps no other that the call is handed;
  *   - nobody else writes any of it during the call.
  *
@@ -38,7 +38,7 @@ extern "C" {
 /* The bytes of an error's name, with the 0 at its end. */
 #define TWINE_NAME 11
 
-/* What a call answers. In brackets the place, the offset that is told with the number; the writer's errors have
+/* What a call answers. In brackets the place, the offset that is returned with the number; the writer's errors have
    none. */
 enum twine_error {
     TWINE_OK = 0,
@@ -59,7 +59,8 @@ enum twine_error {
     TWINE_NESTED = 7,
     /* a text that is not text [the header] */
     TWINE_BAD_TEXT = 8,
-    /* a reference or pointer to no value that ended before [the header]; writer: to no finished value */
+    /* a reference or pointer to something that is not a value that ended before [the header]; writer: not a finished
+       value */
     TWINE_BAD_TARGET = 9,
     /* one value more than the table has words [the value's start] */
     TWINE_FULL = 10,
@@ -81,7 +82,7 @@ enum twine_error {
     TWINE_BAD_STATE = 18
 };
 
-/* What a value is. Arrays, maps, tags, VARIANT1 and VARIANTN may have items, and are no items. */
+/* What a value is. Arrays, maps, tags, VARIANT1 and VARIANTN may have items, and are never items. */
 enum twine_kind {
     TWINE_KIND_SCALAR = 0,
     TWINE_KIND_INTEGER = 1,
@@ -99,7 +100,7 @@ enum twine_kind {
     TWINE_KIND_POINTER = 15
 };
 
-/* The name of an error, as "BAD_TARGET"; no letters for a number that no error has. */
+/* The name of an error, such as "BAD_TARGET"; the empty string for a number that no error has. */
 static inline const char *twine_error_name(uint32_t number) {
     static const char *const names[] = {
         "",           "EMPTY", "TOO_LONG",  "TRUNC",   "RESERVED", "OVERLONG",   "RANGE",   "NESTED", "BAD_TEXT",
@@ -109,20 +110,20 @@ static inline const char *twine_error_name(uint32_t number) {
     return number < sizeof names / sizeof names[0] ? names[number] : "";
 }
 
-/* The same from the archive, where it is proved: the name, and 0 in every byte behind it. TWINE_OK. */
+/* The same from the archive, where it is proved: the name, and 0 in every byte after it. TWINE_OK. */
 uint32_t twine_spell_error(uint32_t number, char name[TWINE_NAME]);
 
 /* ---- check and depths */
 
-/* Checks a file. out = {count of values, offset of the entry}; starts gets the offset where each value starts, in
+/* Checks a file. out = {count of values, offset of the entry}; starts gets the offset at which each value starts, in
    rising order, and 0 in every other word. On an error out = {place, 0}, and starts gets 0 in every word. A value
    has at least one byte, so that len - 1 words, one for each byte of the region, are always enough. */
 uint32_t twine_check(const uint8_t *file, size_t len,
                      uint32_t *starts, size_t words, uint64_t out[2]);
 
-/* Checks a file, and tells how deep each value is: how many values the longest way from it has along pointers and
+/* Checks a file, and reports how deep each value is: how many values the longest path from it has along pointers and
    references, itself counted. out and starts as twine_check; depths gets the depth of each value, and 0 in every
-   other word. Check's errors come first, then TWINE_FULL where words2 is less than the count. On an error
+   other word. Check's errors come first, then TWINE_FULL if words2 is less than the count. On an error
    out = {place, 0}, and both tables get 0 in every word. */
 uint32_t twine_depths(const uint8_t *file, size_t len,
                       uint32_t *starts, size_t words, uint32_t *depths, size_t words2, uint64_t out[2]);
@@ -130,10 +131,10 @@ uint32_t twine_depths(const uint8_t *file, size_t len,
 /* ---- queries
 
    They take any offset of any file, checked or not. TWINE_EMPTY, TWINE_TOO_LONG and TWINE_OUTSIDE come first, then
-   the errors of the values that are read. On an error out = {place, 0}, of twine_read {place, 0, 0, 0}. */
+   the errors of the values that are read. On an error out = {place, 0}, for twine_read {place, 0, 0, 0}. */
 
 /* Reads the value at an offset, but neither its items nor the bytes of a text. out = {kind, number, first, count};
-   first is the offset just after the header's numbers, where the body or the first item starts.
+   first is the offset just after the header's numbers, at which the body or the first item starts.
 
      kind                  number                              count
      SCALAR                0 false, 1 true, 2 null             0
@@ -152,37 +153,37 @@ uint32_t twine_read(const uint8_t *file, size_t len, size_t at, uint64_t out[4])
 /* Where the value at an offset ends, its items included, which are read. out = {offset just after it, 0}. */
 uint32_t twine_skip(const uint8_t *file, size_t len, size_t at, uint64_t out[2]);
 
-/* An item of the value at an offset, which is not followed; of a map keys and values by turns.
-   out = {offset of the item, 0}. TWINE_WRONG_KIND of a kind without items, TWINE_NO_ITEM of an index at or past the
-   count. It takes time with the items before it: a loop over items takes item 0, and then what twine_skip tells of
+/* An item of the value at an offset, which is not followed; for a map keys and values alternate.
+   out = {offset of the item, 0}. TWINE_WRONG_KIND for a kind without items, TWINE_NO_ITEM for an index at or past the
+   count. Its time grows with the items before it: a loop over items takes item 0, and then what twine_skip returns for
    each. */
 uint32_t twine_item(const uint8_t *file, size_t len, size_t at, size_t index, uint64_t out[2]);
 
-/* Follows pointers, but not references, from the value at an offset to one that is no pointer.
+/* Follows pointers, but not references, from the value at an offset to one that is not a pointer.
    out = {its offset, pointers met}. */
 uint32_t twine_follow(const uint8_t *file, size_t len, size_t at, uint64_t out[2]);
 
-/* The value that the map at an offset has for a key: of the first pair whose key, followed, is a text of these
-   bytes. The map itself is not followed. out = {offset of the value, 0}. TWINE_WRONG_KIND of another kind,
-   TWINE_NO_ITEM where no key is it. */
+/* The value that the map at an offset has for a key: that of the first pair whose key, followed, is a text of these
+   bytes. The map itself is not followed. out = {offset of the value, 0}. TWINE_WRONG_KIND for another kind,
+   TWINE_NO_ITEM if there is no such key. */
 uint32_t twine_lookup(const uint8_t *file, size_t len, size_t at,
                       const uint8_t *key, size_t key_len, uint64_t out[2]);
 
 /* The bytes of the text or byte string that the value at an offset is or that pointers lead to.
-   out = {offset of the first byte, count of bytes}. TWINE_WRONG_KIND where they lead to another kind. */
+   out = {offset of the first byte, count of bytes}. TWINE_WRONG_KIND if they lead to another kind. */
 uint32_t twine_body(const uint8_t *file, size_t len, size_t at, uint64_t out[2]);
 
 /* ---- writer
 
    A writer's state is five words of the caller's, {written, count, pending, start, closed}: the bytes written, the
-   values finished, the items that the open value still has to get, its start (without meaning where none are
+   values finished, the items that the open value still has to get, its start (without meaning if none are
    pending), and whether the file is closed (any word but 0). Any five words are a state; one that out or starts
    does not fit is TWINE_BAD_STATE.
 
-   out and starts go into each call as the call before left them; both may be longer then. A call writes behind the first `written` bytes of
-   out, and the start of a value that it finishes into the word `count` of starts. TWINE_OK: the state is the next
-   one, and in out and starts nothing else has changed. On an error state, out and starts are as they were, in
-   every word and byte.
+   out and starts go into each call as the call before left them; both may be longer then. A call writes after the
+   first `written` bytes of out, and the start of a value that it finishes into the word `count` of starts. TWINE_OK:
+   the state is the next one, and in out and starts nothing else has changed. On an error state, out and starts are as
+   they were, in every word and byte.
 
    A byte of out is held back for the close and for each item pending, so that an open value can always be finished.
    As many words as out has bytes less one are always enough. After the close the file is the first `written` bytes.
@@ -192,7 +193,7 @@ uint32_t twine_body(const uint8_t *file, size_t len, size_t at, uint64_t out[2])
 /* The state of a writer that has written nothing: five zeros. TWINE_OK. */
 uint32_t twine_writer_new(uint64_t state[TWINE_STATE]);
 
-/* Immediates: the next item where items are pending, and else a value of its own. */
+/* Immediates: the next item if items are pending, and else a value of its own. */
 
 uint32_t twine_write_bool(uint64_t state[TWINE_STATE], bool value,
                           uint8_t *out, size_t out_len, uint32_t *starts, size_t words);
@@ -210,7 +211,7 @@ uint32_t twine_write_float32(uint64_t state[TWINE_STATE], uint32_t bits,
 uint32_t twine_write_float64(uint64_t state[TWINE_STATE], uint64_t bits,
                              uint8_t *out, size_t out_len, uint32_t *starts, size_t words);
 
-/* A text; TWINE_BAD_TEXT of bytes that are none. */
+/* A text; TWINE_BAD_TEXT for bytes that are not text. */
 uint32_t twine_write_text(uint64_t state[TWINE_STATE], const uint8_t *text, size_t len,
                           uint8_t *out, size_t out_len, uint32_t *starts, size_t words);
 
@@ -222,7 +223,7 @@ uint32_t twine_write_bytes(uint64_t state[TWINE_STATE], const uint8_t *bytes, si
 uint32_t twine_write_variant(uint64_t state[TWINE_STATE], uint32_t index,
                              uint8_t *out, size_t out_len, uint32_t *starts, size_t words);
 
-/* A reference, and a pointer, to the finished value that starts at an offset; TWINE_BAD_TARGET where none does. */
+/* A reference, and a pointer, to the finished value that starts at an offset; TWINE_BAD_TARGET if none does. */
 uint32_t twine_write_reference(uint64_t state[TWINE_STATE], size_t at,
                                uint8_t *out, size_t out_len, uint32_t *starts, size_t words);
 
@@ -234,7 +235,7 @@ uint32_t twine_write_pointer(uint64_t state[TWINE_STATE], size_t at,
 uint32_t twine_open_array(uint64_t state[TWINE_STATE], uint64_t items,
                           uint8_t *out, size_t out_len, uint32_t *starts, size_t words);
 
-/* A map, whose items are key and value of each pair by turns. */
+/* A map, whose items are the key and the value of each pair, alternating. */
 uint32_t twine_open_map(uint64_t state[TWINE_STATE], uint64_t pairs,
                         uint8_t *out, size_t out_len, uint32_t *starts, size_t words);
 
@@ -250,8 +251,8 @@ uint32_t twine_open_variantn(uint64_t state[TWINE_STATE], uint32_t index, uint64
                              uint8_t *out, size_t out_len, uint32_t *starts, size_t words);
 
 /* Ends the file. Its entry is the finished value that starts at an offset, or a pointer to it, which is added as
-   one more value where the last byte does not reach back to it. TWINE_OWED while items are pending,
-   TWINE_BAD_TARGET where no finished value starts there. */
+   one more value if the last byte does not reach back to it. TWINE_OWED while items are pending,
+   TWINE_BAD_TARGET if no finished value starts there. */
 uint32_t twine_close(uint64_t state[TWINE_STATE], size_t at,
                      uint8_t *out, size_t out_len, uint32_t *starts, size_t words);
 
