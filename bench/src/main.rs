@@ -1,4 +1,4 @@
-//! Times libtwine.a, through its C interface, and the second program in `../reference`, in one process and by turns, and prints
+//! Times libtwine.a, through its C interface, and the second program in `../reference`, in one process, alternating, and prints
 //! tables in Markdown.
 
 #![deny(unsafe_code)]
@@ -40,7 +40,7 @@ fn main() -> io::Result<()> {
     let waited = 100.0 * page.clock.waited();
     writeln!(
         page.out,
-        "\nAnother process had the processor for {waited:.0} % of the time; where that is more than a few, the figures are too high."
+        "\nAnother process had the processor for {waited:.0} % of the time; if that is more than a few, the figures are too high."
     )
 }
 
@@ -105,8 +105,8 @@ impl<W: Write> Page<W> {
     fn queries(&mut self) -> io::Result<()> {
         self.title(
             "Item and lookup",
-            "In the plan-like file of 256 KB: `item` of each item of each value; `lookup` of each key of each map, and as often of a key that \
-             is in none. In an array of 100,000 integers: `item` of the last, the time for each item that is passed.",
+            "In the plan-like file of 256 KB: `item` for each item of each value; `lookup` for each key of each map, and as often for a key that \
+             is in none.\nIn an array of 100,000 integers: `item` for the last, the time for each item that is passed.",
         )?;
         self.head("queries or items", "one", false)?;
         let plan = plans::make(Shape::Plan, 256 << 10, 1);
@@ -125,7 +125,7 @@ impl<W: Write> Page<W> {
         self.title(
             "Writer",
             "The calls that write a file, the close among them, one by one: a function of the C interface for each, and `Writer::step`, which \
-             the compiler puts into the loop.",
+             the compiler\nputs into the loop.",
         )?;
         self.head("calls", "call", true)?;
         for shape in Shape::ALL {
