@@ -23,8 +23,9 @@ module _ (c : Call) (state out table : List ℕ) (n : ℕ) (state′ out′ tabl
       rw (← e, ← ap (λ (r : Result). r .out) same, ← ap (λ (r : Result). r .table) same)
       (ap (λ (s : Reply). called (s .number) (s .words) out′ table′) k)
 
-pub step-called : (c : Call) (state out table : List ℕ) (r : WriteResult) {out′ table′ state′ : List ℕ} {w : Writer} {n : ℕ} → w ≡ writerOf state
-    → wrote r out′ table′ ≡ step c w out table → reply n state′ ≡ settleC (r .answer) (r .writer) state
+-- `d` is the call as the code makes it, with an argument equal to `c`'s
+pub step-called : (c : Call) (state out table : List ℕ) (r : WriteResult) {out′ table′ state′ : List ℕ} {w : Writer} {d : Call} {n : ℕ}
+    → w ≡ writerOf state → wrote r out′ table′ ≡ step d w out table → d ≡ c → reply n state′ ≡ settleC (r .answer) (r .writer) state
     → called n state′ out′ table′ ≡ stepC c state out table
-step-called c state out table r {out′} {table′} {state′} {w} {n} e f k =
-    by-answer c state out table n state′ out′ table′ (r .answer) (r .writer) (rw e at f) k
+step-called c state out table r {out′} {table′} {state′} {w} {d} {n} e f g k =
+    by-answer c state out table n state′ out′ table′ (r .answer) (r .writer) (rw (e, g) at f) k

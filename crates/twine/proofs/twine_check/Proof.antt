@@ -1,12 +1,21 @@
--- `twine::twine_check` meets its contract.
-use mathlib.Core.Path.{ap, _∙_}
+-- `twine::twine_check` meets its contract: what `check` answers, as C gets it.
+use mathlib.Core.Path.{_≡_, ap, _∙_}
+use mathlib.Core.List.{List}
+use Prim.Native.Nat.{ℕ}
 use borrow.Author.Needs.{needs}
-use Rattle.checker.specs.Check.{Checked}
+use Rattle.checker.specs.Answers.{checkAnswer}
+use Rattle.checker.specs.declared.CheckResult.{CheckResult}
+use Rattle.checker.specs.Check.{Checked, checked, checkOf}
 use Rattle.abi_error.specs.Reply.{Reply}
 use Rattle.abi_answer.specs.Answers.{pairC}
-use Rattle.twine.specs.Tables.{checkReply}
+use Rattle.twine.specs.Tables.{checkReply, checkC}
 use Rattle.twine.proofs.twine_check.Statement.{statement}
 use Rattle.twine.proofs.twine_check.Tie as tie
+
+check-replied : (file : List ℕ) (cap : ℕ) (x : CheckResult) {starts : List ℕ} {r : Reply}
+    → checked (checkAnswer x) starts ≡ checkOf file cap → r ≡ pairC (checkAnswer x) → checkReply r starts ≡ checkC file cap
+check-replied file cap x {starts} e k =
+    ap (λ (r : Reply). checkReply r starts) k ∙ ap (λ (x : Checked). checkReply (pairC (x .answer)) (x .starts)) e
 
 pub twine-check-spec : {M : Type 1} → statement M
 twine-check-spec =
@@ -15,6 +24,4 @@ twine-check-spec =
     (λ c κs. search needs)
     (λ c κs. search needs)
     (λ c. search needs)
-    (λ c. let k = c .before .before .before .before in
-    ap (λ (r : Reply). checkReply r (k .check .last .1 .0)) (c .answer-entry .ensures)
-    ∙ ap (λ (x : Checked). checkReply (pairC (x .answer)) (x .starts)) (k .check .ensures)))
+    (λ c. search check-replied))

@@ -1,12 +1,21 @@
--- `twine::twine_depths` meets its contract.
-use mathlib.Core.Path.{ap, _∙_}
+-- `twine::twine_depths` meets its contract: what `depths` answers, as C gets it.
+use mathlib.Core.Path.{_≡_, ap, _∙_}
+use mathlib.Core.List.{List}
+use Prim.Native.Nat.{ℕ}
 use borrow.Author.Needs.{needs}
-use Rattle.depths.specs.Depths.{Deepened}
+use Rattle.checker.specs.Answers.{checkAnswer}
+use Rattle.checker.specs.declared.CheckResult.{CheckResult}
+use Rattle.depths.specs.Depths.{Deepened, deepened, depthsOf}
 use Rattle.abi_error.specs.Reply.{Reply}
 use Rattle.abi_answer.specs.Answers.{pairC}
-use Rattle.twine.specs.Tables.{depthsReply}
+use Rattle.twine.specs.Tables.{depthsReply, depthsC}
 use Rattle.twine.proofs.twine_depths.Statement.{statement}
 use Rattle.twine.proofs.twine_depths.Tie as tie
+
+depths-replied : (file : List ℕ) (cap room : ℕ) (x : CheckResult) {starts depths : List ℕ} {r : Reply}
+    → deepened (checkAnswer x) starts depths ≡ depthsOf file cap room → r ≡ pairC (checkAnswer x) → depthsReply r starts depths ≡ depthsC file cap room
+depths-replied file cap room x {starts} {depths} e k =
+    ap (λ (r : Reply). depthsReply r starts depths) k ∙ ap (λ (x : Deepened). depthsReply (pairC (x .answer)) (x .starts) (x .depths)) e
 
 pub twine-depths-spec : {M : Type 1} → statement M
 twine-depths-spec =
@@ -16,6 +25,4 @@ twine-depths-spec =
     (λ c κs. search needs)
     (λ c. search needs)
     (λ c. search needs)
-    (λ c. let k = c .before .before .before .before .before .before in
-    ap (λ (r : Reply). depthsReply r (k .depths .last .1 .0) (k .depths .last .1 .1 .0)) (c .answer-entry .ensures)
-    ∙ ap (λ (x : Deepened). depthsReply (pairC (x .answer)) (x .starts) (x .depths)) (k .depths .ensures)))
+    (λ c. search depths-replied))

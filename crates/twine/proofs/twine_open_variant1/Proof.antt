@@ -13,5 +13,4 @@ twine-open-variant1-spec =
     (λ c κs. search needs)
     (λ c. search needs)
     (λ c. search needs)
-    (λ c. let k = c .before .before .before .before .before .before in
-    step-called _ _ _ _ (k .open-variant1 .result) (k .before .before .before .writer-of .ensures) (k .open-variant1 .ensures) (c .settle .ensures)))
+    (λ c. search step-called))

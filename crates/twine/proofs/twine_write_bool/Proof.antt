@@ -14,5 +14,4 @@ twine-write-bool-spec =
     (λ c κs. search needs)
     (λ c. search needs)
     (λ c. search needs)
-    (λ c. let k = c .before .before .before .before .before .before in
-    step-called _ _ _ _ (k .scalar .result) (k .before .before .before .before .writer-of .ensures) (rw (k .before .before .before .truth .ensures) at (k .scalar .ensures)) (c .settle .ensures)))
+    (λ c. search step-called))

@@ -15,7 +15,4 @@ twine-write-integer-spec =
     (λ c κs. search needs)
     (λ c. search needs)
     (λ c. search needs)
-    (λ c. let k = c .before .before .before .before .before .before in
-    let l = k .before .before .before in
-    let s = l .before .before .before .before in
-    step-called _ _ _ _ (k .integer .result) (l .writer-of .ensures) (rw (toZ-ofZ w64 (s .args .value) (s .fits .value)) at (k .integer .ensures)) (c .settle .ensures)))
+    (λ c. search (step-called, toZ-ofZ w64)))

@@ -13,5 +13,4 @@ twine-write-pointer-spec =
     (λ c κs. search needs)
     (λ c. search needs)
     (λ c. search needs)
-    (λ c. let k = c .before .before .before .before .before .before in
-    step-called _ _ _ _ (k .pointer .result) (k .before .before .before .writer-of .ensures) (k .pointer .ensures) (c .settle .ensures)))
+    (λ c. search step-called))
