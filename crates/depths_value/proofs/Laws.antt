@@ -10,6 +10,8 @@ use native.Mathlib.Nat.{not-suc-le-zero}
 use native.Mathlib.Numerals.{add-one}
 use native.Mathlib.Omega.{arith}
 use borrow.Author.Tests.{lt-leb, le-leb}
+use mir.Syntax.{w64}
+use mir.Val.{Fits}
 use lib.Dec.{leb, ltb}
 use lib.ListN.{length, take, getD, set, length-append, List·getD-append, List·getD-eq-default}
 use lib.Seq.{take-suc-set, getD-append-seam}
@@ -47,6 +49,14 @@ end-last ss i len h = sym (List·getD-eq-default ss len (omega arith))
 
 -- ---- turns
 
+-- a token read at an offset ends after it, in the region
+module _ (s : List ℕ) (at : ℕ) (r : ScanResult) (reported : scans.answerOf r ≡ scanAt false s at) (h : Head) (is : r ≡ Ok h) where
+  pub token-less : length s - h .end < length s - at
+  token-less = let i = scan-within false s at h (rw is at reported) in omega (arith, i .numbers, i .body, i .end)
+
+  pub token-inside : h .end ≤ length s
+  token-inside = scan-within false s at h (rw is at reported) .end
+
 abbrev Falls : List ℕ → DepthState → Turn DepthState ℕ → Type 0
 Falls s w (go v) = length s - v .at < length s - w .at
 Falls s w (stop a) = Unit {0}
@@ -63,30 +73,24 @@ module _ (s ss ds : List ℕ) (end : ℕ) where
   falls : (w v : DepthState) → depthTurn s ss ds end w ≡ go v → length s - v .at < length s - w .at
   falls w v e = subst (Falls s w) e (turn-falls w)
 
-  module _ (at deep : ℕ) where
-    pub deepest-end : end ≤ at → deep ≡ deepestFrom s ss ds end (depthState at deep)
+  -- x is the depth that is looked for
+  module _ (at deep x : ℕ) (so : deepestFrom s ss ds end (depthState at deep) ≡ x) where
+    pub deepest-end : end ≤ at → deep ≡ x
     unfolding deepestFrom depthTurn
-    deepest-end h = sym (from-stop (depthTurn s ss ds end) _ _ falls (depthState at deep) _ (rw (le-leb _ _ h)))
+    deepest-end h = sym (from-stop (depthTurn s ss ds end) _ _ falls (depthState at deep) _ (rw (le-leb _ _ h))) ∙ so
 
     module _ (more : at < end) (r : ScanResult) (reported : scans.answerOf r ≡ scanAt false s at) where
-      pub deepest-error : (f : Error) → r ≡ Err f → deep ≡ deepestFrom s ss ds end (depthState at deep)
+      pub deepest-error : (f : Error) → r ≡ Err f → deep ≡ x
       unfolding deepestFrom depthTurn
       deepest-error f is =
           let e : error (errors.faultOf f) ≡ scanAt false s at = rw is at reported in
-          sym (from-stop (depthTurn s ss ds end) _ _ falls (depthState at deep) _ (rw (lt-leb _ _ more, ← e)))
+          sym (from-stop (depthTurn s ss ds end) _ _ falls (depthState at deep) _ (rw (lt-leb _ _ more, ← e))) ∙ so
 
-      pub deepest-token : (h : Head) → r ≡ Ok h → (d m : ℕ) → d ≡ targetDepth ss ds at h → m ≡ max deep d
-          → deepestFrom s ss ds end (depthState (h .end) m) ≡ deepestFrom s ss ds end (depthState at deep)
+      pub deepest-token : (h : Head) → r ≡ Ok h → (d m : ℕ) → d ≡ targetDepth ss ds at h → m ≡ max deep d → deepestFrom s ss ds end (depthState (h .end) m) ≡ x
       unfolding deepestFrom depthTurn
       deepest-token h is d m ed em =
           let e : ok h ≡ scanAt false s at = rw is at reported in
-          sym (from-go (depthTurn s ss ds end) _ _ falls (depthState at deep) (depthState (h .end) m) (rw (lt-leb _ _ more, ← e, em, ed)))
-
-      pub deepest-less : (h : Head) → r ≡ Ok h → length s - h .end < length s - at
-      deepest-less h is = let i = scan-within false s at h (rw is at reported) in omega (arith, i .numbers, i .body, i .end)
-
-      pub deepest-inside : (h : Head) → r ≡ Ok h → h .end ≤ length s
-      deepest-inside h is = scan-within false s at h (rw is at reported) .end
+          sym (from-go (depthTurn s ss ds end) _ _ falls (depthState at deep) (depthState (h .end) m) (rw (lt-leb _ _ more, ← e, em, ed))) ∙ so
 
 -- ---- no depth is above its value's number and one
 
@@ -134,12 +138,19 @@ module _ (s ss : List ℕ) where
       (λ past. rw (List·getD-eq-default (ds ++ (d ∷ [])) 0 {n = j} (rw length-append (omega (arith, length-depths k)))) (omega arith))
       (λ le. let e : j ≡ length ds = omega (arith, length-depths k) in rw (e, getD-append-seam ds d [] 0) (depthAt-small ds k (depths-le k))))
 
-  pub depthAt-fits : (ds : List ℕ) (i : ℕ) → Starts s ss → length s ≤ LIMIT → i < length ss → ds ≡ depthsTo s ss i → depthAt s ss ds i ≤ LIMIT
-  depthAt-fits ds i st short h e = omega (arith, depthAt-small ds i (rw e (depths-le i)), rising-ge ss (st .rising) i h, st .inside i h)
+  pub start-le : (i : ℕ) → Starts s ss → i < length ss → getD ss i 0 ≤ length s
+  start-le i st h = omega (arith, st .inside i h)
 
-  pub depthAt-is : (ds : List ℕ) (i end r : ℕ) → r ≡ deepestIn s ss ds end (getD ss i 0) → end ≡ getD ss (suc i) (length s) → r + 1 ≡ depthAt s ss ds i
-  unfolding depthAt
-  depthAt-is ds i end r e is = add-one r ∙ ap suc (rw is at e)
+  pub start-fits : (i : ℕ) → Starts s ss → i < length ss → length s ≤ LIMIT → Fits w64 (getD ss i 0)
+  start-fits i st h short = omega (arith, st .inside i h)
+
+  module _ (ds : List ℕ) (i end r : ℕ) (e : r ≡ deepestIn s ss ds end (getD ss i 0)) (is : end ≡ getD ss (suc i) (length s)) where
+    pub depthAt-is : r + 1 ≡ depthAt s ss ds i
+    unfolding depthAt
+    depthAt-is = add-one r ∙ ap suc (rw is at e)
+
+    pub deepest-lt : Starts s ss → length s ≤ LIMIT → i < length ss → ds ≡ depthsTo s ss i → r < LIMIT
+    deepest-lt st short h before = omega (arith, depthAt-is, depthAt-small ds i (rw before (depths-le i)), rising-ge ss (st .rising) i h, st .inside i h)
 
 -- one depth more
 pub depths-more : (s ss t : List ℕ) (i d : ℕ) → i < length t → take i t ≡ depthsTo s ss i → d ≡ depthAt s ss (take i t) i

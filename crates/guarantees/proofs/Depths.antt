@@ -92,7 +92,7 @@ module _ (ss ds : List ℕ) where
         → deepestFrom (p ++ (emit t ++ rest)) ss ds end (depthState (length p + length (emit t)) (max deep (aim ss ds (length p) t)))
         ≡ deepestFrom (p ++ (emit t ++ rest)) ss ds end (depthState (length p) deep)
     token-deep inner done p t rest deep f r lt =
-        deepest-token (p ++ (emit t ++ rest)) ss ds end (length p) deep lt (Ok (headAt (length p) t)) (by-cases inner f) (headAt (length p) t) refl _ _
+        deepest-token (p ++ (emit t ++ rest)) ss ds end (length p) deep _ refl lt (Ok (headAt (length p) t)) (by-cases inner f) (headAt (length p) t) refl _ _
         (sym (target-depth-is done (length p) t r)) refl
       where
         by-cases : (inner : Bool) → Fits inner t rest → ok (headAt (length p) t) ≡ scanAt false (p ++ (emit t ++ rest)) (length p)
@@ -103,7 +103,7 @@ module _ (ss ds : List ℕ) where
     items-deep : (done p : List ℕ) (ts : List Token) (rest : List ℕ) (deep : ℕ) → Each Item ts → HasTargets done (length p) ts → end ≡ length p + length (bytes ts)
         → deepestFrom (p ++ (bytes ts ++ rest)) ss ds end (depthState (length p) deep) ≡ max deep (deepest ds (map (λ x. rank x ss) (targets (length p) ts)))
     unfolding bytes targets deepest
-    items-deep done p [] rest deep is a e = sym (deepest-end (p ++ rest) ss ds end (length p) deep (omega arith)) ∙ omega arith
+    items-deep done p [] rest deep is a e = sym (deepest-end (p ++ rest) ss ds end (length p) deep _ refl (omega arith)) ∙ omega arith
     items-deep done p (t ∷ ts) rest deep is a e =
         let long = length-append p (emit t) in
         let sum = length-append (emit t) (bytes ts) in
