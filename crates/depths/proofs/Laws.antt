@@ -1,20 +1,23 @@
 -- The ways through depths.
 --
--- In order: starts that check found; the tables that are left.
+-- In order: starts below a bound; starts that check found; the tables that are left.
 use mathlib.Core.Path.{_≡_, refl, sym, ap, _∙_}
 use Prim.Native.Nat.{ℕ, _-_, _≤_, _<_}
 use mathlib.Core.List.{List, []}
 use native.Mathlib.Omega.{arith}
 use borrow.Author.Tests.{lt-ltb, le-ltb, eqb-false}
 use borrow.Rule.Slice.PartMut.{putMid}
+use mir.Syntax.{w64}
+use mir.Val.{Fits}
 use lib.Dec.{ltb, eqb}
-use lib.ListN.{length, take, drop, getD, replicate, length-replicate, length-append}
+use lib.ListN.{length, take, drop, getD, replicate, length-take, length-replicate, length-append}
 use lib.Seq.{take-append-seam, getD-take, length-take-le}
 use Rattle.prelude.specs.Answer.{Answer, ok, error, bind}
 use Rattle.prelude.proofs.Tests.{pick-elim, facts}
 use Rattle.error.specs.Error as errors
 use Rattle.error.specs.Error.{Fault, fault, LIMIT, FULL}
 use Rattle.error.specs.declared.Error.{Error}
+use Rattle.table.specs.Blocks.{Below}
 use Rattle.checker_value.specs.Walk.{between, startsFrom}
 use Rattle.checker_value.proofs.Walks.{come}
 use Rattle.depths_value.specs.Depth.{depthsTo}
@@ -25,6 +28,9 @@ use Rattle.checker.specs.Check.{entryAt, checkIn, filled, Checked, checked, lis
 use Rattle.checker.specs.Answers.{checkAnswer}
 use Rattle.checker.proofs.Checks.{zeros-after}
 use Rattle.depths.specs.Depths.{deepened, deepen, depthsOf}
+
+pub starts-below : (s ss : List ℕ) (b : ℕ) → Starts s ss → length s ≤ b → Below b ss
+starts-below s ss b st h k i = omega (arith, st .inside k i)
 
 -- ---- what check found
 
@@ -55,7 +61,8 @@ module _ (file : List ℕ) (cap : ℕ) where
           → Finds (bind a (λ done. bind (entryAt (length file - 1) (getD file (length file - 1) 0) done) (λ e. ok (done, e))))
       by-cases some short (ok ss) e =
           let c = come (take (length file - 1) file) cap ss (sym e) in
-          by-entry ss (record { some = some; short = short; fits = c .1; starts = record { rising = c .0; inside = c .2 } }) (entryAt (length file - 1) (getD file (length file - 1) 0) ss)
+          by-entry ss (record { some = some; short = short; fits = c .1; starts = record { rising = c .0; inside = c .2 } })
+          (entryAt (length file - 1) (getD file (length file - 1) 0) ss)
       by-cases some short (error f) e = tt
 
 -- an answer is no error
@@ -63,37 +70,81 @@ ok-error : {X A : Type 0} {a : A} {f : Fault} → _≡_ {A = Answer Fault A} (ok
 ok-error e = let z : _≡_ {A = ℕ} 0 1 = cc in absurd (omega arith)
 
 -- a file that check accepted, with the table t that it left
-pub record Found (file t : List ℕ) (cap count entry : ℕ) : Type 0 where
-  pub some : 1 ≤ length file
-  pub short : length file ≤ LIMIT
-  pub long : length t ≡ cap
-  pub fits : count ≤ length t
-  pub found : checkIn file cap ≡ ok (take count t, entry)
-  pub table : t ≡ filled cap (take count t)
-  pub starts : Starts (take (length file - 1) file) (take count t)
+record Found (file t : List ℕ) (cap count entry : ℕ) : Type 0 where
+  some : 1 ≤ length file
+  short : length file ≤ LIMIT
+  long : length t ≡ cap
+  fits : count ≤ length t
+  found : checkIn file cap ≡ ok (take count t, entry)
+  table : t ≡ filled cap (take count t)
+  starts : Starts (take (length file - 1) file) (take count t)
 
 module _ (file t : List ℕ) (cap : ℕ) (r : CheckResult) (left : checked (checkAnswer r) t ≡ checkOf file cap) where
-  pub accepted : (count entry : ℕ) → r ≡ checks-are.Ok count entry → Found file t cap count entry
-  unfolding checkOf
-  accepted count entry is = by-cases (checkIn file cap) refl (finds file cap) (rw is at left)
-    where
-      by-cases : (a : Answer Fault ((List ℕ) × ℕ)) → checkIn file cap ≡ a → Finds file cap a → checked (ok (count, entry)) t ≡ listed cap a → Found file t cap count entry
-      by-cases (ok p) e i q =
-          let reported : _≡_ {A = Answer Fault (ℕ × ℕ)} (ok (count, entry)) (ok (length (p .0), p .1)) = ap (λ (x : Checked). x .answer) q in
-          let both : _≡_ {A = ℕ × ℕ} (count, entry) (length (p .0), p .1) = cc in
-          let many : count ≡ length (p .0) = ap (λ (x : ℕ × ℕ). x .0) both in
-          let words : t ≡ filled cap (p .0) = ap (λ (x : Checked). x .starts) q in
-          let front : take count t ≡ p .0 = rw (many, words) (take-append-seam (p .0) _) in
-          record {
-            some = i .some;
-            short = i .short;
-            long = rw (words, length-append, length-replicate {A = ℕ} (cap - length (p .0)) 0) (omega (arith, i .fits));
-            fits = rw (many, words, length-append) (omega arith);
-            found = rw (front, ap (λ (x : ℕ × ℕ). x .1) both) e;
-            table = rw front words;
-            starts = rw front (i .starts);
-          }
-      by-cases (error f) e i q = ok-error (ap (λ (x : Checked). x .answer) q)
+  module _ (count entry : ℕ) (is : r ≡ checks-are.Ok count entry) where
+    accepted : Found file t cap count entry
+    unfolding checkOf
+    accepted = by-cases (checkIn file cap) refl (finds file cap) (rw is at left)
+      where
+        by-cases : (a : Answer Fault ((List ℕ) × ℕ)) → checkIn file cap ≡ a → Finds file cap a → checked (ok (count, entry)) t ≡ listed cap a
+            → Found file t cap count entry
+        by-cases (ok p) e i q =
+            let reported : _≡_ {A = Answer Fault (ℕ × ℕ)} (ok (count, entry)) (ok (length (p .0), p .1)) = ap (λ (x : Checked). x .answer) q in
+            let both : _≡_ {A = ℕ × ℕ} (count, entry) (length (p .0), p .1) = cc in
+            let many : count ≡ length (p .0) = ap (λ (x : ℕ × ℕ). x .0) both in
+            let words : t ≡ filled cap (p .0) = ap (λ (x : Checked). x .starts) q in
+            let front : take count t ≡ p .0 = rw (many, words) (take-append-seam (p .0) _) in
+            record {
+              some = i .some;
+              short = i .short;
+              long = rw (words, length-append, length-replicate {A = ℕ} (cap - length (p .0)) 0) (omega (arith, i .fits));
+              fits = rw (many, words, length-append) (omega arith);
+              found = rw (front, ap (λ (x : ℕ × ℕ). x .1) both) e;
+              table = rw front words;
+              starts = rw front (i .starts);
+            }
+        by-cases (error f) e i q = ok-error (ap (λ (x : Checked). x .answer) q)
+
+    pub accepted-some : 1 ≤ length file
+    accepted-some = accepted .some
+
+    pub accepted-fits : count ≤ length t
+    accepted-fits = accepted .fits
+
+    pub region-le : length (take (length file - 1) file) ≤ LIMIT
+    region-le = rw length-take (omega (arith, accepted .short))
+
+    pub accepted-room : (room : ℕ) → room < count → room < length t
+    accepted-room room h = omega (arith, accepted .fits)
+
+    pub place-fits : (room : ℕ) → room < count → Fits w64 (getD t room 0)
+    place-fits room h =
+        let i = accepted .starts .inside room (rw (length-take-le count t (accepted .fits)) h) in
+        omega (arith, rw (getD-take count t room 0 h) at i, region-le)
+
+    pub count-le : (room : ℕ) → count ≤ room → length (take count t) ≤ room
+    count-le room h = rw (length-take-le count t (accepted .fits)) h
+
+    pub accepted-starts : Starts (take (length file - 1) file) (take count t)
+    accepted-starts = accepted .starts
+
+    module _ (room : ℕ) where
+      pub depths-full : room < count → (y z : List ℕ) → y ≡ replicate (length t) 0 → z ≡ replicate room 0
+          → deepened (error (fault FULL (getD t room 0))) y z ≡ depthsOf file cap room
+      unfolding depthsOf
+      depths-full h y z ey ez =
+          let f = accepted in
+          rw (f .found, length-take-le count t (f .fits), lt-ltb room count h, ey, ez, f .long, getD-take count t room 0 h)
+
+      pub depths-answer : count ≤ room → (d : List ℕ) → length d ≡ room
+          → take (length (take count t)) d ≡ depthsTo (take (length file - 1) file) (take count t) (length (take count t))
+          → (z : List ℕ) → z ≡ replicate (length (take (length d - count) (drop count d))) 0
+          → deepened (ok (count, entry)) t (putMid count (length d - count) d z) ≡ depthsOf file cap room
+      unfolding depthsOf
+      depths-answer h d long reported z ez =
+          let f = accepted in
+          let e : take count d ≡ depthsTo (take (length file - 1) file) (take count t) count = rw (length-take-le count t (f .fits)) at reported in
+          ap (λ x. deepened (ok (count, entry)) x (putMid count (length d - count) d z)) (f .table)
+          ∙ rw (f .found, length-take-le count t (f .fits), le-ltb room count h, ez, zeros-after d count (omega arith), e, long)
 
   pub depths-refused : (f : Error) → r ≡ checks-are.Err f → (room : ℕ) (z : List ℕ) → z ≡ replicate room 0
       → deepened (error (errors.faultOf f)) t z ≡ depthsOf file cap room
@@ -106,20 +157,3 @@ module _ (file t : List ℕ) (cap : ℕ) (r : CheckResult) (left : checked (chec
       by-cases (error g) q =
           let words : t ≡ replicate cap 0 = ap (λ (x : Checked). x .starts) q in
           rw (zeros, words) (ap (λ (x : Checked). deepened (x .answer) (replicate cap 0) (replicate room 0)) q)
-
-module _ (file t : List ℕ) (cap room count entry : ℕ) (f : Found file t cap count entry) where
-  pub depths-full : room < count → (y z : List ℕ) → y ≡ replicate (length t) 0 → z ≡ replicate room 0
-      → deepened (error (fault FULL (getD t room 0))) y z ≡ depthsOf file cap room
-  unfolding depthsOf
-  depths-full h y z ey ez =
-      rw (f .found, length-take-le count t (f .fits), lt-ltb room count h, ey, ez, f .long, getD-take count t room 0 h)
-
-  pub depths-answer : count ≤ room → (d : List ℕ) → length d ≡ room
-      → take (length (take count t)) d ≡ depthsTo (take (length file - 1) file) (take count t) (length (take count t))
-      → (z : List ℕ) → z ≡ replicate (length (take (length d - count) (drop count d))) 0
-      → deepened (ok (count, entry)) t (putMid count (length d - count) d z) ≡ depthsOf file cap room
-  unfolding depthsOf
-  depths-answer h d long reported z ez =
-      let e : take count d ≡ depthsTo (take (length file - 1) file) (take count t) count = rw (length-take-le count t (f .fits)) at reported in
-      ap (λ x. deepened (ok (count, entry)) x (putMid count (length d - count) d z)) (f .table)
-      ∙ rw (f .found, length-take-le count t (f .fits), le-ltb room count h, ez, zeros-after d count (omega arith), e, long)

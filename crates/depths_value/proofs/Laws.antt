@@ -152,11 +152,11 @@ module _ (s ss : List ℕ) where
     pub deepest-lt : Starts s ss → length s ≤ LIMIT → i < length ss → ds ≡ depthsTo s ss i → r < LIMIT
     deepest-lt st short h before = omega (arith, depthAt-is, depthAt-small ds i (rw before (depths-le i)), rising-ge ss (st .rising) i h, st .inside i h)
 
--- one depth more
-pub depths-more : (s ss t : List ℕ) (i d : ℕ) → i < length t → take i t ≡ depthsTo s ss i → d ≡ depthAt s ss (take i t) i
+-- one depth more, and all, in a table with n words
+pub depths-more : (s ss t : List ℕ) (n i d : ℕ) → i < length ss → length ss ≤ n → length t ≡ n → take i t ≡ depthsTo s ss i → d ≡ depthAt s ss (take i t) i
     → take (i + 1) (set t i d) ≡ depthsTo s ss (i + 1)
 unfolding depthsTo
-depths-more s ss t i d h e is = rw (add-one i, take-suc-set t i d h, is, e)
+depths-more s ss t n i d more room long e is = rw (add-one i, take-suc-set t i d (omega arith), is, e)
 
-pub depths-all : (s ss t : List ℕ) (i : ℕ) → take i t ≡ depthsTo s ss i → i ≡ length ss → take (length ss) t ≡ depthsTo s ss (length ss)
-depths-all s ss t i e same = rw (← same) e
+pub depths-all : (s ss t : List ℕ) (i : ℕ) → take i t ≡ depthsTo s ss i → i ≤ length ss → length ss ≤ i → take (length ss) t ≡ depthsTo s ss (length ss)
+depths-all s ss t i e most least = let same : length ss ≡ i = omega arith in rw same e
