@@ -442,6 +442,10 @@ static void states(void) {
 
 /* ---- names */
 
+static void version(void) {
+    EXPECT(TWINE_ABI_NAME(TWINE_ABI)(), TWINE_ABI);
+}
+
 static void names(void) {
     static const char *const want[] = {
         "",           "EMPTY", "TOO_LONG",  "TRUNC",   "RESERVED", "OVERLONG",   "RANGE",   "NESTED", "BAD_TEXT",
@@ -459,6 +463,7 @@ static void names(void) {
 }
 
 int main(void) {
+    version();
     samples();
     short_tables();
     queries();

@@ -16,7 +16,8 @@
  *   - memory that a call writes (starts, depths, out, state, name) overlaps no other that the call is handed;
  *   - nobody else writes any of it during the call.
  *
- * Each function of the archive answers an error's number, TWINE_OK for none.
+ * Each function of the archive answers an error's number, TWINE_OK for none; only the one that returns its version
+ * does not.
  */
 #ifndef TWINE_H
 #define TWINE_H
@@ -28,6 +29,33 @@
 #ifdef __cplusplus
 extern "C" {
 #endif
+
+/* The version of this interface: 1 more with each change of what a caller hands over or gets, as a parameter or the
+   words of a state. The archive has a function that is named by its version, and whatever includes this header
+   refers to it: compiled against another version, it does not link. gcc and clang keep the reference, also with
+   --gc-sections (before gcc 11 and clang 13 only without); another compiler may drop it. */
+#define TWINE_ABI 1
+
+#define TWINE_ABI_PASTE(version) twine_abi_##version
+#define TWINE_ABI_NAME(version) TWINE_ABI_PASTE(version)
+
+/* twine_abi_1: the version of the archive, TWINE_ABI. */
+uint32_t TWINE_ABI_NAME(TWINE_ABI)(void);
+
+#ifdef __has_attribute
+#if __has_attribute(retain)
+#define TWINE_ABI_KEEP __attribute__((used, retain))
+#endif
+#endif
+#ifndef TWINE_ABI_KEEP
+#ifdef __GNUC__
+#define TWINE_ABI_KEEP __attribute__((used))
+#else
+#define TWINE_ABI_KEEP
+#endif
+#endif
+
+TWINE_ABI_KEEP static uint32_t (*const twine_abi_reference)(void) = TWINE_ABI_NAME(TWINE_ABI);
 
 /* The most bytes that a file may have. */
 #define TWINE_LIMIT 16777216

@@ -15,6 +15,8 @@ pub(crate) type State = [u64; 5];
 
 #[rustfmt::skip]
 extern "C" {
+    fn twine_abi_1() -> u32;
+
     #[cfg(test)]
     fn twine_spell_error(number: u32, name: *mut u8) -> u32;
 
@@ -56,9 +58,16 @@ extern "C" {
 }
 
 /// The error of a number, or none for 0.
+///
+/// Every answer comes by here, so that whatever calls the archive also refers to the function that is named by the version of its
+/// interface: an archive of another version does not link. Unlike a `#[used]` static, code that is called is kept by every linker.
 fn kind(number: u32) -> Option<ErrorKind> {
     let kind = ErrorKind::from_number(number);
-    assert!(kind.is_some() || number == 0, "libtwine.a answers {number}, which no error has");
+    if kind.is_none() && number != 0 {
+        // SAFETY: it takes nothing
+        let version = unsafe { twine_abi_1() };
+        panic!("libtwine.a of version {version} answers {number}, which no error has");
+    }
     kind
 }
 
@@ -158,7 +167,7 @@ pub(crate) fn new_state() -> State {
     let mut state = [0; 5];
     // SAFETY: slices; the state has TWINE_STATE words
     let number = unsafe { twine_writer_new(state.as_mut_ptr()) };
-    assert_eq!(number, 0, "libtwine.a refuses a new writer");
+    assert_eq!(kind(number), None, "libtwine.a refuses a new writer");
     state
 }
 

@@ -4,6 +4,13 @@ ghost use mathlib.Core.Path.{_≡_};
 ghost use Rattle.error.specs.Error as errors;
 ghost use Rattle.abi_error.specs.Reply.{nameC, reply, errorC};
 
+// The version of the C interface. `twine::twine_abi_1` answers it, and has it in its name: a change of a shape raises both.
+pub fn abi() -> u32
+    ensures { λ r. ⌜ r ≡ 1 ⌝ }
+{
+    1
+}
+
 // The names of the errors by number, with zeros behind them; no error has the number 0.
 const NAMES: [[u8; 11]; 19] = [
     *b"\0\0\0\0\0\0\0\0\0\0\0",

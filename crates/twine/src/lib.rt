@@ -15,6 +15,16 @@ ghost use Rattle.twine.specs.Tables.{checkReply, checkC, depthsReply, de
 ghost use Rattle.abi_answer.specs.Read.{readC};
 ghost use Rattle.abi_writer.specs.Calls.{wordsOf, truth, called, stepC};
 
+// ---- version
+
+// The version of this interface, also in the name: what was compiled against another version refers to another name, and does not link.
+#[no_mangle]
+pub extern "C" fn twine_abi_1() -> u32
+    ensures { λ r. ⌜ r ≡ 1 ⌝ }
+{
+    abi_error::abi()
+}
+
 // ---- names
 
 // `error::name`: the name, and zeros behind it; zeros alone for a number that no error has.

@@ -49,12 +49,18 @@ fn rust_type(parameter: &str) -> String {
 
 fn of_header() -> Functions {
     let header = header();
-    let declared = header.split(';').filter(|statement| statement.contains('(') && statement.contains(" twine_"));
+    // the version's function by its name
+    let version = between(&header, "#define TWINE_ABI ", "\n");
+    let text = header.lines().filter(|line| !line.starts_with('#')).collect::<Vec<_>>().join("\n");
+    let text = text.replace("TWINE_ABI_NAME(TWINE_ABI)", &format!("twine_abi_{version}"));
+    let declared = text.split(';').filter(|statement| statement.contains('(') && statement.contains(" twine_"));
     declared
+        .filter(|statement| !statement.contains("static "))
         .map(|statement| {
             let (head, parameters) = statement.split_once('(').expect("parameters");
             let (before, name) = head.rsplit_once(' ').expect("a name");
-            let types = parameters.trim_end_matches(')').split(',').map(|parameter| rust_type(parameter.trim()));
+            let parameters = parameters.trim_end_matches(')').split(',').filter(|parameter| *parameter != "void");
+            let types = parameters.map(|parameter| rust_type(parameter.trim()));
             (name.to_string(), (types.collect(), before.ends_with("uint32_t")))
         })
         .collect()
