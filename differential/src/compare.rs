@@ -1,7 +1,7 @@
 //! Asks both programs the same, and compares all that they answer and leave in what they are lent.
 
 use reference::query::{Body, Followed};
-use reference::{Call, Checked, Error, Value, Writer};
+use reference::{Call, Checked, Error, ErrorKind, Value, Writer};
 
 use crate::difference::{self, Difference};
 use crate::ffi::{NAME, STATE};
@@ -16,7 +16,7 @@ const JUNK: u32 = 0xdead_beef;
 const JUNK_OUT: u64 = 0x5a5a_5a5a_a5a5_a5a5;
 
 /// The numbers of answers, OK among them.
-pub const ANSWERS: usize = 19;
+pub const ANSWERS: usize = 1 + ErrorKind::ALL.len();
 
 /// An answer's number and its out array.
 type Told<const N: usize> = (u32, [u64; N]);
@@ -188,7 +188,7 @@ impl<P: Product> Comparer<P> {
         name.fill(NAME, 0x7f);
         self.product.error_name(number, array(name.slice_mut()));
         let mut expected = [0; NAME];
-        if (1..=18).contains(&number) {
+        if (1..ANSWERS as u32).contains(&number) {
             let letters = difference::name(number).as_bytes();
             expected[..letters.len()].copy_from_slice(letters);
         }

@@ -86,9 +86,10 @@ mod tests {
 
     #[test]
     fn names() {
+        let past = ErrorKind::ALL.len() as u32 + 1;
         assert_eq!(
-            ["OK", "EMPTY", "BAD_STATE", "no error's number"],
-            [0, 1, 18, 19].map(name)
+            ["OK", "EMPTY", "BAD_TARGET", "no error's number"],
+            [0, 1, 9, past].map(name)
         );
     }
 

@@ -139,7 +139,7 @@ mod tests {
     use super::*;
 
     #[test]
-    fn numbers_run_from_one_to_eighteen() {
+    fn numbers_run_from_one() {
         for (index, kind) in ErrorKind::ALL.into_iter().enumerate() {
             assert_eq!(usize::from(kind.number()), index + 1);
         }

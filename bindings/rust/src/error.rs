@@ -45,7 +45,7 @@ pub enum ErrorKind {
 }
 
 impl ErrorKind {
-    /// All eighteen, in the order of their numbers.
+    /// All of them, in the order of their numbers, from 1.
     pub const ALL: [ErrorKind; 18] = [
         ErrorKind::Empty,
         ErrorKind::TooLong,
@@ -67,7 +67,7 @@ impl ErrorKind {
         ErrorKind::BadState,
     ];
 
-    /// The number, from 1 to 18.
+    /// The number, from 1.
     pub const fn number(self) -> u32 {
         self as u32
     }
@@ -161,7 +161,7 @@ mod tests {
             assert_eq!(kind.name(), named(kind.number()));
             assert_eq!(kind.to_string(), kind.name());
         }
-        for number in [0, 19, u32::MAX] {
+        for number in [0, ErrorKind::ALL.len() as u32 + 1, u32::MAX] {
             assert_eq!(ErrorKind::from_number(number), None);
             assert_eq!(named(number), "");
         }

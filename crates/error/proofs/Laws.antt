@@ -15,8 +15,8 @@ length-name : (k : ErrorKind) → length (nameOf k) ≤ 10
 unfolding nameOf
 length-name k = leb-true _ _ (every-getD (λ s. leb (length s) 10) names (numberOf k) [] refl refl)
 
--- a name has its place in the code's ten bytes
+-- a name has its place in the code's eleven bytes
 pub name-within : (k : ErrorKind) {r : ErrorName} → r ≡ padded (nameOf k) → r .len ≤ length (r .text)
 unfolding padded
 name-within k e =
-    rw (e, length-take, length-append) (omega (arith, length-name k, length-replicate {A = ℕ} 10 32))
+    rw (e, length-take, length-append) (omega (arith, length-name k, length-replicate {A = ℕ} 11 0))

@@ -4,7 +4,7 @@
 --   numberOf k       the number of the code's error k
 --   names            their names in the paper's spelling, as bytes, by number; entry 0 is empty, since no error has the number 0
 --   nameOf k         the name of the code's error k
---   padded s         the name s as the code tells it, filled up with spaces
+--   padded s         the name s as the code tells it, filled up with zeros
 --   Fault            an error as the paper tells it: its number and its place
 --   fault f p        the error f at the place p
 --   faultOf e        the code's error e as the paper tells it
@@ -131,4 +131,4 @@ unfoldable pub nameOf : ErrorKind → List ℕ
 nameOf k = getD names (numberOf k) []
 
 unfoldable pub padded : List ℕ → ErrorName
-padded s = record { text = take 10 (s ++ replicate 10 32); len = length s }
+padded s = record { text = take 11 (s ++ replicate 11 0); len = length s }

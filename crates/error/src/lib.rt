@@ -1,7 +1,8 @@
-// The eighteen errors of document 01 ("Numbers of refusal"): their numbers and their names.
+// The errors of document 01 ("Numbers of refusal"): their numbers and their names.
 ghost use mathlib.Core.Path.{_≡_};
-ghost use Prim.Native.Nat.{_<_};
-ghost use Rattle.error.specs.Error.{numberOf, nameOf, padded};
+ghost use lib.ListN.{getD};
+ghost use mathlib.Core.List.{[]};
+ghost use Rattle.error.specs.Error.{numberOf, nameOf, names, padded};
 
 // The most bytes that a file has.
 pub const LIMIT: usize = 16777216;
@@ -53,15 +54,15 @@ pub struct Error {
     pub place: usize,
 }
 
-// A name in the paper's spelling: the first `len` bytes of `text`, and then spaces.
+// A name in the paper's spelling: the first `len` bytes of `text`, and then zeros, one at least, as C wants it.
 pub struct ErrorName {
-    pub text: [u8; 10],
+    pub text: [u8; 11],
     pub len: usize,
 }
 
-// The number of an error, 1 to 18.
+// The number of an error.
 pub fn number(kind: ErrorKind) -> u32
-    ensures { λ r. ⌜ (r ≡ numberOf kind) × (r < 19) ⌝ }
+    ensures { λ r. ⌜ r ≡ numberOf kind ⌝ }
 {
     match kind {
         ErrorKind::Empty => 1,
@@ -85,90 +86,103 @@ pub fn number(kind: ErrorKind) -> u32
     }
 }
 
+// How many names the table has.
+const COUNT: usize = 19;
+
 // The names by number; no error has the number 0.
-const NAMES: [ErrorName; 19] = [
+const NAMES: [ErrorName; COUNT] = [
     ErrorName {
-        text: *b"          ",
+        text: *b"\0\0\0\0\0\0\0\0\0\0\0",
         len: 0,
     },
     ErrorName {
-        text: *b"EMPTY     ",
+        text: *b"EMPTY\0\0\0\0\0\0",
         len: 5,
     },
     ErrorName {
-        text: *b"TOO_LONG  ",
+        text: *b"TOO_LONG\0\0\0",
         len: 8,
     },
     ErrorName {
-        text: *b"TRUNC     ",
+        text: *b"TRUNC\0\0\0\0\0\0",
         len: 5,
     },
     ErrorName {
-        text: *b"RESERVED  ",
+        text: *b"RESERVED\0\0\0",
         len: 8,
     },
     ErrorName {
-        text: *b"OVERLONG  ",
+        text: *b"OVERLONG\0\0\0",
         len: 8,
     },
     ErrorName {
-        text: *b"RANGE     ",
+        text: *b"RANGE\0\0\0\0\0\0",
         len: 5,
     },
     ErrorName {
-        text: *b"NESTED    ",
+        text: *b"NESTED\0\0\0\0\0",
         len: 6,
     },
     ErrorName {
-        text: *b"BAD_TEXT  ",
+        text: *b"BAD_TEXT\0\0\0",
         len: 8,
     },
     ErrorName {
-        text: *b"BAD_TARGET",
+        text: *b"BAD_TARGET\0",
         len: 10,
     },
     ErrorName {
-        text: *b"FULL      ",
+        text: *b"FULL\0\0\0\0\0\0\0",
         len: 4,
     },
     ErrorName {
-        text: *b"BAD_ENTRY ",
+        text: *b"BAD_ENTRY\0\0",
         len: 9,
     },
     ErrorName {
-        text: *b"OUTSIDE   ",
+        text: *b"OUTSIDE\0\0\0\0",
         len: 7,
     },
     ErrorName {
-        text: *b"NO_ITEM   ",
+        text: *b"NO_ITEM\0\0\0\0",
         len: 7,
     },
     ErrorName {
-        text: *b"WRONG_KIND",
+        text: *b"WRONG_KIND\0",
         len: 10,
     },
     ErrorName {
-        text: *b"NO_ROOM   ",
+        text: *b"NO_ROOM\0\0\0\0",
         len: 7,
     },
     ErrorName {
-        text: *b"OWED      ",
+        text: *b"OWED\0\0\0\0\0\0\0",
         len: 4,
     },
     ErrorName {
-        text: *b"CLOSED    ",
+        text: *b"CLOSED\0\0\0\0\0",
         len: 6,
     },
     ErrorName {
-        text: *b"BAD_STATE ",
+        text: *b"BAD_STATE\0\0",
         len: 9,
     },
 ];
+
+// The name of the error that has a number; an empty one where none has it.
+pub fn name_of(number: u32) -> ErrorName
+    ensures { λ r. ⌜ r ≡ padded (getD names number []) ⌝ }
+{
+    let i = number as usize;
+    if i < COUNT {
+        return NAMES[i];
+    }
+    NAMES[0]
+}
 
 // The name of an error, as `BAD_TARGET`.
 pub fn name(kind: ErrorKind) -> ErrorName
     ensures { λ r. ⌜ r ≡ padded (nameOf kind) ⌝ }
 {
-    let i = number(kind) as usize;
-    NAMES[i]
+    name_of(number(kind))
 }

@@ -27,7 +27,7 @@ pub extern "C" fn twine_abi_1() -> u32
 
 // ---- names
 
-// `error::name`: the name, and zeros behind it; zeros alone for a number that no error has.
+// `error::name_of`: the name, and zeros behind it; zeros alone for a number that no error has.
 #[no_mangle]
 pub extern "C" fn twine_spell_error(number: u32, name: &mut [u8; 11]) -> u32
     ensures { λ r. ⌜ reply r (now (name .exit)) ≡ reply 0 (nameC number) ⌝ }

@@ -96,7 +96,7 @@ fn numbers() {
 
     let listed = |from, prefix| between(&header, from, "};").matches(prefix).count();
     for kind in ErrorKind::ALL {
-        let end = if kind == ErrorKind::BadState { "\n" } else { "," };
+        let end = if Some(&kind) == ErrorKind::ALL.last() { "\n" } else { "," };
         defined(format!(" TWINE_{} = {}{end}", kind.name(), kind.number()));
     }
     assert_eq!(listed("enum twine_error {", " TWINE_"), 1 + ErrorKind::ALL.len());

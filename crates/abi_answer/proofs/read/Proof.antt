@@ -19,4 +19,4 @@ read-spec =
     (λ c. let t = c .before .before .before .before in
     rw (c .before .before .row-of .ensures) (ap (headC _ _) (rw (t .h .given .1) at (t .before .before .peek .ensures))))
     (λ c. let t = c .before .before .before in
-    rw (c .number .ensures .0) (ap (headC _ _) (rw (t .e .given .1) at (t .before .before .peek .ensures)))))
+    rw (c .number .ensures) (ap (headC _ _) (rw (t .e .given .1) at (t .before .before .peek .ensures)))))

@@ -8,4 +8,4 @@ answer-error-spec =
     tie.close
     (tie.spec
     (λ c κs. search needs)
-    (λ c. rw (c .number .ensures .0)))
+    (λ c. rw (c .number .ensures)))

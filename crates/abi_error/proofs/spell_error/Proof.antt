@@ -1,22 +1,24 @@
--- `abi_error::spell_error` meets its contract: the table's rows are the names, with zeros behind them.
-use mathlib.Core.Path.{refl, sym, ap}
-use mathlib.Core.List.{[], map}
-use native.Mathlib.Omega.{arith}
-use lib.ListN.{List·getD-eq-default}
+-- `abi_error::spell_error` meets its contract: of each name, the text that is told is the name with zeros behind it.
+use mathlib.Core.Path.{_≡_, sym, _∙_}
+use Prim.Native.Nat.{ℕ}
+use mathlib.Core.List.{List, []}
+use lib.ListN.{getD, List·getD-map}
 use borrow.Author.Needs.{needs}
-use Rattle.prelude.proofs.Tables.{getD-coded}
-use Rattle.error.specs.Error.{names}
-use Rattle.abi_error.specs.Reply.{reply, ended, nameC}
+use Rattle.error.specs.Error.{names, padded}
+use Rattle.abi_error.specs.Reply.{ended, nameC}
 use Rattle.abi_error.proofs.spell_error.Statement.{statement}
 use Rattle.abi_error.proofs.spell_error.Tie as tie
 
+abbrev text : List ℕ → List ℕ
+text s = padded s .text
+
+text-ended : (n : ℕ) → text (getD names n []) ≡ nameC n
+unfolding nameC padded
+text-ended n = sym (List·getD-map text names n []) ∙ List·getD-map ended names n []
+
 pub spell-error-spec : {M : Type 1} → statement M
-unfolding nameC
 spell-error-spec =
     tie.close
     (tie.spec
-    (λ c. search needs)
-    (λ c. search needs)
-    (λ c. ap (reply 0) (sym (getD-coded ended names (map ended names) (c .before .before .args .number) [] _ refl (omega arith))))
-    (λ c. search needs)
-    (λ c. rw (List·getD-eq-default names [] {n = c .before .before .args .number} (omega arith))))
+    (λ c κs. search needs)
+    (λ c. rw (c .before .name-of .ensures, text-ended _)))

@@ -12,4 +12,4 @@ settle-spec =
     (λ c. search needs)
     (λ c κs. search needs)
     (λ c. rw (c .before .before .enum-told .given .1, c .before .flag .ensures))
-    (λ c. rw (c .before .before .answer .given .1, c .number .ensures .0)))
+    (λ c. rw (c .before .before .answer .given .1, c .number .ensures)))
