@@ -28,7 +28,7 @@ use crate::LIMIT;
 /// w.integer(24)?;
 /// let frames = w.open_array(2)?; // two frames alike
 /// w.pointer(frame)?;
-/// assert_eq!(w.close(frame).unwrap_err().kind, ErrorKind::Owed); // an item is still owed
+/// assert_eq!(w.close(frame).unwrap_err().kind, ErrorKind::Owed); // an item is still pending
 /// w.pointer(frame)?;
 /// let bytes = w.close(frames)?;
 ///
@@ -52,7 +52,7 @@ impl Writer {
 
     /// A writer of a file of at most `bytes` bytes and `words` values, whose memory is allocated now. Past that a call is NO_ROOM or FULL.
     ///
-    /// One byte is held back for the close, and one for each item owed, so that an open value can always be finished.
+    /// One byte is held back for the close, and one for each item pending, so that an open value can always be finished.
     pub fn fixed(bytes: usize, words: usize) -> Writer {
         let out = vec![0; bytes.min(LIMIT)];
         let starts = vec![0; words.min(LIMIT)];
@@ -124,7 +124,7 @@ impl Writer {
         self.call(Call::Pointer(target))
     }
 
-    /// Opens an array. OWED while items are owed, as with every opening.
+    /// Opens an array. OWED while items are pending, as with every opening.
     pub fn open_array(&mut self, items: u64) -> Result<usize, Error> {
         self.call(Call::OpenArray(items))
     }
@@ -152,7 +152,7 @@ impl Writer {
     /// Ends the file and hands out its bytes. The entry is the finished value that starts at `entry`, or a pointer to it, which is added
     /// where the last byte does not reach back so far.
     ///
-    /// OWED while items are owed, BAD_TARGET where no finished value starts at `entry`. Every later call is CLOSED.
+    /// OWED while items are pending, BAD_TARGET where no finished value starts at `entry`. Every later call is CLOSED.
     pub fn close(&mut self, entry: usize) -> Result<Vec<u8>, Error> {
         self.call(Call::Close(entry))?;
         let mut file = mem::take(&mut self.out);
@@ -175,7 +175,7 @@ impl Writer {
     }
 
     /// How many items the open value still has to get, 0 where none is open.
-    pub fn owed(&self) -> u64 {
+    pub fn pending(&self) -> u64 {
         self.state[2]
     }
 
@@ -233,7 +233,7 @@ impl fmt::Debug for Writer {
         f.debug_struct("Writer")
             .field("written", &self.state[0])
             .field("count", &self.state[1])
-            .field("owed", &self.state[2])
+            .field("pending", &self.state[2])
             .field("closed", &self.is_closed())
             .finish()
     }

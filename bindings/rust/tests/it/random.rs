@@ -93,7 +93,7 @@ fn write(w: &mut Writer, part: &Part) -> Result<usize, Error> {
 
 /// What a writer shows of itself.
 fn shown(w: &Writer) -> (Vec<u8>, usize, u64, bool) {
-    (w.written().to_vec(), w.count(), w.owed(), w.is_closed())
+    (w.written().to_vec(), w.count(), w.pending(), w.is_closed())
 }
 
 /// Makes calls, closes, and reads back what was accepted.
@@ -124,11 +124,11 @@ fn write_some(random: &mut Random, mut w: Writer, calls: usize) -> Vec<u8> {
                 assert_eq!(shown(&w), before);
             }
         }
-        if random.below(50) == 0 && w.owed() > 0 {
+        if random.below(50) == 0 && w.pending() > 0 {
             assert_eq!(w.close(0).unwrap_err().kind, ErrorKind::Owed);
         }
     }
-    while w.owed() > 0 {
+    while w.pending() > 0 {
         accepted.push((w.null().expect("an open value can be finished"), Part::Null));
     }
     let Some(last) = starts.last().copied() else { return Vec::new() };

@@ -100,17 +100,17 @@ fn refused_calls_change_nothing() {
     assert_eq!(w.text_bytes(&[0xc3, 0x28]), Err(refused(BadText)));
     assert_eq!(w.open_array(u64::MAX), Err(refused(NoRoom)));
     assert_eq!(w.open_map(1 << 63), Err(refused(NoRoom)));
-    assert_eq!((w.written(), w.count(), w.owed(), w.is_closed()), (&[][..], 0, 0, false));
+    assert_eq!((w.written(), w.count(), w.pending(), w.is_closed()), (&[][..], 0, 0, false));
 
     let array = w.open_array(2).unwrap();
     assert_eq!(w.open_array(0), Err(refused(Owed)));
     assert_eq!(w.close(array), Err(refused(Owed)));
     assert_eq!(w.pointer(array), Err(refused(BadTarget)), "the array is still open");
-    assert_eq!((w.written(), w.count(), w.owed()), (&[0x62][..], 0, 2));
+    assert_eq!((w.written(), w.count(), w.pending()), (&[0x62][..], 0, 2));
     let item = w.integer(1).unwrap();
     w.integer(2).unwrap();
     assert_eq!(w.pointer(item), Err(refused(BadTarget)), "an item is no target");
-    assert_eq!((w.written(), w.count(), w.owed()), (&[0x62, 0x11, 0x12][..], 1, 0));
+    assert_eq!((w.written(), w.count(), w.pending()), (&[0x62, 0x11, 0x12][..], 1, 0));
 
     assert_eq!(w.close(array), Ok(vec![0x62, 0x11, 0x12, 0x02]));
     assert!(w.is_closed());
@@ -118,7 +118,7 @@ fn refused_calls_change_nothing() {
     assert_eq!(w.open_map(0), Err(refused(Closed)));
     assert_eq!(w.text_bytes(&[0xff]), Err(refused(Closed)));
     assert_eq!(w.close(array), Err(refused(Closed)));
-    assert_eq!((w.written(), w.count(), w.owed()), (&[][..], 0, 0));
+    assert_eq!((w.written(), w.count(), w.pending()), (&[][..], 0, 0));
 }
 
 #[test]
