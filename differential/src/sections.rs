@@ -1,6 +1,6 @@
 //! The sections: what a case of each is.
 
-use reference::model::Book;
+use reference::model::Model;
 use reference::{Call, Scalar, MAX_LEN};
 
 use crate::compare::{Comparer, Writing};
@@ -354,7 +354,7 @@ fn long_file(random: &mut Random, length: usize) -> Vec<u8> {
     file
 }
 
-/// Runs of calls from a new writer with an output and a table of fixed lengths, also against the book.
+/// Runs of calls from a new writer with an output and a table of fixed lengths, also against the model.
 fn calls<P: Product>(comparer: &mut Comparer<P>, mut case: Case) -> Result<(), Difference> {
     let random = &mut case.random;
     let length = random.pick(&[0, 1, 2, 3, 9, 40, 300, 600, 900]);
@@ -365,7 +365,7 @@ fn calls<P: Product>(comparer: &mut Comparer<P>, mut case: Case) -> Result<(), D
         &junk(random, length),
         &listed(random, length, words),
     );
-    let mut book = Book::new(length, words);
+    let mut model = Model::new(length, words);
     let number = random.index(60);
     for index in 0..number + 8 {
         let &[_, count, pending, ..] = lent.state();
@@ -380,11 +380,11 @@ fn calls<P: Product>(comparer: &mut Comparer<P>, mut case: Case) -> Result<(), D
             (false, _) => Call::Scalar(Scalar::Null),
         };
         let answer = comparer.call(&mut lent, call)?;
-        let told = book
+        let told = model
             .call(call)
             .map_or_else(|kind| kind.number().into(), |()| 0_u32);
         let is_last = index + 1 == number + 8;
-        if answer != told || ((is_last || random.one_in(8)) && !is_in(&book, &lent)) {
+        if answer != told || ((is_last || random.one_in(8)) && !is_in(&model, &lent)) {
             let product = format!(
                 "{} {:?}",
                 difference::answer(answer, lent.state()),
@@ -393,7 +393,7 @@ fn calls<P: Product>(comparer: &mut Comparer<P>, mut case: Case) -> Result<(), D
             let question = format!(
                 "{call:?}, call {index} of a new writer with {length} bytes and {words} words"
             );
-            let second = format!("{} {book:?}", difference::answer(told, &[]));
+            let second = format!("{} {model:?}", difference::answer(told, &[]));
             return Err(Difference {
                 question,
                 product,
@@ -419,16 +419,16 @@ fn calls<P: Product>(comparer: &mut Comparer<P>, mut case: Case) -> Result<(), D
     })
 }
 
-/// Whether a book has what a writer has left.
-fn is_in(book: &Book, lent: &Writing) -> bool {
+/// Whether a model has what a writer has left.
+fn is_in(model: &Model, lent: &Writing) -> bool {
     let &[written, count, pending, _, closed] = lent.state();
     let starts = lent.starts.slice()[..count as usize]
         .iter()
         .map(|start| u64::from(*start));
-    book.bytes() == lent.out.slice()[..written as usize]
-        && book.starts().into_iter().eq(starts)
-        && book.owed() == u128::from(pending)
-        && book.is_closed() == (closed != 0)
+    model.bytes() == lent.out.slice()[..written as usize]
+        && model.starts().into_iter().eq(starts)
+        && model.owed() == u128::from(pending)
+        && model.is_closed() == (closed != 0)
 }
 
 /// Calls in any states, with any tables, whose lengths change from call to call.

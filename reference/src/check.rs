@@ -29,7 +29,7 @@ mod tests {
     use super::*;
     use crate::error::ErrorKind::{self, *};
     use crate::leb128;
-    use crate::testing::{hex, refusal, JUNK};
+    use crate::testing::{hex, refusal, DOCUMENT_001, JUNK};
     use crate::MAX_LEN;
 
     /// Checks a file with a table of `words` words and looks at the words that have to be 0.
@@ -61,11 +61,7 @@ mod tests {
         refused("", Empty, 0);
         refused("00", BadEntry, 0);
         accepted("00 00", 0, &[0]);
-        accepted(
-            "45 68 65 6c 6c 6f 61 f6 62 f8 f3 72 41 61 f5 41 78 01 06",
-            11,
-            &[0, 6, 8, 11],
-        );
+        accepted(DOCUMENT_001, 11, &[0, 6, 8, 11]);
         accepted("61 1f 1b 64 f3 11 12 13 04", 3, &[0, 3]);
         refused("61 f0 01", BadTarget, 1);
         accepted("1f 1b e1 00", 2, &[0, 2]);

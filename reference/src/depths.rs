@@ -55,7 +55,7 @@ impl Note for Depths<'_> {
 mod tests {
     use super::*;
     use crate::error::ErrorKind::*;
-    use crate::testing::{hex, refusal, JUNK};
+    use crate::testing::{hex, refusal, DOCUMENT_001, JUNK};
 
     /// The depths of a file by tables of these lengths; the words that have to be 0 are looked at.
     fn told(words: [usize; 2], file: &str) -> Result<Vec<u32>, Error> {
@@ -70,13 +70,7 @@ mod tests {
     #[test]
     fn samples_of_document_01() {
         assert_eq!(told([2, 2], "00 00"), Ok(vec![1]));
-        assert_eq!(
-            told(
-                [6, 5],
-                "45 68 65 6c 6c 6f 61 f6 62 f8 f3 72 41 61 f5 41 78 01 06"
-            ),
-            Ok(vec![1, 2, 3, 4])
-        );
+        assert_eq!(told([6, 5], DOCUMENT_001), Ok(vec![1, 2, 3, 4]));
         assert_eq!(told([3, 2], "1f 1b e1 00"), Ok(vec![1, 2]));
     }
 

@@ -1,4 +1,4 @@
-//! The plain book: what a writer's calls mean, told without a state of offsets.
+//! The reference model, document 01's "plain book": what a writer's calls mean, told without a state of offsets.
 //!
 //! "Demand 3's plain book is fed the calls with their arguments, and told beforehand only the lengths of output and table; it
 //! refuses by the order above, judged by its own bytes, starts, owed items and close." Bytes and starts are derived from the
@@ -10,9 +10,9 @@ use crate::error::ErrorKind;
 /// The longest file.
 const LONGEST: u128 = 16_777_216;
 
-/// A book of the values that were written.
+/// The values that were written.
 #[derive(Clone, Debug)]
-pub struct Book {
+pub struct Model {
     /// The length of the output.
     output: usize,
     /// The words of the table.
@@ -51,8 +51,8 @@ enum Token {
     VariantN(u32, u64),
 }
 
-impl Book {
-    /// A book without bytes, starts, owed items or close, for an output and a table of these lengths.
+impl Model {
+    /// A model without bytes, starts, owed items or close, for an output and a table of these lengths.
     #[must_use]
     pub fn new(output: usize, table: usize) -> Self {
         Self {
@@ -338,90 +338,71 @@ fn is_text(text: &[u8]) -> bool {
 mod tests {
     use super::*;
     use crate::error::ErrorKind::*;
-    use crate::kind::Scalar;
-    use crate::testing::hex;
+    use crate::testing::{hex, DOCUMENT_001, WRITES_DOCUMENT_001};
 
-    fn book(output: usize, table: usize, calls: &[Call<'_>]) -> Book {
-        let mut book = Book::new(output, table);
+    fn fed(output: usize, table: usize, calls: &[Call<'_>]) -> Model {
+        let mut model = Model::new(output, table);
         for call in calls {
-            assert_eq!(book.call(*call), Ok(()), "{call:?}");
+            assert_eq!(model.call(*call), Ok(()), "{call:?}");
         }
-        book
+        model
     }
 
     #[test]
-    fn a_fresh_book_is_empty() {
-        let book = Book::new(9, 9);
-        assert_eq!(book.bytes(), []);
-        assert_eq!(book.starts(), []);
-        assert_eq!(book.owed(), 0);
-        assert!(!book.is_closed());
+    fn a_fresh_model_is_empty() {
+        let model = Model::new(9, 9);
+        assert_eq!(model.bytes(), []);
+        assert_eq!(model.starts(), []);
+        assert_eq!(model.owed(), 0);
+        assert!(!model.is_closed());
     }
 
     #[test]
     fn the_file_of_document_001() {
-        let mut book = book(
-            19,
-            4,
-            &[
-                Call::Text(b"hello"),
-                Call::Array(1),
-                Call::Pointer(0),
-                Call::Array(2),
-                Call::Pointer(0),
-                Call::Pointer(6),
-                Call::Map(2),
-                Call::Text(b"a"),
-                Call::Pointer(8),
-                Call::Text(b"x"),
-                Call::Scalar(Scalar::True),
-                Call::Close(11),
-            ],
-        );
-        let file = "45 68 65 6c 6c 6f 61 f6 62 f8 f3 72 41 61 f5 41 78 01 06";
-        assert_eq!(book.bytes(), hex(file));
-        assert_eq!(book.starts(), [0, 6, 8, 11]);
-        assert_eq!(book.call(Call::Integer(1)), Err(Closed));
+        let mut model = fed(19, 4, &WRITES_DOCUMENT_001);
+        assert_eq!(model.bytes(), hex(DOCUMENT_001));
+        assert_eq!(model.starts(), [0, 6, 8, 11]);
+        assert_eq!(model.call(Call::Integer(1)), Err(Closed));
     }
 
     #[test]
     fn a_start_is_listed_when_its_value_is_finished() {
-        let mut book = book(99, 9, &[Call::Array(2), Call::Integer(1)]);
-        assert_eq!(book.owed(), 1);
-        assert_eq!(book.bytes(), hex("62 11"));
-        assert_eq!(book.starts(), []);
-        assert_eq!(book.call(Call::Pointer(0)), Err(BadTarget));
-        assert_eq!(book.call(Call::Array(0)), Err(Owed));
-        assert_eq!(book.call(Call::Close(0)), Err(Owed));
-        assert_eq!(book.call(Call::Integer(2)), Ok(()));
-        assert_eq!(book.starts(), [0]);
+        let mut model = fed(99, 9, &[Call::Array(2), Call::Integer(1)]);
+        assert_eq!(model.owed(), 1);
+        assert_eq!(model.bytes(), hex("62 11"));
+        assert_eq!(model.starts(), []);
+        assert_eq!(model.call(Call::Pointer(0)), Err(BadTarget));
+        assert_eq!(model.call(Call::Array(0)), Err(Owed));
+        assert_eq!(model.call(Call::Close(0)), Err(Owed));
+        assert_eq!(model.call(Call::Integer(2)), Ok(()));
+        assert_eq!(model.starts(), [0]);
     }
 
     #[test]
     fn a_delta_of_255_and_a_pointer() {
-        let direct = book(257, 1, &[Call::Bytes(&[0; 253]), Call::Close(0)]);
+        let direct = fed(257, 1, &[Call::Bytes(&[0; 253]), Call::Close(0)]);
         assert_eq!(direct.bytes()[256..], [255]);
-        let pointer = book(261, 2, &[Call::Bytes(&[0; 254]), Call::Close(0)]);
+        let pointer = fed(261, 2, &[Call::Bytes(&[0; 254]), Call::Close(0)]);
         assert_eq!(pointer.bytes()[257..], hex("ff f1 01 02"));
         assert_eq!(pointer.starts(), [0, 257]);
         for (output, table, refusal) in [(261, 1, Full), (260, 2, NoRoom)] {
-            let mut book = book(output, table, &[Call::Bytes(&[0; 254])]);
-            assert_eq!(book.call(Call::Close(0)), Err(refusal));
-            assert_eq!(book.starts(), [0]);
+            let mut model = fed(output, table, &[Call::Bytes(&[0; 254])]);
+            assert_eq!(model.call(Call::Close(0)), Err(refusal));
+            assert_eq!(model.starts(), [0]);
         }
     }
 
     #[test]
     fn refusals_in_their_order() {
-        let mut book = Book::new(2, 1);
-        assert_eq!(book.call(Call::Text(&[0xff; 9])), Err(BadText));
-        assert_eq!(book.call(Call::Map(1 << 63)), Err(NoRoom));
-        assert_eq!(book.call(Call::Close(0)), Err(BadTarget));
-        assert_eq!(book.call(Call::Integer(0)), Ok(()));
-        assert_eq!(book.call(Call::Text(&[0x80])), Err(BadText));
-        assert_eq!(book.call(Call::Reference(1)), Err(BadTarget));
-        assert_eq!(book.call(Call::Tag(0)), Err(Full));
-        assert_eq!(book.call(Call::Close(0)), Ok(()));
-        assert_eq!(book.bytes(), hex("10 00"));
+        let mut model = Model::new(2, 1);
+        assert_eq!(model.call(Call::Text(&[0xff; 9])), Err(BadText));
+        assert_eq!(model.call(Call::Map(1 << 63)), Err(NoRoom));
+        assert_eq!(model.call(Call::Close(0)), Err(BadTarget));
+        assert_eq!(model.call(Call::Integer(0)), Ok(()));
+        assert_eq!(model.call(Call::Text(&[0x80])), Err(BadText));
+        assert_eq!(model.call(Call::Reference(1)), Err(BadTarget));
+        assert_eq!(model.call(Call::Tag(0)), Err(Full));
+        assert_eq!(model.call(Call::Close(0)), Ok(()));
+        assert_eq!(model.bytes(), hex("10 00"));
     }
 }

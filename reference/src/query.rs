@@ -299,10 +299,8 @@ pub fn body_place(file: &[u8], at: u64) -> Result<Body, Error> {
 mod tests {
     use super::*;
     use crate::error::ErrorKind::*;
-    use crate::testing::{hex, refusal};
+    use crate::testing::{hex, refusal, DOCUMENT_001};
     use crate::MAX_LEN;
-
-    const DOCUMENT_001: &str = "45 68 65 6c 6c 6f 61 f6 62 f8 f3 72 41 61 f5 41 78 01 06";
 
     fn read_at(at: u64, file: &str) -> Result<Value, Error> {
         read(&hex(file), at)

@@ -1,9 +1,30 @@
 //! Helpers of the unit tests.
 
+use crate::call::Call;
 use crate::error::{Error, ErrorKind};
+use crate::kind::Scalar;
 
 /// What a table holds before it is lent.
 pub const JUNK: u32 = 0xaaaa_aaaa;
+
+/// The file of document 001.
+pub const DOCUMENT_001: &str = "45 68 65 6c 6c 6f 61 f6 62 f8 f3 72 41 61 f5 41 78 01 06";
+
+/// The calls that write it.
+pub const WRITES_DOCUMENT_001: [Call<'static>; 12] = [
+    Call::Text(b"hello"),
+    Call::Array(1),
+    Call::Pointer(0),
+    Call::Array(2),
+    Call::Pointer(0),
+    Call::Pointer(6),
+    Call::Map(2),
+    Call::Text(b"a"),
+    Call::Pointer(8),
+    Call::Text(b"x"),
+    Call::Scalar(Scalar::True),
+    Call::Close(11),
+];
 
 /// The bytes of a row of hex digits; spaces do not count.
 pub fn hex(text: &str) -> Vec<u8> {

@@ -300,7 +300,7 @@ mod tests {
     use super::*;
     use crate::error::ErrorKind::*;
     use crate::kind::Scalar;
-    use crate::testing::{hex, JUNK};
+    use crate::testing::{hex, DOCUMENT_001, JUNK, WRITES_DOCUMENT_001};
 
     const FALSE: Call<'_> = Call::Scalar(Scalar::False);
 
@@ -352,22 +352,8 @@ mod tests {
     #[test]
     fn the_file_of_document_001() {
         let mut lent = Lent::new(19, 4);
-        lent.calls(&[
-            Call::Text(b"hello"),
-            Call::Array(1),
-            Call::Pointer(0),
-            Call::Array(2),
-            Call::Pointer(0),
-            Call::Pointer(6),
-            Call::Map(2),
-            Call::Text(b"a"),
-            Call::Pointer(8),
-            Call::Text(b"x"),
-            Call::Scalar(Scalar::True),
-            Call::Close(11),
-        ]);
-        let file = "45 68 65 6c 6c 6f 61 f6 62 f8 f3 72 41 61 f5 41 78 01 06";
-        assert_eq!(lent.written(), hex(file));
+        lent.calls(&WRITES_DOCUMENT_001);
+        assert_eq!(lent.written(), hex(DOCUMENT_001));
         assert_eq!(lent.listed(), [0, 6, 8, 11]);
         assert!(lent.writer.closed);
     }

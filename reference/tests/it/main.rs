@@ -1,7 +1,7 @@
 //! Tests of the parts together, on made-up calls and files.
 
-mod book;
 mod lines;
+mod model;
 mod plain;
 mod random;
 mod rewrite;

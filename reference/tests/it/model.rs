@@ -1,6 +1,6 @@
-//! The writer against the plain book, call by call.
+//! The writer against the reference model, call by call.
 
-use reference::model::Book;
+use reference::model::Model;
 use reference::{check, Call, ErrorKind, Writer};
 
 use crate::random::Random;
@@ -14,7 +14,7 @@ fn compare(random: &mut Random, room: usize, words: usize, calls: usize) -> Vec<
     let mut out = vec![JUNK_BYTE; room];
     let mut starts = vec![JUNK_WORD; words];
     let mut writer = Writer::new();
-    let mut book = Book::new(room, words);
+    let mut model = Model::new(room, words);
     let mut accepted = Vec::new();
     let mut refused = Vec::new();
     for _ in 0..calls {
@@ -22,7 +22,7 @@ fn compare(random: &mut Random, room: usize, words: usize, calls: usize) -> Vec<
         let (old_out, old_starts, old) = (out.clone(), starts.clone(), writer);
         let answer;
         (answer, writer) = old.step(call, &mut out, &mut starts);
-        assert_eq!(answer, book.call(call), "{call:?}");
+        assert_eq!(answer, model.call(call), "{call:?}");
 
         let (from, to) = (old.written as usize, writer.written as usize);
         assert_eq!(out[..from], old_out[..from]);
@@ -39,11 +39,11 @@ fn compare(random: &mut Random, room: usize, words: usize, calls: usize) -> Vec<
             }
         }
 
-        assert_eq!(out[..writer.written as usize], book.bytes());
+        assert_eq!(out[..writer.written as usize], model.bytes());
         let listed: Vec<u64> = starts[..to].iter().copied().map(u64::from).collect();
-        assert_eq!(listed, book.starts());
-        assert_eq!(u128::from(writer.pending), book.owed());
-        assert_eq!(writer.closed, book.is_closed());
+        assert_eq!(listed, model.starts());
+        assert_eq!(u128::from(writer.pending), model.owed());
+        assert_eq!(writer.closed, model.is_closed());
     }
     if writer.closed {
         read_back(&out[..writer.written as usize], &starts, &accepted);
