@@ -4,15 +4,17 @@
 -- and one more word; a whole table.
 use mathlib.Core.Path.{_≡_, refl, sym, ap, _∙_}
 use mathlib.Core.List.{List, [], _∷_, _++_}
-use Prim.Native.Nat.{ℕ, zero, suc, _+_, _*_, _/_, _≤_, _<_}
+use Prim.Native.Nat.{ℕ, zero, suc, _+_, _*_, _/_, _^_, _≤_, _<_}
 use native.Mathlib.Numerals.{add-one}
 use native.Mathlib.Omega.{arith}
 use borrow.Author.Tests.{le-ltb}
+use mir.Syntax.{w32}
+use mir.Val.{Fits}
 use lib.ListN.{length, getD, take, set, length-append, length-take, List·getD-append}
 use lib.Seq.{length-take-le, take-suc, take-suc-set, getD-take, getD-append-seam}
 use Rattle.prelude.specs.Search.{rank, Rising}
 use Rattle.prelude.proofs.Tests.{split}
-use Rattle.prelude.proofs.Searches.{rank-le, rank-is, rank-below, rank-above}
+use Rattle.prelude.proofs.Searches.{rising-ge, rank-le, rank-is, rank-below, rank-above}
 use Rattle.table.specs.Blocks.{BLOCK, Counted, Below}
 
 rank-mono : (x y : ℕ) (t : List ℕ) → Rising t → x ≤ y → rank x t ≤ rank y t
@@ -93,6 +95,15 @@ counting-start t blocks = record {
 }
 
 module _ (t blocks : List ℕ) (n known i : ℕ) (up : Rising t) (below : Below (n * BLOCK) t) (c : Counting t blocks n known i) (more : i < length t) where
+  pub next-le : known ≤ getD t i 0 / BLOCK + 1
+  next-le = c .ahead i (omega arith) more
+
+  pub last-lt : getD t i 0 / BLOCK < length blocks
+  last-lt = omega (arith, c .long, below i more)
+
+  pub few-words : Fits w32 (getD t i 0) → length (take i t) < 2 ^ 32
+  few-words h = rw length-take (omega (arith, rising-ge t up i more))
+
   pub counting-on : (after : List ℕ) → length after ≡ length blocks → Counted (take (getD t i 0 / BLOCK + 1) after) (take i t)
       → Counting t after n (getD t i 0 / BLOCK + 1) (i + 1)
   counting-on after same counted =
@@ -102,7 +113,9 @@ module _ (t blocks : List ℕ) (n known i : ℕ) (up : Rising t) (below : Below 
         fits = omega arith;
         long = same ∙ c .long;
         known-fits = omega (arith, below i more);
-        below = λ k h. rw (getD-take (i + 1) t k 0 (omega arith)) (split k i (λ l. omega (arith, up k i l more)) (λ l. let e : k ≡ i = omega arith in rw e (omega arith)));
-        counted = rw words (counted-snoc (take (getD t i 0 / BLOCK + 1) after) (take i t) (getD t i 0) (omega (arith, length-take (getD t i 0 / BLOCK + 1) after)) counted);
+        below = λ k h. rw (getD-take (i + 1) t k 0 (omega arith))
+            (split k i (λ l. omega (arith, up k i l more)) (λ l. let e : k ≡ i = omega arith in rw e (omega arith)));
+        counted = rw words
+            (counted-snoc (take (getD t i 0 / BLOCK + 1) after) (take i t) (getD t i 0) (omega (arith, length-take (getD t i 0 / BLOCK + 1) after)) counted);
         ahead = λ k h g. omega (arith, up i k (omega arith) g);
       }

@@ -1,12 +1,11 @@
 -- `table::index` meets its contract.
 use mathlib.Core.Path.{_≡_, sym}
-use Prim.Native.Nat.{_-_, _<_}
-use lib.ListN.{length, take, length-take}
+use Prim.Native.Nat.{_-_}
+use lib.ListN.{length, take}
 use lib.Seq.{length-take-le, take-all}
 use native.Mathlib.Omega.{arith}
 use borrow.Author.Needs.{needs}
-use Rattle.prelude.proofs.Searches.{rising-ge}
-use Rattle.table.proofs.Blocks.{Counting, counting-start, counting-on}
+use Rattle.table.proofs.Blocks.{Counting, counting-start, next-le, last-lt, few-words, counting-on}
 use Rattle.table.proofs.index.Statement.{statement}
 use Rattle.table.proofs.index.Tie as tie
 
@@ -15,6 +14,10 @@ Inv-loop t blocks₀ known₀ i₀ blocks known i = Counting t blocks (length bl
 
 abbrev μ-loop : tie.MeasureT-loop
 μ-loop t blocks₀ known₀ i₀ blocks known i = length t - i
+
+-- where a word is read, from after the call for it
+abbrev read : tie.After-slice-known2 Inv-loop μ-loop → tie.After-shared-slice-known2 Inv-loop μ-loop
+read c = c .before .before .before .before .before
 
 pub index-spec : {M : Type 1} → statement M
 index-spec =
@@ -27,26 +30,11 @@ index-spec =
     (λ c. search needs)
     (λ c. omega (arith, c .shared-slice-known2 .given (c .before .before .loop .i)))
     (λ c. sym (length-take-le _ _ (c .before .before .before .loop .inv .fits)))
-    (λ c κs. let w = c .before .before in
-    let l = w .before .before in
-    let t = l .before .before .before .args .t .now in
-    let up = l .before .before .before .pre .0 in
-    let below = l .before .before .before .pre .1 in
-    let i = l .loop .inv in
-    let more : l .loop .i < length t = omega arith in (
-      i .ahead (l .loop .i) (omega arith) more,
-      omega (arith, i .long, below (l .loop .i) more),
-      omega (arith, length-take (l .loop .i) t, rising-ge t up (l .loop .i) more, w .shared-slice-known2 .given (l .loop .i)),
-      i .below,
-      i .counted,
-    ))
-    (λ c. let w = c .before .before .before .before .before in omega (arith, w .shared-slice-known2 .given (w .before .before .loop .i)))
+    (λ c κs. search (next-le, last-lt, few-words, c .before .before .shared-slice-known2 .given))
+    (λ c. let w = read c in omega (arith, w .shared-slice-known2 .given (w .before .before .loop .i)))
     (λ c. search needs)
     (λ c. search needs)
-    (λ c. let n = c .before .before .count-blocks in
-    let l = c .before .before .before .before .before .before .before in
-    let h = l .before .before .before .pre in
-    counting-on _ _ _ _ _ (h .0) (h .1) (l .loop .inv) (omega arith) _ (n .kept .1 .0) (n .ensures))
+    (λ c. search counting-on)
     (λ c. search needs)
     (λ c. let l = c .before .loop in
     let e : take (l .i) _ ≡ _ = take-all (l .i) (c .before .before .before .before .args .t .now) (omega arith) in
