@@ -3,8 +3,6 @@
 
 #![deny(unsafe_code)]
 
-#[allow(unsafe_code, reason = "the calls of libtwine.a")]
-#[allow(dead_code, reason = "not every function is timed")]
 #[path = "../../differential/src/ffi.rs"]
 mod ffi;
 mod plans;
@@ -33,6 +31,7 @@ fn main() -> io::Result<()> {
         clock: Clock::new(),
         out: io::stdout().lock(),
     };
+    writeln!(page.out, "- Version of the C interface: {}", ffi::version())?;
     page.check()?;
     page.depths()?;
     page.queries()?;

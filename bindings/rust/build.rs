@@ -1,15 +1,20 @@
-//! Links libtwine.a, from the directory that TWINE_LIB_DIR names or else from the repository's target/staticlib.
+//! Links libtwine.a, from the directory that TWINE_LIB_DIR names or else from target/staticlib of the repository that the package stands in.
+//! `differential` and `bench` are built by this file too.
 
 use std::env;
 use std::path::PathBuf;
 
 fn main() {
     println!("cargo::rerun-if-env-changed=TWINE_LIB_DIR");
-    println!("cargo::rerun-if-changed=build.rs");
     // a build script runs in its package's directory
     let here = env::current_dir().expect("the package's directory");
-    let named = env::var_os("TWINE_LIB_DIR").map(PathBuf::from);
-    let dir = here.join(named.unwrap_or_else(|| PathBuf::from("../../target/staticlib")));
+    let dir = match env::var_os("TWINE_LIB_DIR").map(PathBuf::from) {
+        Some(named) => here.join(named),
+        None => {
+            let repository = here.ancestors().find(|above| above.join("crates.txt").is_file());
+            repository.unwrap_or(&here).join("target/staticlib")
+        }
+    };
     let archive = dir.join("libtwine.a");
     if !archive.is_file() {
         println!(

@@ -6,7 +6,6 @@ mod compare;
 mod difference;
 #[cfg(test)]
 mod faults;
-#[allow(unsafe_code, reason = "the calls of libtwine.a")]
 mod ffi;
 mod lent;
 mod make;
@@ -51,7 +50,7 @@ struct Failed {
 
 /// Runs the sections that are asked for, and prints a line for each.
 fn run<P: Product>(product: P, options: &Options) -> Result<(), Failed> {
-    println!("seed {}", options.seed);
+    println!("seed {}; version {} of the C interface", options.seed, ffi::version());
     let mut comparer = Comparer::new(product);
     let sections = sections::all().into_iter();
     let sections: Vec<Section<P>> = sections

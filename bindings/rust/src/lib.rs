@@ -30,6 +30,7 @@
 #[cfg(not(target_pointer_width = "64"))]
 compile_error!("libtwine.a is for 64-bit targets");
 
+mod c;
 mod error;
 mod file;
 pub mod query;

@@ -6,7 +6,7 @@ use twine::query::Kind;
 use twine::ErrorKind;
 
 const HEADER: &str = include_str!("../../../c/twine.h");
-const SYS: &str = include_str!("../../src/sys.rs");
+const DECLARED: &str = include_str!("../../src/c.rs");
 
 /// Functions by name, each with the types of its parameters and its answer as Rust spells them.
 type Functions = BTreeMap<String, (Vec<String>, bool)>;
@@ -67,7 +67,7 @@ fn of_header() -> Functions {
 }
 
 fn of_crate() -> Functions {
-    let block = between(SYS, "extern \"C\" {", "\n}\n");
+    let block = between(DECLARED, "extern \"C\" {", "\n    }\n");
     let declared = block.split(';').filter_map(|statement| statement.split_once("fn "));
     declared
         .map(|(_, declaration)| {
@@ -91,8 +91,10 @@ fn numbers() {
     let header = header();
     let defined = |line: String| assert_eq!(header.matches(&line).count(), 1, "{line}");
     defined(format!("#define TWINE_LIMIT {}\n", twine::LIMIT));
-    defined("#define TWINE_STATE 5\n".to_string());
-    defined("#define TWINE_NAME 11\n".to_string());
+    for size in ["STATE", "NAME"] {
+        let value = between(DECLARED, &format!("pub const {size}: usize = "), ";");
+        defined(format!("#define TWINE_{size} {value}\n"));
+    }
 
     let listed = |from, prefix| between(&header, from, "};").matches(prefix).count();
     for kind in ErrorKind::ALL {
