@@ -16,21 +16,13 @@ use rows::Row;
 use timing::Clock;
 
 /// The lengths of the files.
-const LENGTHS: [(usize, &str); 4] = [
-    (16 << 10, "16 KB"),
-    (256 << 10, "256 KB"),
-    (4 << 20, "4 MB"),
-    (16 << 20, "16 MB"),
-];
+const LENGTHS: [(usize, &str); 4] = [(16 << 10, "16 KB"), (256 << 10, "256 KB"), (4 << 20, "4 MB"), (16 << 20, "16 MB")];
 
 /// As many files of 16 KB are 16 MB.
 const FILES: usize = 1024;
 
 fn main() -> io::Result<()> {
-    let mut page = Page {
-        clock: Clock::new(),
-        out: io::stdout().lock(),
-    };
+    let mut page = Page { clock: Clock::new(), out: io::stdout().lock() };
     writeln!(page.out, "- Version of the C interface: {}", ffi::version())?;
     page.check()?;
     page.depths()?;
@@ -68,19 +60,12 @@ impl<W: Write> Page<W> {
             }
             grown.push((shape, short, long));
         }
-        writeln!(
-            self.out,
-            "\nThe time for a byte in a file of 16 MB, over that in 1,024 files of 16 KB:\n"
-        )?;
+        writeln!(self.out, "\nThe time for a byte in a file of 16 MB, over that in 1,024 files of 16 KB:\n")?;
         writeln!(self.out, "| files | libtwine.a | second |\n|---|--:|--:|")?;
         for (shape, short, long) in grown {
             let growth = |program| long.per_byte(program) / short.per_byte(program);
             let [product, second] = [0, 1].map(growth);
-            writeln!(
-                self.out,
-                "| {} | {product:.2} | {second:.2} |",
-                shape.name()
-            )?;
+            writeln!(self.out, "| {} | {product:.2} | {second:.2} |", shape.name())?;
         }
         Ok(())
     }
@@ -144,10 +129,7 @@ impl<W: Write> Page<W> {
 
     /// The head of a table: what is counted, one of them, and whether bytes count too.
     fn head(&mut self, units: &str, unit: &str, has_bytes: bool) -> io::Result<()> {
-        write!(
-            self.out,
-            "| | {units} | libtwine.a, ns/{unit} | second, ns/{unit} | ratio |"
-        )?;
+        write!(self.out, "| | {units} | libtwine.a, ns/{unit} | second, ns/{unit} | ratio |")?;
         if has_bytes {
             write!(self.out, " libtwine.a, ns/byte | second, ns/byte |")?;
         }
@@ -158,18 +140,9 @@ impl<W: Write> Page<W> {
     fn row(&mut self, name: &str, row: &Row) -> io::Result<()> {
         let [product, second] = row.nanoseconds.map(|time| time / row.units as f64);
         let ratio = product / second;
-        write!(
-            self.out,
-            "| {name} | {} | {product:.1} | {second:.1} | {ratio:.2} |",
-            row.units
-        )?;
+        write!(self.out, "| {name} | {} | {product:.1} | {second:.1} | {ratio:.2} |", row.units)?;
         if row.bytes > 0 {
-            write!(
-                self.out,
-                " {:.2} | {:.2} |",
-                row.per_byte(0),
-                row.per_byte(1)
-            )?;
+            write!(self.out, " {:.2} | {:.2} |", row.per_byte(0), row.per_byte(1))?;
         }
         writeln!(self.out)?;
         self.out.flush()

@@ -63,13 +63,8 @@ impl Said {
 
 /// A file of a shape that fills `length` bytes but for the last value. Other seeds make other files.
 pub fn make(shape: Shape, length: usize, seed: u64) -> Plan {
-    let mut maker = Maker {
-        random: Random(seed),
-        writer: Writer::new(),
-        out: vec![0; length],
-        starts: vec![0; length],
-        calls: Vec::new(),
-    };
+    let mut maker =
+        Maker { random: Random(seed), writer: Writer::new(), out: vec![0; length], starts: vec![0; length], calls: Vec::new() };
     // No value is longer than this.
     while maker.writer.written as usize + 260 < length {
         match shape {
@@ -81,20 +76,10 @@ pub fn make(shape: Shape, length: usize, seed: u64) -> Plan {
     }
     let last = maker.starts[maker.writer.count as usize - 1];
     maker.call(Said::Other(Call::Close(last.into())));
-    let Maker {
-        writer,
-        mut out,
-        mut starts,
-        calls,
-        ..
-    } = maker;
+    let Maker { writer, mut out, mut starts, calls, .. } = maker;
     out.truncate(writer.written as usize);
     starts.truncate(writer.count as usize);
-    Plan {
-        file: out,
-        starts,
-        calls,
-    }
+    Plan { file: out, starts, calls }
 }
 
 /// A file that is being written.
@@ -109,9 +94,7 @@ struct Maker {
 impl Maker {
     fn call(&mut self, call: Said) {
         let answer;
-        (answer, self.writer) = self
-            .writer
-            .step(call.as_call(), &mut self.out, &mut self.starts);
+        (answer, self.writer) = self.writer.step(call.as_call(), &mut self.out, &mut self.starts);
         assert_eq!(answer, Ok(()), "{call:?}");
         self.calls.push(call);
     }
@@ -159,8 +142,7 @@ impl Maker {
             6..=11 => self.target(),
             12..=13 => self.text(1, 16),
             14 => {
-                let scalar =
-                    [Scalar::False, Scalar::True, Scalar::Null][self.random.below(3) as usize];
+                let scalar = [Scalar::False, Scalar::True, Scalar::Null][self.random.below(3) as usize];
                 self.call(Said::Other(Call::Scalar(scalar)));
             }
             _ => {
@@ -174,11 +156,7 @@ impl Maker {
         let bits = 1 + self.random.below(40);
         let integer = (self.random.next() >> (64 - bits)) as i64;
         let is_negative = self.random.below(4) == 0;
-        self.call(Said::Other(Call::Integer(if is_negative {
-            !integer
-        } else {
-            integer
-        })));
+        self.call(Said::Other(Call::Integer(if is_negative { !integer } else { integer })));
     }
 
     fn target(&mut self) {
@@ -186,18 +164,10 @@ impl Maker {
         if count == 0 {
             return self.integer();
         }
-        let near = if self.random.below(4) < 3 {
-            count.min(64)
-        } else {
-            count
-        };
+        let near = if self.random.below(4) < 3 { count.min(64) } else { count };
         let start = self.starts[(count - 1 - self.random.below(near)) as usize].into();
         let is_reference = self.random.below(4) == 0;
-        self.call(Said::Other(if is_reference {
-            Call::Reference(start)
-        } else {
-            Call::Pointer(start)
-        }));
+        self.call(Said::Other(if is_reference { Call::Reference(start) } else { Call::Pointer(start) }));
     }
 
     fn text(&mut self, least: u64, most: u64) {

@@ -28,9 +28,7 @@ impl Row {
 
 /// Different files of 16 KB.
 pub fn files(shape: Shape, count: usize) -> Vec<Plan> {
-    (1..=count as u64)
-        .map(|seed| plans::make(shape, 16 << 10, seed))
-        .collect()
+    (1..=count as u64).map(|seed| plans::make(shape, 16 << 10, seed)).collect()
 }
 
 /// The values and the bytes of files.
@@ -52,27 +50,13 @@ pub fn check(clock: &Clock, plans: &[Plan]) -> Row {
     let nanoseconds = clock.race(
         &mut || {
             let mut out = [0; 2];
-            plans.iter().all(|plan| {
-                ffi::check(
-                    black_box(&plan.file),
-                    &mut starts[..plan.starts.len()],
-                    &mut out,
-                ) == 0
-            })
+            plans.iter().all(|plan| ffi::check(black_box(&plan.file), &mut starts[..plan.starts.len()], &mut out) == 0)
         },
-        &mut || {
-            plans.iter().all(|plan| {
-                reference::check(black_box(&plan.file), &mut starts2[..plan.starts.len()]).is_ok()
-            })
-        },
+        &mut || plans.iter().all(|plan| reference::check(black_box(&plan.file), &mut starts2[..plan.starts.len()]).is_ok()),
     );
     assert_eq!(starts, starts2);
     let (units, bytes) = size(plans);
-    Row {
-        units,
-        bytes,
-        nanoseconds,
-    }
+    Row { units, bytes, nanoseconds }
 }
 
 /// Depths of one file after the other.
@@ -84,33 +68,19 @@ pub fn depths(clock: &Clock, plans: &[Plan]) -> Row {
             let mut out = [0; 2];
             plans.iter().all(|plan| {
                 let count = plan.starts.len();
-                ffi::depths(
-                    black_box(&plan.file),
-                    &mut starts[..count],
-                    &mut depths[..count],
-                    &mut out,
-                ) == 0
+                ffi::depths(black_box(&plan.file), &mut starts[..count], &mut depths[..count], &mut out) == 0
             })
         },
         &mut || {
             plans.iter().all(|plan| {
                 let count = plan.starts.len();
-                reference::depths(
-                    black_box(&plan.file),
-                    &mut starts2[..count],
-                    &mut depths2[..count],
-                )
-                .is_ok()
+                reference::depths(black_box(&plan.file), &mut starts2[..count], &mut depths2[..count]).is_ok()
             })
         },
     );
     assert_eq!((starts, depths), (starts2, depths2));
     let (units, bytes) = size(plans);
-    Row {
-        units,
-        bytes,
-        nanoseconds,
-    }
+    Row { units, bytes, nanoseconds }
 }
 
 /// Each item of each value.
@@ -144,31 +114,18 @@ pub fn last_item(clock: &Clock, items: usize) -> Row {
         (_, writer) = writer.step(call, &mut file, &mut [0; 2]);
     }
     file.truncate(writer.written as usize);
-    Row {
-        units: items,
-        ..items_of(clock, &file, &[(0, items - 1)])
-    }
+    Row { units: items, ..items_of(clock, &file, &[(0, items - 1)]) }
 }
 
 fn items_of(clock: &Clock, file: &[u8], questions: &[(usize, usize)]) -> Row {
     let nanoseconds = clock.race(
         &mut || {
             let mut out = [0; 2];
-            questions
-                .iter()
-                .all(|&(at, index)| ffi::item(black_box(file), at, index, &mut out) == 0)
+            questions.iter().all(|&(at, index)| ffi::item(black_box(file), at, index, &mut out) == 0)
         },
-        &mut || {
-            questions.iter().all(|&(at, index)| {
-                reference::item(black_box(file), at as u64, index as u64).is_ok()
-            })
-        },
+        &mut || questions.iter().all(|&(at, index)| reference::item(black_box(file), at as u64, index as u64).is_ok()),
     );
-    Row {
-        units: questions.len(),
-        bytes: 0,
-        nanoseconds,
-    }
+    Row { units: questions.len(), bytes: 0, nanoseconds }
 }
 
 /// Each key of each map, or a key that is in none for each of them.
@@ -181,32 +138,18 @@ pub fn lookups(clock: &Clock, plan: &Plan, is_present: bool) -> Row {
         };
         for pair in 0..pairs {
             let key = reference::item(file, start.into(), 2 * pair).expect("a pair has a key");
-            let key = if is_present {
-                reference::body(file, key as u64)
-            } else {
-                b"nowhere"
-            };
+            let key = if is_present { reference::body(file, key as u64) } else { b"nowhere" };
             questions.push((start as usize, key));
         }
     }
     let nanoseconds = clock.race(
         &mut || {
             let mut out = [0; 2];
-            questions.iter().all(|&(at, key)| {
-                (ffi::lookup(black_box(file), at, key, &mut out) == 0) == is_present
-            })
+            questions.iter().all(|&(at, key)| (ffi::lookup(black_box(file), at, key, &mut out) == 0) == is_present)
         },
-        &mut || {
-            questions.iter().all(|&(at, key)| {
-                reference::lookup(black_box(file), at as u64, key).is_ok() == is_present
-            })
-        },
+        &mut || questions.iter().all(|&(at, key)| reference::lookup(black_box(file), at as u64, key).is_ok() == is_present),
     );
-    Row {
-        units: questions.len(),
-        bytes: 0,
-        nanoseconds,
-    }
+    Row { units: questions.len(), bytes: 0, nanoseconds }
 }
 
 /// The calls of one file after the other.
@@ -219,30 +162,21 @@ pub fn writes(clock: &Clock, plans: &[Plan]) -> Row {
             plans.iter().all(|plan| {
                 let mut state = [0; ffi::STATE];
                 ffi::writer_new(&mut state);
-                black_box(&plan.calls)
-                    .iter()
-                    .all(|call| ffi::call(&mut state, call.as_call(), &mut out, &mut starts) == 0)
+                black_box(&plan.calls).iter().all(|call| ffi::call(&mut state, call.as_call(), &mut out, &mut starts) == 0)
             })
         },
         &mut || {
             plans.iter().all(|plan| {
                 let mut writer = Writer::new();
-                black_box(&plan.calls)
-                    .iter()
-                    .map(Said::as_call)
-                    .all(|call| {
-                        let answer;
-                        (answer, writer) = writer.step(call, &mut out2, &mut starts2);
-                        answer.is_ok()
-                    })
+                black_box(&plan.calls).iter().map(Said::as_call).all(|call| {
+                    let answer;
+                    (answer, writer) = writer.step(call, &mut out2, &mut starts2);
+                    answer.is_ok()
+                })
             })
         },
     );
     assert_eq!((out, starts), (out2, starts2));
     let (_, bytes) = size(plans);
-    Row {
-        units: plans.iter().map(|plan| plan.calls.len()).sum(),
-        bytes,
-        nanoseconds,
-    }
+    Row { units: plans.iter().map(|plan| plan.calls.len()).sum(), bytes, nanoseconds }
 }

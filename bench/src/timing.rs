@@ -25,10 +25,7 @@ impl Clock {
     /// A clock that starts now.
     pub fn new() -> Self {
         let waits = File::open("/proc/thread-self/schedstat").ok();
-        Self {
-            waits,
-            begin: Instant::now(),
-        }
+        Self { waits, begin: Instant::now() }
     }
 
     /// The part of the time since the start in which another process had the processor.
@@ -54,11 +51,7 @@ impl Clock {
     /// # Panics
     ///
     /// Panics if a run did not go well.
-    pub fn race(
-        &self,
-        product: &mut dyn FnMut() -> bool,
-        second: &mut dyn FnMut() -> bool,
-    ) -> [f64; 2] {
+    pub fn race(&self, product: &mut dyn FnMut() -> bool, second: &mut dyn FnMut() -> bool) -> [f64; 2] {
         let runs = [self.repeats(product), self.repeats(second)];
         let mut best = [f64::MAX; 2];
         let begin = Instant::now();
@@ -66,11 +59,7 @@ impl Clock {
         while round < ROUNDS || begin.elapsed() < ROW {
             for turn in 0..2 {
                 let program = (turn + round) % 2;
-                let time = if program == 0 {
-                    self.time(product, runs[0])
-                } else {
-                    self.time(second, runs[1])
-                };
+                let time = if program == 0 { self.time(product, runs[0]) } else { self.time(second, runs[1]) };
                 best[program] = best[program].min(time);
             }
             round += 1;

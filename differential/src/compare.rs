@@ -83,9 +83,7 @@ impl<P: Product> Comparer<P> {
         refill(&mut self.expected_starts, words);
         refill(&mut self.expected_depths, 0);
         let out = array(self.out.slice_mut());
-        let number = self
-            .product
-            .check(self.file.slice(), self.starts.slice_mut(), out);
+        let number = self.product.check(self.file.slice(), self.starts.slice_mut(), out);
         let expected = reference::check(self.file.slice(), &mut self.expected_starts);
         let question = || format!("check with {words} words");
         self.judge(number, checked(expected), self.are_tables_same(), question)?;
@@ -116,9 +114,7 @@ impl<P: Product> Comparer<P> {
         let file = self.file.slice();
         let expected = reference::read(file, at);
         let end = reference::skip(file, at);
-        self.judge(number, read(expected, at, end), true, || {
-            format!("read at {at}")
-        })?;
+        self.judge(number, read(expected, at, end), true, || format!("read at {at}"))?;
         Ok(expected.ok().map(Read::of))
     }
 
@@ -135,13 +131,9 @@ impl<P: Product> Comparer<P> {
     pub fn item(&mut self, at: u64, index: u64) -> Result<(), Difference> {
         self.out.fill(2, JUNK_OUT);
         let out = array(self.out.slice_mut());
-        let number = self
-            .product
-            .item(self.file.slice(), at as usize, index as usize, out);
+        let number = self.product.item(self.file.slice(), at as usize, index as usize, out);
         let expected = reference::item(self.file.slice(), at, index);
-        self.judge(number, offset(expected), true, || {
-            format!("item {index} at {at}")
-        })
+        self.judge(number, offset(expected), true, || format!("item {index} at {at}"))
     }
 
     /// `twine_follow`.
@@ -159,9 +151,7 @@ impl<P: Product> Comparer<P> {
         self.out.fill(2, JUNK_OUT);
         self.argument.copy_from(key);
         let out = array(self.out.slice_mut());
-        let number =
-            self.product
-                .lookup(self.file.slice(), at as usize, self.argument.slice(), out);
+        let number = self.product.lookup(self.file.slice(), at as usize, self.argument.slice(), out);
         let expected = reference::lookup(self.file.slice(), at, key);
         let question = || format!("lookup at {at} of the key of {}", difference::hex(key));
         if self.argument.slice() != key || !self.argument.is_guarded() {
@@ -176,9 +166,7 @@ impl<P: Product> Comparer<P> {
         let out = array(self.out.slice_mut());
         let number = self.product.body(self.file.slice(), at as usize, out);
         let expected = reference::query::body_place(self.file.slice(), at);
-        let told = told(expected, |Body { first, length }| {
-            [first as u64, length as u64]
-        });
+        let told = told(expected, |Body { first, length }| [first as u64, length as u64]);
         self.judge(number, told, true, || format!("body at {at}"))
     }
 
@@ -231,10 +219,8 @@ impl<P: Product> Comparer<P> {
     fn difference(&self, number: u32, expected: u32, out: &[u64], question: String) -> Difference {
         let mut product = difference::answer(number, self.out.slice());
         let mut second = difference::answer(expected, out);
-        let tables = [
-            ("starts", self.starts.slice(), &self.expected_starts),
-            ("depths", self.depths.slice(), &self.expected_depths),
-        ];
+        let tables =
+            [("starts", self.starts.slice(), &self.expected_starts), ("depths", self.depths.slice(), &self.expected_depths)];
         for (table, words, expected) in tables {
             if let Some((one, other)) = difference::first(table, words, expected) {
                 product += &format!(", {table} of {} words: {one}", words.len());
@@ -251,24 +237,14 @@ impl<P: Product> Comparer<P> {
                 product += &format!(", memory beside {table} was written to");
             }
         }
-        let question = format!(
-            "{question} of the file of {}",
-            difference::hex(self.file.slice())
-        );
-        Difference {
-            question,
-            product,
-            second,
-        }
+        let question = format!("{question} of the file of {}", difference::hex(self.file.slice()));
+        Difference { question, product, second }
     }
 
     #[cold]
     fn touched(&self, what: &str, question: String) -> Difference {
         Difference {
-            question: format!(
-                "{question} of the file of {}",
-                difference::hex(self.file.slice())
-            ),
+            question: format!("{question} of the file of {}", difference::hex(self.file.slice())),
             product: format!("{what}, or memory beside it, was written to"),
             second: "left alone".into(),
         }
@@ -292,12 +268,7 @@ impl<P: Product> Comparer<P> {
     /// A call of the writer. Both get the same state, output and table, and leave theirs in `lent`.
     pub fn call(&mut self, lent: &mut Writing, call: Call<'_>) -> Result<u32, Difference> {
         let before = *lent.state();
-        let (answer, next) = make::step(
-            writer(&before),
-            call,
-            &mut lent.second_out,
-            &mut lent.second_starts,
-        );
+        let (answer, next) = make::step(writer(&before), call, &mut lent.second_out, &mut lent.second_starts);
         let expected = answer.map_or_else(|kind| kind.number().into(), |()| 0);
         // A refused call hands back the very same words; an accepted one leaves 0 or 1 for whether it is closed.
         let state = if expected == 0 { words(next) } else { before };
@@ -313,10 +284,8 @@ impl<P: Product> Comparer<P> {
             Call::Bytes(_) => Call::Bytes(argument),
             call => call,
         };
-        let number =
-            lent.with_product(|state, out, starts| self.product.call(state, own, out, starts));
-        let is_guarded =
-            lent.is_guarded() && self.argument.is_guarded() && self.argument.slice() == bytes;
+        let number = lent.with_product(|state, out, starts| self.product.call(state, own, out, starts));
+        let is_guarded = lent.is_guarded() && self.argument.is_guarded() && self.argument.slice() == bytes;
         self.met[expected as usize] += 1;
         if number == expected && *lent.state() == state && lent.is_same() && is_guarded {
             return Ok(number);
@@ -327,9 +296,7 @@ impl<P: Product> Comparer<P> {
             product += &format!(", {one}");
             second += &format!(", {other}");
         }
-        if let Some((one, other)) =
-            difference::first("starts", lent.starts.slice(), &lent.second_starts)
-        {
+        if let Some((one, other)) = difference::first("starts", lent.starts.slice(), &lent.second_starts) {
             product += &format!(", {one}");
             second += &format!(", {other}");
         }
@@ -374,11 +341,7 @@ impl Read {
             Value::Text(body) => Some(body),
             _ => None,
         };
-        Self {
-            items,
-            is_map: matches!(value, Value::Map { .. }),
-            text,
-        }
+        Self { items, is_map: matches!(value, Value::Map { .. }), text }
     }
 }
 
@@ -412,10 +375,7 @@ impl Writing {
 
     /// The state, which is the same for both.
     pub fn state(&self) -> &[u64; STATE] {
-        self.state
-            .slice()
-            .first_chunk()
-            .expect("a state has five words")
+        self.state.slice().first_chunk().expect("a state has five words")
     }
 
     /// Puts another state in.
@@ -431,15 +391,8 @@ impl Writing {
         self.second_starts.resize(words, word);
     }
 
-    fn with_product<T>(
-        &mut self,
-        call: impl FnOnce(&mut [u64; STATE], &mut [u8], &mut [u32]) -> T,
-    ) -> T {
-        call(
-            array(self.state.slice_mut()),
-            self.out.slice_mut(),
-            self.starts.slice_mut(),
-        )
+    fn with_product<T>(&mut self, call: impl FnOnce(&mut [u64; STATE], &mut [u8], &mut [u32]) -> T) -> T {
+        call(array(self.state.slice_mut()), self.out.slice_mut(), self.starts.slice_mut())
     }
 
     fn is_same(&self) -> bool {
@@ -453,24 +406,12 @@ impl Writing {
 
 /// A state of the product as the second program has it: any other word than 0 is closed.
 fn writer(&[written, count, pending, start, closed]: &[u64; STATE]) -> Writer {
-    Writer {
-        written,
-        count,
-        pending,
-        start,
-        closed: closed != 0,
-    }
+    Writer { written, count, pending, start, closed: closed != 0 }
 }
 
 /// A state of the second program as the product has it.
 fn words(writer: Writer) -> [u64; STATE] {
-    let Writer {
-        written,
-        count,
-        pending,
-        start,
-        closed,
-    } = writer;
+    let Writer { written, count, pending, start, closed } = writer;
     [written, count, pending, start, closed.into()]
 }
 
@@ -481,9 +422,7 @@ fn refill(table: &mut Vec<u32>, words: usize) {
 
 /// A slice that was made with this many elements.
 fn array<T, const N: usize>(slice: &mut [T]) -> &mut [T; N] {
-    slice
-        .first_chunk_mut()
-        .expect("the length that was filled in")
+    slice.first_chunk_mut().expect("the length that was filled in")
 }
 
 /// The number and the out array of an answer.
@@ -499,9 +438,7 @@ fn told<T, const N: usize>(answer: Result<T, Error>, out: impl FnOnce(T) -> [u64
 }
 
 fn checked(answer: Result<Checked, Error>) -> Told<2> {
-    told(answer, |Checked { count, entry }| {
-        [count as u64, entry as u64]
-    })
+    told(answer, |Checked { count, entry }| [count as u64, entry as u64])
 }
 
 fn offset(answer: Result<usize, Error>) -> Told<2> {
@@ -524,11 +461,7 @@ fn read(answer: Result<Value, Error>, at: u64, end: Result<usize, Error>) -> Tol
         Value::Tag { tag, first } => [8, tag, first as u64, 1],
         Value::Variant0 { index } => [10, index.into(), end, 0],
         Value::Variant1 { index, first } => [11, index.into(), first as u64, 1],
-        Value::VariantN {
-            index,
-            arguments,
-            first,
-        } => [12, index.into(), first as u64, arguments],
+        Value::VariantN { index, arguments, first } => [12, index.into(), first as u64, arguments],
         Value::Reference { target } => [14, target as u64, end, 0],
         Value::Pointer { target } => [15, target as u64, end, 0],
     })

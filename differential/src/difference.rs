@@ -17,15 +17,8 @@ pub struct Difference {
 
 impl Display for Difference {
     fn fmt(&self, f: &mut fmt::Formatter<'_>) -> fmt::Result {
-        let Self {
-            question,
-            product,
-            second,
-        } = self;
-        write!(
-            f,
-            "{question}\n  libtwine.a: {product}\n  second:     {second}"
-        )
+        let Self { question, product, second } = self;
+        write!(f, "{question}\n  libtwine.a: {product}\n  second:     {second}")
     }
 }
 
@@ -48,11 +41,8 @@ pub fn answer(number: u32, out: &[u64]) -> String {
 pub fn hex(bytes: &[u8]) -> String {
     const SHOWN: usize = 4096;
     let mut text = format!("{} bytes", bytes.len());
-    let (first, last) = if bytes.len() <= SHOWN {
-        (bytes, &[][..])
-    } else {
-        (&bytes[..SHOWN / 2], &bytes[bytes.len() - SHOWN / 2..])
-    };
+    let (first, last) =
+        if bytes.len() <= SHOWN { (bytes, &[][..]) } else { (&bytes[..SHOWN / 2], &bytes[bytes.len() - SHOWN / 2..]) };
     for (index, byte) in first.iter().enumerate() {
         // Writing to a string does not fail.
         let _ = write!(text, "{} {byte:02x}", if index == 0 { ":" } else { "" });
@@ -67,15 +57,8 @@ pub fn hex(bytes: &[u8]) -> String {
 }
 
 /// The first element in which two slices of one length differ, as it is printed of each.
-pub fn first<T: PartialEq + Debug>(
-    what: &str,
-    product: &[T],
-    second: &[T],
-) -> Option<(String, String)> {
-    let index = product
-        .iter()
-        .zip(second)
-        .position(|(one, other)| one != other)?;
+pub fn first<T: PartialEq + Debug>(what: &str, product: &[T], second: &[T]) -> Option<(String, String)> {
+    let index = product.iter().zip(second).position(|(one, other)| one != other)?;
     let told = |slice: &[T]| format!("{what}[{index}] = {:?}", slice[index]);
     Some((told(product), told(second)))
 }
@@ -87,10 +70,7 @@ mod tests {
     #[test]
     fn names() {
         let past = ErrorKind::ALL.len() as u32 + 1;
-        assert_eq!(
-            ["OK", "EMPTY", "BAD_TARGET", "no error's number"],
-            [0, 1, 9, past].map(name)
-        );
+        assert_eq!(["OK", "EMPTY", "BAD_TARGET", "no error's number"], [0, 1, 9, past].map(name));
     }
 
     #[test]

@@ -62,13 +62,7 @@ impl Product for Fault {
         }
     }
 
-    fn depths(
-        &self,
-        file: &[u8],
-        starts: &mut [u32],
-        depths: &mut [u32],
-        out: &mut [u64; 2],
-    ) -> u32 {
+    fn depths(&self, file: &[u8], starts: &mut [u32], depths: &mut [u32], out: &mut [u64; 2]) -> u32 {
         let number = ffi::depths(file, starts, depths, out);
         if *self == Self::Depth && number == 0 {
             depths[out[0] as usize - 1] += 1;
@@ -86,11 +80,7 @@ impl Product for Fault {
     }
 
     fn item(&self, file: &[u8], at: usize, index: usize, out: &mut [u64; 2]) -> u32 {
-        let index = if *self == Self::Index {
-            index as u32 as usize
-        } else {
-            index
-        };
+        let index = if *self == Self::Index { index as u32 as usize } else { index };
         ffi::item(file, at, index, out)
     }
 
@@ -102,13 +92,7 @@ impl Product for Fault {
         ffi::lookup(file, at, key, out)
     }
 
-    fn call(
-        &self,
-        state: &mut [u64; STATE],
-        call: Call<'_>,
-        out: &mut [u8],
-        starts: &mut [u32],
-    ) -> u32 {
+    fn call(&self, state: &mut [u64; STATE], call: Call<'_>, out: &mut [u8], starts: &mut [u32]) -> u32 {
         if *self == Self::Listed && state[1] < starts.len() as u64 {
             state[1] += 1;
             let number = ffi::call(state, call, out, starts);
@@ -130,18 +114,8 @@ impl Product for Fault {
 }
 
 /// Runs a section, or one case of it.
-fn run_only<P: Product>(
-    product: P,
-    section: &str,
-    seconds: u64,
-    case: Option<u64>,
-) -> Result<(), Failed> {
-    let options = Options {
-        seed: 1,
-        time: Duration::from_secs(seconds),
-        only: Some(section.into()),
-        case,
-    };
+fn run_only<P: Product>(product: P, section: &str, seconds: u64, case: Option<u64>) -> Result<(), Failed> {
+    let options = Options { seed: 1, time: Duration::from_secs(seconds), only: Some(section.into()), case };
     run(product, &options)
 }
 
@@ -164,11 +138,7 @@ fn every_fault_is_found_and_found_again() {
         let Err(Failed { case }) = run_only(fault, section, 30, None) else {
             panic!("{fault:?} is not found");
         };
-        assert_eq!(
-            run_only(fault, section, 30, Some(case)),
-            Err(Failed { case }),
-            "{fault:?}"
-        );
+        assert_eq!(run_only(fault, section, 30, Some(case)), Err(Failed { case }), "{fault:?}");
     }
 }
 

@@ -16,10 +16,7 @@ pub struct Lent<T> {
 impl<T: Copy + PartialEq + Debug> Lent<T> {
     /// No elements, between guards of this element.
     pub fn new(guard: T) -> Self {
-        Self {
-            guard,
-            elements: vec![guard; 2 * GUARD],
-        }
+        Self { guard, elements: vec![guard; 2 * GUARD] }
     }
 
     /// Makes it `length` times this element.
@@ -35,8 +32,7 @@ impl<T: Copy + PartialEq + Debug> Lent<T> {
         self.elements.clear();
         self.elements.resize(GUARD, self.guard);
         self.elements.extend_from_slice(slice);
-        self.elements
-            .resize(GUARD + slice.len() + GUARD, self.guard);
+        self.elements.resize(GUARD + slice.len() + GUARD, self.guard);
     }
 
     /// Makes it shorter, or longer by this element.
@@ -70,10 +66,7 @@ impl<T: Copy + PartialEq + Debug> Lent<T> {
     pub fn is_guarded(&self) -> bool {
         let (before, rest) = self.elements.split_at(GUARD);
         let behind = &rest[rest.len() - GUARD..];
-        before
-            .iter()
-            .chain(behind)
-            .all(|element| *element == self.guard)
+        before.iter().chain(behind).all(|element| *element == self.guard)
     }
 }
 

@@ -53,14 +53,8 @@ fn run<P: Product>(product: P, options: &Options) -> Result<(), Failed> {
     println!("seed {}; version {} of the C interface", options.seed, ffi::version());
     let mut comparer = Comparer::new(product);
     let sections = sections::all().into_iter();
-    let sections: Vec<Section<P>> = sections
-        .filter(|section| {
-            options
-                .only
-                .as_deref()
-                .is_none_or(|only| only == section.name)
-        })
-        .collect();
+    let sections: Vec<Section<P>> =
+        sections.filter(|section| options.only.as_deref().is_none_or(|only| only == section.name)).collect();
     let end = Instant::now() + options.time;
     let mut shares: u32 = sections.iter().map(|section| section.share).sum();
     for section in &sections {
@@ -73,16 +67,10 @@ fn run<P: Product>(product: P, options: &Options) -> Result<(), Failed> {
             Some(all) if all > cases && options.case.is_none() => format!(" of {all}"),
             _ => String::new(),
         };
-        println!(
-            "{:8} {cases}{of} cases, {:.1} s",
-            section.name,
-            begin.elapsed().as_secs_f64()
-        );
+        println!("{:8} {cases}{of} cases, {:.1} s", section.name, begin.elapsed().as_secs_f64());
     }
-    let met: Vec<String> = (0..)
-        .zip(comparer.met)
-        .map(|(number, times)| format!("{} {times}", difference::name(number)))
-        .collect();
+    let met: Vec<String> =
+        (0..).zip(comparer.met).map(|(number, times)| format!("{} {times}", difference::name(number))).collect();
     println!("answers: {}", met.join(", "));
     Ok(())
 }
@@ -94,20 +82,11 @@ fn run_section<P: Product>(
     options: &Options,
     end: Instant,
 ) -> Result<u64, Failed> {
-    let Options {
-        seed, case: only, ..
-    } = *options;
-    let mut repeat = Repeat {
-        seed,
-        section: section.name,
-        case: only.unwrap_or(0),
-    };
+    let Options { seed, case: only, .. } = *options;
+    let mut repeat = Repeat { seed, section: section.name, case: only.unwrap_or(0) };
     let first = repeat.case;
     loop {
-        let case = Case {
-            number: repeat.case,
-            random: Random::new(seed, section.name, repeat.case),
-        };
+        let case = Case { number: repeat.case, random: Random::new(seed, section.name, repeat.case) };
         if let Err(difference) = (section.run)(comparer, case) {
             println!("DIFFERENT: {difference}");
             repeat.print();
@@ -131,11 +110,7 @@ struct Repeat {
 
 impl Repeat {
     fn print(&self) {
-        let Self {
-            seed,
-            section,
-            case,
-        } = self;
+        let Self { seed, section, case } = self;
         println!("to repeat it: cargo run --release --offline -- --seed {seed} --only {section} --case {case}");
     }
 }

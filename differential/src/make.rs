@@ -22,10 +22,7 @@ const ODD_TEXTS: [&[u8]; 12] = [
     &[0xf0, 0x80, 0x80, 0x80],
     &[0xf4, 0xbf, 0xbf, 0xbf],
     &[0xf5, 0x80, 0x80, 0x80],
-    &[
-        b'0', b'1', b'2', b'3', b'4', b'5', b'6', b'7', b'8', b'9', b'0', b'1', b'2', b'3', b'4',
-        b'5', 0x80,
-    ],
+    &[b'0', b'1', b'2', b'3', b'4', b'5', b'6', b'7', b'8', b'9', b'0', b'1', b'2', b'3', b'4', b'5', 0x80],
 ];
 
 /// Byte strings are cut from these.
@@ -125,12 +122,7 @@ pub fn call(random: &mut Random, starts: &[u32], is_open: bool) -> Call<'static>
 
 /// A call of the second program's writer, which would be compiled anew, and slowly, at each place where it is made.
 #[inline(never)]
-pub fn step(
-    writer: Writer,
-    call: Call<'_>,
-    out: &mut [u8],
-    starts: &mut [u32],
-) -> (Result<(), ErrorKind>, Writer) {
+pub fn step(writer: Writer, call: Call<'_>, out: &mut [u8], starts: &mut [u32]) -> (Result<(), ErrorKind>, Writer) {
     writer.step(call, out, starts)
 }
 
@@ -184,12 +176,7 @@ struct Builder<'r> {
 /// A file of about `length` bytes, built byte by byte. One in `odd` tokens is odd, most of them not well-formed; none if `odd`
 /// is 0.
 pub fn built(random: &mut Random, length: usize, odd: u64) -> Vec<u8> {
-    let mut builder = Builder {
-        random,
-        bytes: Vec::new(),
-        starts: Vec::new(),
-        odd,
-    };
+    let mut builder = Builder { random, bytes: Vec::new(), starts: Vec::new(), odd };
     while builder.bytes.len() < length.max(1) {
         builder.value();
     }
@@ -241,9 +228,7 @@ impl Builder<'_> {
 
     fn value(&mut self) {
         let start = self.bytes.len();
-        let kind = self
-            .random
-            .pick(&[0, 1, 2, 3, 4, 5, 6, 6, 7, 7, 8, 10, 11, 12, 14, 15]);
+        let kind = self.random.pick(&[0, 1, 2, 3, 4, 5, 6, 6, 7, 7, 8, 10, 11, 12, 14, 15]);
         match kind {
             6 => {
                 let items = self.random.below(20);
@@ -282,11 +267,7 @@ impl Builder<'_> {
     }
 
     fn items(&mut self, count: u64) {
-        let count = if self.is_odd() {
-            self.random.below(count + 2)
-        } else {
-            count
-        };
+        let count = if self.is_odd() { self.random.below(count + 2) } else { count };
         for _ in 0..count {
             self.item();
         }
@@ -303,9 +284,7 @@ impl Builder<'_> {
 
     fn immediate(&mut self, kind: u8) {
         if self.is_odd() {
-            let header = self
-                .random
-                .pick(&[0x03, 0x0f, 0x32, 0x3f, 0x90, 0x9f, 0xd0, 0xdf]);
+            let header = self.random.pick(&[0x03, 0x0f, 0x32, 0x3f, 0x90, 0x9f, 0xd0, 0xdf]);
             return self.bytes.push(header);
         }
         match kind {
@@ -324,17 +303,9 @@ impl Builder<'_> {
                 self.bytes.extend(&bits[..4 + 4 * usize::from(low)]);
             }
             4 | 5 => {
-                let body = if kind == 5 {
-                    bytes(self.random)
-                } else {
-                    text(self.random)
-                };
+                let body = if kind == 5 { bytes(self.random) } else { text(self.random) };
                 let is_well_formed = kind == 5 || std::str::from_utf8(body).is_ok();
-                let body = if is_well_formed || self.odd > 0 {
-                    body
-                } else {
-                    b"key"
-                };
+                let body = if is_well_formed || self.odd > 0 { body } else { b"key" };
                 self.head(kind, body.len() as u64);
                 self.bytes.extend(body);
             }
@@ -346,11 +317,7 @@ impl Builder<'_> {
                 let near = self.starts.len().min(self.random.pick(&[2, 9, usize::MAX]));
                 let start = self.starts[self.starts.len() - 1 - self.random.index(near)];
                 let distance = (self.bytes.len() - start - 1) as u64;
-                let distance = if self.is_odd() {
-                    self.random.number()
-                } else {
-                    distance
-                };
+                let distance = if self.is_odd() { self.random.number() } else { distance };
                 self.head(kind, distance);
             }
             _ => self.bytes.push(0x10),
@@ -360,11 +327,7 @@ impl Builder<'_> {
     /// The delta byte, of a value that it reaches.
     fn finish(mut self) -> Vec<u8> {
         let end = self.bytes.len();
-        let reached = self
-            .starts
-            .iter()
-            .filter(|start| end - **start <= 256)
-            .count();
+        let reached = self.starts.iter().filter(|start| end - **start <= 256).count();
         let delta = if reached == 0 {
             self.random.next() as u8
         } else {
@@ -406,15 +369,7 @@ fn damage(random: &mut Random, file: &mut Vec<u8>) {
             let at = random.index(file.len() + 1);
             file.splice(at..at, part);
         }
-        8 => {
-            file[last] = random.pick(&[
-                0,
-                1,
-                file[last].wrapping_add(1),
-                file[last].wrapping_sub(1),
-                0xff,
-            ])
-        }
+        8 => file[last] = random.pick(&[0, 1, file[last].wrapping_add(1), file[last].wrapping_sub(1), 0xff]),
         9 => {
             // A number behind a header of low 15 is padded.
             let header = file.iter().skip(place).position(|byte| byte & 15 == 15);
@@ -456,10 +411,7 @@ mod tests {
             let file = built(&mut random, length.min(40), 0);
             let answer = reference::check(&file, &mut vec![0; file.len()]);
             let kind = answer.map_err(|error| error.kind);
-            assert!(
-                matches!(kind, Ok(_) | Err(reference::ErrorKind::BadEntry)),
-                "built {case}: {kind:?}"
-            );
+            assert!(matches!(kind, Ok(_) | Err(reference::ErrorKind::BadEntry)), "built {case}: {kind:?}");
         }
     }
 
@@ -472,11 +424,6 @@ mod tests {
             accepted[0] += u32::from(is_accepted(&damaged(&mut random, &file)));
             accepted[1] += u32::from(is_accepted(&built(&mut random, 60, 20)));
         }
-        assert!(
-            accepted
-                .iter()
-                .all(|accepted| (20..1500).contains(accepted)),
-            "{accepted:?}"
-        );
+        assert!(accepted.iter().all(|accepted| (20..1500).contains(accepted)), "{accepted:?}");
     }
 }

@@ -16,9 +16,7 @@ Compares libtwine.a with the second program; the exit status is 1 at the first d
 ";
 
 /// The names of the sections.
-const SECTIONS: [&str; 9] = [
-    "names", "short", "written", "built", "damaged", "calls", "states", "edge", "long",
-];
+const SECTIONS: [&str; 9] = ["names", "short", "written", "built", "damaged", "calls", "states", "edge", "long"];
 
 /// What to compare.
 #[derive(Clone, Debug, PartialEq, Eq)]
@@ -45,28 +43,16 @@ pub enum Parsed {
 impl Options {
     /// Reads a command line.
     pub fn parse(mut arguments: impl Iterator<Item = String>) -> Result<Parsed, String> {
-        let mut options = Self {
-            seed: 1,
-            time: Duration::from_secs(100),
-            only: None,
-            case: None,
-        };
+        let mut options = Self { seed: 1, time: Duration::from_secs(100), only: None, case: None };
         while let Some(option) = arguments.next() {
             if matches!(option.as_str(), "--help" | "-h") {
                 return Ok(Parsed::Help);
             }
-            let value = arguments
-                .next()
-                .ok_or(format!("{option} wants a value, or is unknown; see --help"))?;
-            let number = || {
-                value
-                    .parse::<u64>()
-                    .map_err(|_| format!("{option}: no number: {value}"))
-            };
+            let value = arguments.next().ok_or(format!("{option} wants a value, or is unknown; see --help"))?;
+            let number = || value.parse::<u64>().map_err(|_| format!("{option}: no number: {value}"));
             let time = |unit: f64| {
                 let number = value.parse::<f64>().ok();
-                let time =
-                    number.and_then(|number| Duration::try_from_secs_f64(number * unit).ok());
+                let time = number.and_then(|number| Duration::try_from_secs_f64(number * unit).ok());
                 time.ok_or(format!("{option}: no time: {value}"))
             };
             match option.as_str() {
@@ -98,26 +84,10 @@ mod tests {
 
     #[test]
     fn lines() {
-        let options = Options {
-            seed: 7,
-            time: Duration::from_secs(90),
-            only: Some("calls".into()),
-            case: Some(3),
-        };
-        assert_eq!(
-            parse("--seed 7 --minutes 1.5 --only calls --case 3"),
-            Ok(Parsed::Run(options))
-        );
+        let options = Options { seed: 7, time: Duration::from_secs(90), only: Some("calls".into()), case: Some(3) };
+        assert_eq!(parse("--seed 7 --minutes 1.5 --only calls --case 3"), Ok(Parsed::Run(options)));
         assert_eq!(parse("--seed 1 --help"), Ok(Parsed::Help));
-        for wrong in [
-            "--seed",
-            "--seed x",
-            "--only x",
-            "--case 3",
-            "--seconds -1",
-            "--minutes nan",
-            "x 1",
-        ] {
+        for wrong in ["--seed", "--seed x", "--only x", "--case 3", "--seconds -1", "--minutes nan", "x 1"] {
             assert!(parse(wrong).is_err(), "{wrong}");
         }
     }

@@ -16,13 +16,7 @@ pub trait Product {
     }
 
     /// `twine_depths`.
-    fn depths(
-        &self,
-        file: &[u8],
-        starts: &mut [u32],
-        depths: &mut [u32],
-        out: &mut [u64; 2],
-    ) -> u32 {
+    fn depths(&self, file: &[u8], starts: &mut [u32], depths: &mut [u32], out: &mut [u64; 2]) -> u32 {
         ffi::depths(file, starts, depths, out)
     }
 
@@ -62,13 +56,7 @@ pub trait Product {
     }
 
     /// The function of the writer for a call.
-    fn call(
-        &self,
-        state: &mut [u64; STATE],
-        call: Call<'_>,
-        out: &mut [u8],
-        starts: &mut [u32],
-    ) -> u32 {
+    fn call(&self, state: &mut [u64; STATE], call: Call<'_>, out: &mut [u8], starts: &mut [u32]) -> u32 {
         ffi::call(state, call, out, starts)
     }
 }

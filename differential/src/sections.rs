@@ -39,23 +39,10 @@ const SHORT: u64 = 1 + (1 << 8) + (1 << 16) + (1 << 24);
 
 /// All sections in their order.
 pub fn all<P: Product>() -> [Section<P>; 9] {
-    let section = |name, share, run| Section {
-        name,
-        cases: None,
-        share,
-        stride: 1,
-        run,
-    };
+    let section = |name, share, run| Section { name, cases: None, share, stride: 1, run };
     [
-        Section {
-            cases: Some(40),
-            ..section("names", 1, names)
-        },
-        Section {
-            cases: Some(SHORT),
-            stride: 1 << 12,
-            ..section("short", 60, short)
-        },
+        Section { cases: Some(40), ..section("names", 1, names) },
+        Section { cases: Some(SHORT), stride: 1 << 12, ..section("short", 60, short) },
         section("written", 15, written),
         section("built", 15, built),
         section("damaged", 20, damaged),
@@ -143,11 +130,7 @@ fn small_or_not(random: &mut Random, make: impl FnOnce(&mut Random, usize) -> Ve
 }
 
 /// Check and depths with tables of many lengths, and queries at many offsets: all of them, if the file is small.
-fn whole<P: Product>(
-    comparer: &mut Comparer<P>,
-    random: &mut Random,
-    file: &[u8],
-) -> Result<(), Difference> {
+fn whole<P: Product>(comparer: &mut Comparer<P>, random: &mut Random, file: &[u8]) -> Result<(), Difference> {
     let guard = random.pick(&[0x00, 0x10, 0x41, 0x80, 0xf0, 0xff]);
     comparer.of_file(file, guard, |comparer| {
         let count = comparer.check(file.len())?;
@@ -157,11 +140,7 @@ fn whole<P: Product>(
 }
 
 /// Check and depths with tables from no words to two more than `count`; where those are many, with some of them.
-fn tables<P: Product>(
-    comparer: &mut Comparer<P>,
-    random: &mut Random,
-    count: usize,
-) -> Result<(), Difference> {
+fn tables<P: Product>(comparer: &mut Comparer<P>, random: &mut Random, count: usize) -> Result<(), Difference> {
     if count <= 8 {
         for words in 0..=count + 2 {
             comparer.check(words)?;
@@ -170,22 +149,10 @@ fn tables<P: Product>(
         }
         return Ok(());
     }
-    for words in [
-        0,
-        random.index(count),
-        count - 1,
-        count,
-        count + 1,
-        count + 2,
-    ] {
+    for words in [0, random.index(count), count - 1, count, count + 1, count + 2] {
         comparer.check(words)?;
     }
-    for [words, words2] in [
-        [count, count],
-        [count, count - 1],
-        [count - 1, count],
-        [count + 9, count + 2],
-    ] {
+    for [words, words2] in [[count, count], [count, count - 1], [count - 1, count], [count + 9, count + 2]] {
         comparer.depths(words, words2)?;
     }
     comparer.depths(random.index(count + 2), random.index(count + 2))?;
@@ -193,29 +160,15 @@ fn tables<P: Product>(
 }
 
 /// The queries at offsets of a file: at all of them and behind them if it is small, else at some.
-fn offsets<P: Product>(
-    comparer: &mut Comparer<P>,
-    random: &mut Random,
-    file: &[u8],
-    some: usize,
-) -> Result<(), Difference> {
+fn offsets<P: Product>(comparer: &mut Comparer<P>, random: &mut Random, file: &[u8], some: usize) -> Result<(), Difference> {
     let length = file.len() as u64;
     let mut offsets: Vec<u64> = if length <= 100 {
         (0..=length + 1).collect()
     } else {
-        (0..some)
-            .map(|_| random.below(length))
-            .chain([0, length - 2, length - 1, length])
-            .collect()
+        (0..some).map(|_| random.below(length)).chain([0, length - 2, length - 1, length]).collect()
     };
     let any = random.number();
-    offsets.extend([
-        u64::MAX,
-        1 << 63,
-        1 << 32,
-        (1 << 32) + random.below(length + 1),
-        any,
-    ]);
+    offsets.extend([u64::MAX, 1 << 63, 1 << 32, (1 << 32) + random.below(length + 1), any]);
 
     let mut texts: Vec<&[u8]> = Vec::new();
     for &at in &offsets {
@@ -231,17 +184,11 @@ fn offsets<P: Product>(
         texts.push(&text[..text.len() - 1]);
     }
     texts.extend([&b""[..], b"absent"]);
-    offsets
-        .into_iter()
-        .try_for_each(|at| queries(comparer, at, &texts))
+    offsets.into_iter().try_for_each(|at| queries(comparer, at, &texts))
 }
 
 /// All queries at an offset; a lookup for each of the keys if there is a map.
-fn queries<P: Product>(
-    comparer: &mut Comparer<P>,
-    at: u64,
-    keys: &[&[u8]],
-) -> Result<(), Difference> {
+fn queries<P: Product>(comparer: &mut Comparer<P>, at: u64, keys: &[&[u8]]) -> Result<(), Difference> {
     let read = comparer.read(at)?;
     comparer.skip(at)?;
     comparer.follow(at)?;
@@ -261,9 +208,7 @@ fn queries<P: Product>(
     }
     let is_map = read.is_some_and(|read| read.is_map);
     let asked = if is_map { keys.len() } else { 1 };
-    keys.iter()
-        .take(asked)
-        .try_for_each(|key| comparer.lookup(at, key))
+    keys.iter().take(asked).try_for_each(|key| comparer.lookup(at, key))
 }
 
 /// Files of up to 16,777,217 bytes.
@@ -360,11 +305,7 @@ fn calls<P: Product>(comparer: &mut Comparer<P>, mut case: Case) -> Result<(), D
     let length = random.pick(&[0, 1, 2, 3, 9, 40, 300, 600, 900]);
     let length = length + random.index(1 + length / 2);
     let words = random.pick(&[0, 1, 2, 9, length, length]) + random.index(3);
-    let mut lent = Writing::new(
-        comparer.writer_new()?,
-        &junk(random, length),
-        &listed(random, length, words),
-    );
+    let mut lent = Writing::new(comparer.writer_new()?, &junk(random, length), &listed(random, length, words));
     let mut model = Model::new(length, words);
     let number = random.index(60);
     for index in 0..number + 8 {
@@ -380,25 +321,13 @@ fn calls<P: Product>(comparer: &mut Comparer<P>, mut case: Case) -> Result<(), D
             (false, _) => Call::Scalar(Scalar::Null),
         };
         let answer = comparer.call(&mut lent, call)?;
-        let told = model
-            .call(call)
-            .map_or_else(|kind| kind.number().into(), |()| 0_u32);
+        let told = model.call(call).map_or_else(|kind| kind.number().into(), |()| 0_u32);
         let is_last = index + 1 == number + 8;
         if answer != told || ((is_last || random.one_in(8)) && !is_in(&model, &lent)) {
-            let product = format!(
-                "{} {:?}",
-                difference::answer(answer, lent.state()),
-                lent.out.slice()
-            );
-            let question = format!(
-                "{call:?}, call {index} of a new writer with {length} bytes and {words} words"
-            );
+            let product = format!("{} {:?}", difference::answer(answer, lent.state()), lent.out.slice());
+            let question = format!("{call:?}, call {index} of a new writer with {length} bytes and {words} words");
             let second = format!("{} {model:?}", difference::answer(told, &[]));
-            return Err(Difference {
-                question,
-                product,
-                second,
-            });
+            return Err(Difference { question, product, second });
         }
     }
     let &[written, count, _, _, closed] = lent.state();
@@ -422,9 +351,7 @@ fn calls<P: Product>(comparer: &mut Comparer<P>, mut case: Case) -> Result<(), D
 /// Whether a model has what a writer has left.
 fn is_in(model: &Model, lent: &Writing) -> bool {
     let &[written, count, pending, _, closed] = lent.state();
-    let starts = lent.starts.slice()[..count as usize]
-        .iter()
-        .map(|start| u64::from(*start));
+    let starts = lent.starts.slice()[..count as usize].iter().map(|start| u64::from(*start));
     model.bytes() == lent.out.slice()[..written as usize]
         && model.starts().into_iter().eq(starts)
         && model.owed() == u128::from(pending)
@@ -484,13 +411,7 @@ fn edge<P: Product>(comparer: &mut Comparer<P>, mut case: Case) -> Result<(), Di
         }
         let pending = random.pick(&[0, 0, 0, 1, 2, 3, u64::MAX]);
         let start = written - random.pick(&[0, 1, 1, 1, 2, 3]);
-        lent.set_state([
-            written,
-            random.below(5),
-            pending,
-            start,
-            random.pick(&[0, 0, 0, 0, 0, 7]),
-        ]);
+        lent.set_state([written, random.below(5), pending, start, random.pick(&[0, 0, 0, 0, 0, 7])]);
         let call = make::call(random, &starts, pending > 0);
         comparer.call(&mut lent, call)?;
     }
@@ -535,11 +456,7 @@ fn junk(random: &mut Random, length: usize) -> Vec<u8> {
 /// A table of offsets: in rising order, in any order, with some repeated, or of any words.
 fn listed(random: &mut Random, length: usize, words: usize) -> Vec<u32> {
     let order = random.below(5);
-    let bound = if order == 0 {
-        length as u64 / 8 + 1
-    } else {
-        length as u64 + 2
-    };
+    let bound = if order == 0 { length as u64 / 8 + 1 } else { length as u64 + 2 };
     let mut starts: Vec<u32> = (0..words).map(|_| random.below(bound) as u32).collect();
     match order {
         1 | 2 => starts.sort_unstable(),

@@ -81,11 +81,7 @@ mod tests {
         accepted("21 00", 0, &[0]);
         accepted("2f 0b 01", 0, &[0]);
         accepted("31 00 00 00 00 00 40 45 40 08", 0, &[0]);
-        accepted(
-            "4f 02 68 65 6c 6c 6f 20 77 6f 72 6c 64 21 20 f0 9f 98 81 12",
-            0,
-            &[0],
-        );
+        accepted("4f 02 68 65 6c 6c 6f 20 77 6f 72 6c 64 21 20 f0 9f 98 81 12", 0, &[0]);
         accepted("61 1f 1b 64 f3 11 12 13 07", 0, &[0, 3]);
         accepted("72 41 61 1f 1b 41 62 00 07", 0, &[0]);
         accepted("1f 1b e1 02", 0, &[0, 2]);
@@ -270,10 +266,7 @@ mod tests {
         let answer = check(&file, &mut starts);
         let (count, entry) = (MAX_LEN - 1, MAX_LEN - 2);
         assert_eq!(answer, Ok(Checked { count, entry }));
-        assert!(starts[..count]
-            .iter()
-            .zip(0..)
-            .all(|(&word, start)| word == start));
+        assert!(starts[..count].iter().zip(0..).all(|(&word, start)| word == start));
         assert_eq!(starts[count], 0);
     }
 }

@@ -9,10 +9,7 @@ use crate::scan::{scan, Checked, Note};
 /// (place: the start of the first value without a word). Accepted: one depth a value, the rest 0. Refused: both tables all
 /// 0."
 pub fn depths(file: &[u8], starts: &mut [u32], depths: &mut [u32]) -> Result<Checked, Error> {
-    let mut note = Depths {
-        words: depths,
-        deepest: 0,
-    };
+    let mut note = Depths { words: depths, deepest: 0 };
     let answer = scan(file, starts, &mut note).and_then(|checked| {
         if checked.count > depths.len() {
             Err(ErrorKind::Full.at(starts[depths.len()] as usize))
@@ -80,10 +77,7 @@ mod tests {
         assert_eq!(told([2, 2], "10 62 e1 f2 02"), Ok(vec![1, 2]));
         assert_eq!(told([4, 4], "10 f0 62 f1 f3 f2 00"), Ok(vec![1, 2, 3, 4]));
         assert_eq!(told([4, 4], "10 f0 f1 62 f1 f3 02"), Ok(vec![1, 2, 2, 3]));
-        assert_eq!(
-            told([5, 5], "10 71 e1 f2 80 f4 b0 e6 c0 02 10 f9 03"),
-            Ok(vec![1, 2, 2, 2, 3])
-        );
+        assert_eq!(told([5, 5], "10 71 e1 f2 80 f4 b0 e6 c0 02 10 f9 03"), Ok(vec![1, 2, 2, 2, 3]));
     }
 
     #[test]

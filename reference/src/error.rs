@@ -101,10 +101,7 @@ impl ErrorKind {
 
     /// The refusal at an offset of the file.
     pub(crate) const fn at(self, offset: usize) -> Error {
-        Error {
-            kind: self,
-            place: offset as u64,
-        }
+        Error { kind: self, place: offset as u64 }
     }
 }
 

@@ -83,12 +83,7 @@ pub(crate) static KINDS: [Kind; 16] = {
     const INTEGER: u64 = i64::MAX as u64;
     const INDEX: u64 = u32::MAX as u64;
     const fn kind(reserved_from: u8, most: u64, body: Body, immediate: bool) -> Kind {
-        Kind {
-            reserved_from,
-            most,
-            body,
-            immediate,
-        }
+        Kind { reserved_from, most, body, immediate }
     }
     [
         kind(3, 2, Body::None, true),
@@ -181,12 +176,7 @@ const fn header(byte: u8) -> Header {
         Body::Arguments => (Class::Arguments, 0, 0),
     };
     let text = if high == TEXT && !long { low } else { 0 };
-    Header {
-        class,
-        size,
-        text,
-        items,
-    }
+    Header { class, size, text, items }
 }
 
 #[cfg(test)]
@@ -201,9 +191,7 @@ mod tests {
 
     #[test]
     fn reserved_headers() {
-        let reserved = (0..=255u8)
-            .filter(|byte| byte & 15 >= KINDS[usize::from(byte >> 4)].reserved_from)
-            .count();
+        let reserved = (0..=255u8).filter(|byte| byte & 15 >= KINDS[usize::from(byte >> 4)].reserved_from).count();
         assert_eq!(reserved, 13 + 14 + 16 + 16);
         assert_eq!(HEADERS[0x03].class, Class::Other);
         assert_eq!(HEADERS[0x32].class, Class::Other);

@@ -34,8 +34,7 @@ pub(crate) fn read_short(region: &[u8], at: usize) -> Option<(u32, usize)> {
     if own >> (bits - 8) == 0 {
         return None;
     }
-    let number =
-        own & 0x7f | (own & 0x7f00) >> 1 | (own & 0x007f_0000) >> 2 | (own & 0x7f00_0000) >> 3;
+    let number = own & 0x7f | (own & 0x7f00) >> 1 | (own & 0x007f_0000) >> 2 | (own & 0x7f00_0000) >> 3;
     Some((number, at + bits as usize / 8))
 }
 

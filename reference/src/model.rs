@@ -55,13 +55,7 @@ impl Model {
     /// A model without bytes, starts, owed items or close, for an output and a table of these lengths.
     #[must_use]
     pub fn new(output: usize, table: usize) -> Self {
-        Self {
-            output,
-            table,
-            finished: Vec::new(),
-            open: None,
-            delta: None,
-        }
+        Self { output, table, finished: Vec::new(), open: None, delta: None }
     }
 
     /// "The bytes are the values' in order, in the row's form, an open one's as far as it got, then the delta."
@@ -128,11 +122,7 @@ impl Model {
         if owed == 0 {
             self.require_word()?;
         }
-        let owed_after = if token.is_opening() {
-            token.items()
-        } else {
-            owed.saturating_sub(1)
-        };
+        let owed_after = if token.is_opening() { token.items() } else { owed.saturating_sub(1) };
         self.require_room(&token, owed_after)?;
 
         let value = match self.open.take() {
@@ -140,10 +130,7 @@ impl Model {
                 value.items.push(token);
                 value
             }
-            None => Value {
-                head: token,
-                items: Vec::new(),
-            },
+            None => Value { head: token, items: Vec::new() },
         };
         if value.owed() > 0 {
             self.open = Some(value);
@@ -171,10 +158,7 @@ impl Model {
             self.require_word()?;
             self.require_room(&pointer, 0)?;
             let size = pointer.bytes(written as usize).len();
-            self.finished.push(Value {
-                head: pointer,
-                items: Vec::new(),
-            });
+            self.finished.push(Value { head: pointer, items: Vec::new() });
             self.delta = Some((size - 1) as u8);
         }
         Ok(())
@@ -252,10 +236,7 @@ impl Token {
     }
 
     fn is_opening(&self) -> bool {
-        matches!(
-            self,
-            Self::Array(_) | Self::Map(_) | Self::Tag(_) | Self::Variant1(_) | Self::VariantN(..)
-        )
+        matches!(self, Self::Array(_) | Self::Map(_) | Self::Tag(_) | Self::Variant1(_) | Self::VariantN(..))
     }
 
     /// The items that it owes when it is written.
@@ -284,9 +265,7 @@ impl Token {
             Self::Tag(tag) => header(8, (*tag).into()),
             Self::Variant0(index) => header(10, (*index).into()),
             Self::Variant1(index) => header(11, (*index).into()),
-            Self::VariantN(index, arguments) => {
-                [header(12, (*index).into()), number((*arguments).into())].concat()
-            }
+            Self::VariantN(index, arguments) => [header(12, (*index).into()), number((*arguments).into())].concat(),
             Self::Reference(target) => header(14, at as u128 - u128::from(*target) - 1),
             Self::Pointer(target) => header(15, at as u128 - u128::from(*target) - 1),
         }

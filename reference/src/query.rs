@@ -5,8 +5,7 @@
 use crate::error::{Error, ErrorKind};
 use crate::file;
 use crate::kind::{
-    Scalar, ARRAY, BYTES, FLOAT, MAP, NEGATIVE, POINTER, POSITIVE, SCALAR, TAG, TEXT, VARIANT0,
-    VARIANT1, VARIANT_N,
+    Scalar, ARRAY, BYTES, FLOAT, MAP, NEGATIVE, POINTER, POSITIVE, SCALAR, TAG, TEXT, VARIANT0, VARIANT1, VARIANT_N,
 };
 use crate::token::{self, Token};
 
@@ -102,10 +101,7 @@ fn asked(file: &[u8], at: u64) -> Result<(&[u8], usize), Error> {
     let (region, _) = file::split(file)?;
     match usize::try_from(at) {
         Ok(offset) if offset < region.len() => Ok((region, offset)),
-        _ => Err(Error {
-            kind: ErrorKind::Outside,
-            place: at,
-        }),
+        _ => Err(Error { kind: ErrorKind::Outside, place: at }),
     }
 }
 
@@ -120,10 +116,7 @@ pub fn read(file: &[u8], at: u64) -> Result<Value, Error> {
 
 fn value(region: &[u8], token: Token) -> Value {
     let first = token.first;
-    let body = Body {
-        first,
-        length: token.end - first,
-    };
+    let body = Body { first, length: token.end - first };
     // The bound of n makes these exact.
     let integer = token.n as i64;
     let index = token.n as u32;
@@ -136,10 +129,7 @@ fn value(region: &[u8], token: Token) -> Value {
         POSITIVE => Value::Integer(integer),
         NEGATIVE => Value::Integer(-1 - integer),
         FLOAT => {
-            let bits = region[token.first..token.end]
-                .iter()
-                .rev()
-                .fold(0, |bits, &byte| bits << 8 | u64::from(byte));
+            let bits = region[token.first..token.end].iter().rev().fold(0, |bits, &byte| bits << 8 | u64::from(byte));
             if token.n == 0 {
                 Value::Float32(bits as u32)
             } else {
@@ -148,25 +138,12 @@ fn value(region: &[u8], token: Token) -> Value {
         }
         TEXT => Value::Text(body),
         BYTES => Value::Bytes(body),
-        ARRAY => Value::Array {
-            items: token.n,
-            first,
-        },
-        MAP => Value::Map {
-            pairs: token.n,
-            first,
-        },
-        TAG => Value::Tag {
-            tag: token.n,
-            first,
-        },
+        ARRAY => Value::Array { items: token.n, first },
+        MAP => Value::Map { pairs: token.n, first },
+        TAG => Value::Tag { tag: token.n, first },
         VARIANT0 => Value::Variant0 { index },
         VARIANT1 => Value::Variant1 { index, first },
-        VARIANT_N => Value::VariantN {
-            index,
-            arguments: token.items,
-            first,
-        },
+        VARIANT_N => Value::VariantN { index, arguments: token.items, first },
         kind => {
             // A token that was read has its target before it, and not below 0.
             let target = token.at - 1 - token.n as usize;
@@ -230,10 +207,7 @@ pub fn item(file: &[u8], at: u64, index: u64) -> Result<usize, Error> {
 pub fn follow(file: &[u8], at: u64) -> Result<Followed, Error> {
     let (region, at) = asked(file, at)?;
     let (token, hops) = follow_in(region, at)?;
-    Ok(Followed {
-        offset: token.at,
-        hops,
-    })
+    Ok(Followed { offset: token.at, hops })
 }
 
 /// The value that pointers lead to, and the pointers met.
@@ -289,10 +263,7 @@ pub fn body_place(file: &[u8], at: u64) -> Result<Body, Error> {
     if !matches!(token.kind, TEXT | BYTES) {
         return Err(ErrorKind::WrongKind.at(token.at));
     }
-    Ok(Body {
-        first: token.first,
-        length: token.end - token.first,
-    })
+    Ok(Body { first: token.first, length: token.end - token.first })
 }
 
 #[cfg(test)]
@@ -358,37 +329,15 @@ mod tests {
             ("2f f0 ff ff ff ff ff ff ff 7f 09", Value::Integer(i64::MIN)),
             ("1f f0 ff ff ff ff ff ff ff 7f 09", Value::Integer(i64::MAX)),
             ("30 00 00 80 3f 00", Value::Float32(0x3f80_0000)),
-            (
-                "31 00 00 00 00 00 40 45 40 00",
-                Value::Float64(0x4045_4000_0000_0000),
-            ),
-            (
-                "41 ff 00",
-                Value::Text(Body {
-                    first: 1,
-                    length: 1,
-                }),
-            ),
-            (
-                "50 00",
-                Value::Bytes(Body {
-                    first: 1,
-                    length: 0,
-                }),
-            ),
+            ("31 00 00 00 00 00 40 45 40 00", Value::Float64(0x4045_4000_0000_0000)),
+            ("41 ff 00", Value::Text(Body { first: 1, length: 1 })),
+            ("50 00", Value::Bytes(Body { first: 1, length: 0 })),
             ("61 90 00", Value::Array { items: 1, first: 1 }),
             ("71 90 90 00", Value::Map { pairs: 1, first: 1 }),
             ("8f 01 00", Value::Tag { tag: 16, first: 2 }),
             ("a5 00", Value::Variant0 { index: 5 }),
             ("b5 00", Value::Variant1 { index: 5, first: 1 }),
-            (
-                "c5 01 90 00",
-                Value::VariantN {
-                    index: 5,
-                    arguments: 1,
-                    first: 2,
-                },
-            ),
+            ("c5 01 90 00", Value::VariantN { index: 5, arguments: 1, first: 2 }),
         ];
         for (file, value) in cases {
             assert_eq!(read_at(0, file), Ok(value), "{file}");
@@ -435,10 +384,7 @@ mod tests {
         assert_eq!(item_at(0, 9, "6f 80 00 00"), Err(refusal(Overlong, 0)));
         assert_eq!(item_at(0, u64::MAX, "10 00"), Err(refusal(WrongKind, 0)));
         assert_eq!(item_at(0, 3, "72 10 11 12 13 14 00"), Ok(4));
-        assert_eq!(
-            item_at(0, 4, "72 10 11 12 13 14 00"),
-            Err(refusal(NoItem, 0))
-        );
+        assert_eq!(item_at(0, 4, "72 10 11 12 13 14 00"), Err(refusal(NoItem, 0)));
         assert_eq!(item_at(0, 1, "c0 02 10 11 00"), Ok(3));
         assert_eq!(item_at(0, 0, "b3 10 00"), Ok(1));
         assert_eq!(item_at(0, 1, "b3 10 00"), Err(refusal(NoItem, 0)));
@@ -460,29 +406,17 @@ mod tests {
         assert_eq!(lookup_at(11, "61", DOCUMENT_001), Ok(14));
         assert_eq!(lookup_at(11, "78", DOCUMENT_001), Ok(17));
         assert_eq!(lookup_at(11, "79", DOCUMENT_001), Err(refusal(NoItem, 11)));
-        assert_eq!(
-            lookup_at(1, "61", "90 71 10 f2 00"),
-            Err(refusal(NoItem, 1))
-        );
+        assert_eq!(lookup_at(1, "61", "90 71 10 f2 00"), Err(refusal(NoItem, 1)));
         assert_eq!(lookup_at(0, "ff", "71 41 ff 10 00"), Ok(3));
         let file = "72 41 61 10 90 90 00";
         assert_eq!(lookup_at(0, "61", file), Ok(3));
         assert_eq!(lookup_at(0, "62", file), Err(refusal(Reserved, 4)));
-        assert_eq!(
-            lookup_at(0, "61", "71 51 61 10 00"),
-            Err(refusal(NoItem, 0))
-        );
+        assert_eq!(lookup_at(0, "61", "71 51 61 10 00"), Err(refusal(NoItem, 0)));
         assert_eq!(lookup_at(2, "61", "41 61 71 f2 10 00"), Ok(4));
-        assert_eq!(
-            lookup_at(3, "61", "41 61 e1 71 f1 10 00"),
-            Err(refusal(NoItem, 3))
-        );
+        assert_eq!(lookup_at(3, "61", "41 61 e1 71 f1 10 00"), Err(refusal(NoItem, 3)));
         assert_eq!(lookup_at(0, "61", "71 41 61 00"), Err(refusal(Trunc, 3)));
         assert_eq!(lookup_at(0, "62", "71 41 61 00"), Err(refusal(Trunc, 3)));
-        assert_eq!(
-            lookup_at(1, "61", "90 71 f1 10 00"),
-            Err(refusal(Reserved, 0))
-        );
+        assert_eq!(lookup_at(1, "61", "90 71 f1 10 00"), Err(refusal(Reserved, 0)));
         assert_eq!(lookup_at(0, "61", "71 60 10 00"), Err(refusal(Nested, 1)));
         let file = "72 41 61 60 41 62 10 ff";
         assert_eq!(lookup_at(0, "61", file), Ok(3));

@@ -75,9 +75,7 @@ fn query(words: &[&str]) -> Option<String> {
             let checked = verdict(checked);
             format!("{checked}:{} /{}", list(&starts), list(&depths))
         }
-        ["write", room, words, ref calls @ ..] => {
-            calls::answer(number(room)?, number_of_words(words)?, calls)
-        }
+        ["write", room, words, ref calls @ ..] => calls::answer(number(room)?, number_of_words(words)?, calls),
         _ => return None,
     })
 }
@@ -87,14 +85,7 @@ fn tokens(region: &[u8]) -> String {
     for token in reference::tokens(region) {
         match token {
             Ok(token) => {
-                let Token {
-                    at,
-                    kind,
-                    n,
-                    items,
-                    first,
-                    end,
-                } = token;
+                let Token { at, kind, n, items, first, end } = token;
                 // Writing into a string does not fail.
                 let _ = write!(answer, "{at} {kind} {n} {items} {first} {end}; ");
             }
@@ -120,11 +111,7 @@ fn value(value: &Value) -> String {
         Value::Tag { tag, first } => format!("tag {tag} {first}"),
         Value::Variant0 { index } => format!("variant {index}"),
         Value::Variant1 { index, first } => format!("variant1 {index} {first}"),
-        Value::VariantN {
-            index,
-            arguments,
-            first,
-        } => format!("variantn {index} {arguments} {first}"),
+        Value::VariantN { index, arguments, first } => format!("variantn {index} {arguments} {first}"),
         Value::Reference { target } => format!("reference {target}"),
         Value::Pointer { target } => format!("pointer {target}"),
     }
@@ -176,10 +163,7 @@ mod tests {
         answered("tokens 61", "TRUNC 0");
         answered("read 0 6f006f", "TRUNC 0");
         answered("read 0 7141611000", "map 1 2 1");
-        answered(
-            "skip 18446744073709551616 1000",
-            "OUTSIDE 18446744073709551615",
-        );
+        answered("skip 18446744073709551616 1000", "OUTSIDE 18446744073709551615");
         answered("item 3 4 611f1b64f311121304", "NO_ITEM 3");
         answered("follow 1 10f000", "0 1");
         answered("lookup 0 - 71401000", "2");
@@ -213,14 +197,8 @@ mod tests {
     fn calls() {
         answered("write 4 2 i42 r0 c2", "ok ok ok = 1f1be100 / 0 2 / ok 2 2");
         answered("write 9 2 f x q i f1 t", "ok ? ? ? ? ok = 0001 / 0 1");
-        answered(
-            "write 9 1 f t@9 c0@1,1 c0@2,1",
-            "ok ? NO_ROOM ok = 0000 / 0 / ok 1 0",
-        );
+        answered("write 9 1 f t@9 c0@1,1 c0@2,1", "ok ? NO_ROOM ok = 0000 / 0 / ok 1 0");
         answered("write 9 0", "= /");
-        answered(
-            "write 99 9 i-9223372036854775809 v4294967296",
-            "ok ok = 2ff0ffffffffffffff7faff0ffffff0f / 0 10",
-        );
+        answered("write 99 9 i-9223372036854775809 v4294967296", "ok ok = 2ff0ffffffffffffff7faff0ffffff0f / 0 10");
     }
 }

@@ -35,11 +35,7 @@ pub(crate) trait Note {
 
 /// Walks over a whole file. The starts of the values are put into the first words of `starts`; on a refusal those words hold
 /// the starts found so far.
-pub(crate) fn scan<N: Note>(
-    file: &[u8],
-    starts: &mut [u32],
-    note: &mut N,
-) -> Result<Checked, Error> {
+pub(crate) fn scan<N: Note>(file: &[u8], starts: &mut [u32], note: &mut N) -> Result<Checked, Error> {
     let (region, delta) = file::split(file)?;
     if region.len() <= SMALL {
         let mut before = [0; SMALL / BLOCK + 1];
@@ -50,12 +46,7 @@ pub(crate) fn scan<N: Note>(
 }
 
 #[inline(never)]
-fn scan_large<N: Note>(
-    region: &[u8],
-    delta: u8,
-    starts: &mut [u32],
-    note: &mut N,
-) -> Result<Checked, Error> {
+fn scan_large<N: Note>(region: &[u8], delta: u8, starts: &mut [u32], note: &mut N) -> Result<Checked, Error> {
     let mut before = [0; MAX_LEN / BLOCK + 1];
     walk(region, delta, starts, &mut before, note)
 }
@@ -99,19 +90,8 @@ impl Row<'_> {
 }
 
 #[inline(never)]
-fn walk<N: Note>(
-    region: &[u8],
-    delta: u8,
-    starts: &mut [u32],
-    before: &mut [u32],
-    note: &mut N,
-) -> Result<Checked, Error> {
-    let mut row = Row {
-        starts,
-        count: 0,
-        before,
-        block: 0,
-    };
+fn walk<N: Note>(region: &[u8], delta: u8, starts: &mut [u32], before: &mut [u32], note: &mut N) -> Result<Checked, Error> {
+    let mut row = Row { starts, count: 0, before, block: 0 };
     let mut at = 0;
     while at < region.len() {
         if row.count == row.starts.len() {
@@ -137,21 +117,13 @@ fn walk<N: Note>(
         .len()
         .checked_sub(usize::from(delta) + 1)
         .filter(|&entry| row.find(entry).is_some())
-        .map(|entry| Checked {
-            count: row.count,
-            entry,
-        })
+        .map(|entry| Checked { count: row.count, entry })
         .ok_or(ErrorKind::BadEntry.at(region.len()))
 }
 
 /// Passes the header of a value that is surely without fault: the items owed and where they begin.
 #[inline(always)]
-fn quick_value<N: Note>(
-    region: &[u8],
-    at: usize,
-    row: &Row<'_>,
-    note: &mut N,
-) -> Option<(u64, usize)> {
+fn quick_value<N: Note>(region: &[u8], at: usize, row: &Row<'_>, note: &mut N) -> Option<(u64, usize)> {
     let header = HEADERS[usize::from(*region.get(at)?)];
     let (items, first) = match header.class {
         Class::Items => (usize::from(header.items), at + 1),
@@ -167,12 +139,7 @@ fn quick_value<N: Note>(
 
 /// Passes an immediate that is surely without fault: where it ends.
 #[inline(always)]
-fn quick_immediate<N: Note>(
-    region: &[u8],
-    at: usize,
-    row: &Row<'_>,
-    note: &mut N,
-) -> Option<usize> {
+fn quick_immediate<N: Note>(region: &[u8], at: usize, row: &Row<'_>, note: &mut N) -> Option<usize> {
     let byte = *region.get(at)?;
     let header = HEADERS[usize::from(byte)];
     let end = match header.class {
@@ -214,12 +181,7 @@ fn quick_immediate<N: Note>(
 
 /// Ends the decision on a token: "`BAD_TEXT`, `BAD_TARGET`, then the items in order". Tells the items and where they begin.
 #[inline(always)]
-fn thorough<N: Note>(
-    region: &[u8],
-    token: Token,
-    row: &Row<'_>,
-    note: &mut N,
-) -> Result<(u64, usize), Error> {
+fn thorough<N: Note>(region: &[u8], token: Token, row: &Row<'_>, note: &mut N) -> Result<(u64, usize), Error> {
     if token.kind == TEXT && !utf8::is_text(&region[token.first..token.end]) {
         return Err(ErrorKind::BadText.at(token.at));
     }

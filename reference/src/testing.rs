@@ -28,19 +28,10 @@ pub const WRITES_DOCUMENT_001: [Call<'static>; 12] = [
 
 /// The bytes of a row of hex digits; spaces do not count.
 pub fn hex(text: &str) -> Vec<u8> {
-    let digits: Vec<u8> = text
-        .chars()
-        .filter(|digit| *digit != ' ')
-        .map(|digit| digit.to_digit(16).expect("a hex digit") as u8)
-        .collect();
-    assert!(
-        digits.len().is_multiple_of(2),
-        "an odd number of digits: {text}"
-    );
-    digits
-        .chunks_exact(2)
-        .map(|pair| pair[0] << 4 | pair[1])
-        .collect()
+    let digits: Vec<u8> =
+        text.chars().filter(|digit| *digit != ' ').map(|digit| digit.to_digit(16).expect("a hex digit") as u8).collect();
+    assert!(digits.len().is_multiple_of(2), "an odd number of digits: {text}");
+    digits.chunks_exact(2).map(|pair| pair[0] << 4 | pair[1]).collect()
 }
 
 /// The refusal of a name at a place.

@@ -104,14 +104,7 @@ fn decide(region: &[u8], at: usize, header: u8, item: bool) -> Result<Token, Err
     if bytes > left {
         return Err(ErrorKind::Trunc);
     }
-    Ok(Token {
-        at,
-        kind: high,
-        n,
-        items,
-        first,
-        end: first + bytes as usize,
-    })
+    Ok(Token { at, kind: high, n, items, first, end: first + bytes as usize })
 }
 
 /// The number of a header at `at`, and the offset behind it.
@@ -151,9 +144,7 @@ mod tests {
     use super::*;
 
     fn kinds_and_ends(region: &[u8]) -> Result<Vec<(u8, u64, usize)>, Error> {
-        tokens(region)
-            .map(|token| token.map(|token| (token.kind, token.n, token.end)))
-            .collect()
+        tokens(region).map(|token| token.map(|token| (token.kind, token.n, token.end))).collect()
     }
 
     fn fault(region: &[u8]) -> Option<Error> {
@@ -167,15 +158,7 @@ mod tests {
         assert_eq!(kinds_and_ends(&[0x2f, 0x0b]), Ok(vec![(2, 26, 2)]));
         assert_eq!(
             kinds_and_ends(&[0x61, 0x1f, 0x1b, 0x64, 0xf3, 0x11, 0x12, 0x13]),
-            Ok(vec![
-                (6, 1, 1),
-                (1, 42, 3),
-                (6, 4, 4),
-                (15, 3, 5),
-                (1, 1, 6),
-                (1, 2, 7),
-                (1, 3, 8)
-            ])
+            Ok(vec![(6, 1, 1), (1, 42, 3), (6, 4, 4), (15, 3, 5), (1, 1, 6), (1, 2, 7), (1, 3, 8)])
         );
         assert_eq!(
             kinds_and_ends(&[0x72, 0x41, 0x61, 0x1f, 0x1b, 0x41, 0x62, 0x00]),
@@ -194,10 +177,7 @@ mod tests {
     fn counts_against_the_bytes_left() {
         assert_eq!(fault(&[0x63, 0x90, 0x90]), Some(ErrorKind::Trunc.at(0)));
         assert_eq!(fault(&[0x71, 0x10, 0x11, 0x12]), None);
-        assert_eq!(
-            fault(&[0x72, 0x10, 0x11, 0x12]),
-            Some(ErrorKind::Trunc.at(0))
-        );
+        assert_eq!(fault(&[0x72, 0x10, 0x11, 0x12]), Some(ErrorKind::Trunc.at(0)));
         assert_eq!(fault(&[0xc1, 0x02, 0x10]), Some(ErrorKind::Trunc.at(0)));
         assert_eq!(fault(&[0x61, 0x45, 0x61]), Some(ErrorKind::Trunc.at(1)));
     }
@@ -229,10 +209,7 @@ mod tests {
             assert_eq!(fault(&region(kind, (1 << 32) - 15)), range);
         }
         for kind in [4, 5, 6, 7] {
-            assert_eq!(
-                fault(&region(kind, u64::MAX - 15)),
-                Some(ErrorKind::Trunc.at(0))
-            );
+            assert_eq!(fault(&region(kind, u64::MAX - 15)), Some(ErrorKind::Trunc.at(0)));
             assert_eq!(fault(&region(kind, u64::MAX - 14)), range);
         }
         for kind in [14, 15] {
@@ -241,10 +218,7 @@ mod tests {
             assert_eq!(read(&below, 0), Err(ErrorKind::BadTarget.at(0)));
             assert_eq!(fault(&region(kind, u64::MAX - 14)), range);
         }
-        assert_eq!(
-            fault(&region(8, u64::MAX - 15)),
-            Some(ErrorKind::Trunc.at(11))
-        );
+        assert_eq!(fault(&region(8, u64::MAX - 15)), Some(ErrorKind::Trunc.at(11)));
         assert_eq!(fault(&region(8, u64::MAX - 14)), range);
     }
 

@@ -34,15 +34,11 @@ fn is_plain(bytes: &[u8]) -> bool {
         (Some(first), Some(last)) => {
             let (chunks, _) = bytes[8..].as_chunks::<8>();
             let ends = u64::from_le_bytes(*first) | u64::from_le_bytes(*last);
-            let all = chunks
-                .iter()
-                .fold(ends, |all, chunk| all | u64::from_le_bytes(*chunk));
+            let all = chunks.iter().fold(ends, |all, chunk| all | u64::from_le_bytes(*chunk));
             all & HIGH == 0
         }
         _ => match (bytes.first_chunk::<4>(), bytes.last_chunk::<4>()) {
-            (Some(first), Some(last)) => {
-                (u32::from_le_bytes(*first) | u32::from_le_bytes(*last)) & HIGH as u32 == 0
-            }
+            (Some(first), Some(last)) => (u32::from_le_bytes(*first) | u32::from_le_bytes(*last)) & HIGH as u32 == 0,
             _ => bytes.iter().fold(0, |all, byte| all | byte) < 0x80,
         },
     }

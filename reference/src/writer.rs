@@ -4,8 +4,7 @@ use crate::call::Call;
 use crate::error::ErrorKind;
 use crate::file::MAX_LEN;
 use crate::kind::{
-    ARRAY, BYTES, FLOAT, LONG, MAP, NEGATIVE, POINTER, POSITIVE, REFERENCE, SCALAR, TAG, TEXT,
-    VARIANT0, VARIANT1, VARIANT_N,
+    ARRAY, BYTES, FLOAT, LONG, MAP, NEGATIVE, POINTER, POSITIVE, REFERENCE, SCALAR, TAG, TEXT, VARIANT0, VARIANT1, VARIANT_N,
 };
 use crate::leb128;
 use crate::utf8;
@@ -32,13 +31,7 @@ impl Writer {
     /// A new writer, which "has no bytes, starts, owed items or close".
     #[must_use]
     pub const fn new() -> Self {
-        Self {
-            written: 0,
-            count: 0,
-            pending: 0,
-            start: 0,
-            closed: false,
-        }
+        Self { written: 0, count: 0, pending: 0, start: 0, closed: false }
     }
 
     /// Makes a call and tells the next state; "a refused call changes nothing".
@@ -47,12 +40,7 @@ impl Writer {
     /// `BAD_TARGET`, FULL (a new value only), `NO_ROOM`". "Accepted calls change only the bytes from old to new w and the
     /// one table word."
     #[inline(always)]
-    pub fn step(
-        self,
-        call: Call<'_>,
-        out: &mut [u8],
-        starts: &mut [u32],
-    ) -> (Result<(), ErrorKind>, Self) {
+    pub fn step(self, call: Call<'_>, out: &mut [u8], starts: &mut [u32]) -> (Result<(), ErrorKind>, Self) {
         match self.next(call, out, starts) {
             Ok(next) => (Ok(()), next),
             Err(kind) => (Err(kind), self),
@@ -95,9 +83,7 @@ impl Writer {
             Call::Map(n) => self.open(MAP, n, None, n.checked_mul(2), out, starts),
             Call::Tag(tag) => self.open(TAG, tag, None, Some(1), out, starts),
             Call::Variant1(index) => self.open(VARIANT1, index.into(), None, Some(1), out, starts),
-            Call::VariantN(index, n) => {
-                self.open(VARIANT_N, index.into(), Some(n), Some(n), out, starts)
-            }
+            Call::VariantN(index, n) => self.open(VARIANT_N, index.into(), Some(n), Some(n), out, starts),
             Call::Close(entry) => self.close(entry, out, starts),
         }
     }
@@ -134,14 +120,7 @@ impl Writer {
 
     /// Writes an immediate, as a value of the row or as an item of the open value.
     #[inline(always)]
-    fn immediate(
-        self,
-        kind: u8,
-        n: u64,
-        body: &[u8],
-        out: &mut [u8],
-        starts: &mut [u32],
-    ) -> Result<Self, ErrorKind> {
+    fn immediate(self, kind: u8, n: u64, body: &[u8], out: &mut [u8], starts: &mut [u32]) -> Result<Self, ErrorKind> {
         let is_item = self.pending > 0;
         if !is_item && self.count == starts.len() as u64 {
             return Err(ErrorKind::Full);
@@ -206,11 +185,7 @@ impl Writer {
             return Err(ErrorKind::NoRoom);
         }
         out[last.written as usize] = delta;
-        Ok(Self {
-            written: last.written + 1,
-            closed: true,
-            ..last
-        })
+        Ok(Self { written: last.written + 1, closed: true, ..last })
     }
 
     /// Tells the items owed, if they and `size` bytes find room: "an opening is `NO_ROOM` if its bytes plus items owed
@@ -232,13 +207,7 @@ impl Writer {
         if finished {
             starts[self.count as usize] = start as u32;
         }
-        Self {
-            written: self.written + size as u64,
-            count: self.count + u64::from(finished),
-            pending,
-            start,
-            closed: false,
-        }
+        Self { written: self.written + size as u64, count: self.count + u64::from(finished), pending, start, closed: false }
     }
 }
 
@@ -313,11 +282,7 @@ mod tests {
 
     impl Lent {
         fn new(room: usize, words: usize) -> Self {
-            Self {
-                writer: Writer::new(),
-                out: vec![0xaa; room],
-                starts: vec![JUNK; words],
-            }
+            Self { writer: Writer::new(), out: vec![0xaa; room], starts: vec![JUNK; words] }
         }
 
         fn call(&mut self, call: Call<'_>) -> Result<(), ErrorKind> {
@@ -367,22 +332,13 @@ mod tests {
             (&[Call::Integer(i64::MAX)], "1f f0 ff ff ff ff ff ff ff 7f"),
             (&[Call::Integer(i64::MIN)], "2f f0 ff ff ff ff ff ff ff 7f"),
             (&[Call::Float32(0x3f80_0000)], "30 00 00 80 3f"),
-            (
-                &[Call::Float64(0x4045_4000_0000_0000)],
-                "31 00 00 00 00 00 40 45 40",
-            ),
-            (
-                &[Call::Text("hello world! 😁".as_bytes())],
-                "4f 02 68 65 6c 6c 6f 20 77 6f 72 6c 64 21 20 f0 9f 98 81",
-            ),
+            (&[Call::Float64(0x4045_4000_0000_0000)], "31 00 00 00 00 00 40 45 40"),
+            (&[Call::Text("hello world! 😁".as_bytes())], "4f 02 68 65 6c 6c 6f 20 77 6f 72 6c 64 21 20 f0 9f 98 81"),
             (&[Call::Bytes(&[0, 255])], "52 00 ff"),
             (&[Call::Variant0(u32::MAX)], "af f0 ff ff ff 0f"),
             (&[Call::Array(0)], "60"),
             (&[Call::Map(0)], "70"),
-            (
-                &[Call::Tag(u64::MAX), FALSE],
-                "8f f0 ff ff ff ff ff ff ff ff 01 00",
-            ),
+            (&[Call::Tag(u64::MAX), FALSE], "8f f0 ff ff ff ff ff ff ff ff 01 00"),
             (&[Call::Variant1(15), FALSE], "bf 00 00"),
             (&[Call::VariantN(14, 0)], "ce 00"),
             (&[Call::VariantN(15, 1), FALSE], "cf 00 01 00"),
@@ -409,13 +365,7 @@ mod tests {
         lent.calls(&[Call::Bytes(&[0; 254]), Call::Close(0)]);
         assert_eq!(lent.written()[257..], hex("ff f1 01 02"));
         assert_eq!(lent.listed(), [0, 257]);
-        let closed = Writer {
-            written: 261,
-            count: 2,
-            pending: 0,
-            start: 257,
-            closed: true,
-        };
+        let closed = Writer { written: 261, count: 2, pending: 0, start: 257, closed: true };
         assert_eq!(lent.writer, closed);
     }
 
@@ -442,11 +392,7 @@ mod tests {
         assert_eq!((lent.writer.start, lent.writer.pending), (2, 0));
         let before = lent.writer;
         lent.calls(&[Call::Close(0)]);
-        let closed = Writer {
-            written: before.written + 1,
-            closed: true,
-            ..before
-        };
+        let closed = Writer { written: before.written + 1, closed: true, ..before };
         assert_eq!(lent.writer, closed);
     }
 
@@ -519,12 +465,7 @@ mod tests {
     }
 
     /// A call of a writer in any state.
-    fn step(
-        writer: Writer,
-        call: Call<'_>,
-        room: usize,
-        starts: &mut [u32],
-    ) -> Result<Writer, ErrorKind> {
+    fn step(writer: Writer, call: Call<'_>, room: usize, starts: &mut [u32]) -> Result<Writer, ErrorKind> {
         let (answer, next) = writer.step(call, &mut vec![0xaa; room], starts);
         if answer.is_err() {
             assert_eq!(next, writer);
@@ -534,13 +475,7 @@ mod tests {
 
     #[test]
     fn states_that_do_not_fit() {
-        let fits = Writer {
-            written: 4,
-            count: 1,
-            pending: 1,
-            start: 3,
-            closed: false,
-        };
+        let fits = Writer { written: 4, count: 1, pending: 1, start: 3, closed: false };
         assert!(step(fits, FALSE, 6, &mut [0, 0]).is_ok());
         assert_eq!(step(fits, FALSE, 5, &mut [0, 0]), Err(NoRoom));
         assert_eq!(step(fits, FALSE, 3, &mut [0, 0]), Err(BadState));
@@ -548,25 +483,13 @@ mod tests {
         assert_eq!(step(fits, FALSE, 6, &mut []), Err(BadState));
         let start = Writer { start: 4, ..fits };
         assert_eq!(step(start, FALSE, 6, &mut [0, 0]), Err(BadState));
-        let idle = Writer {
-            pending: 0,
-            ..start
-        };
-        assert_eq!(
-            step(idle, FALSE, 6, &mut [0, 0]).map(|next| next.start),
-            Ok(4)
-        );
+        let idle = Writer { pending: 0, ..start };
+        assert_eq!(step(idle, FALSE, 6, &mut [0, 0]).map(|next| next.start), Ok(4));
         assert_eq!(step(idle, FALSE, 6, &mut [0]), Err(Full));
-        let closed = Writer {
-            closed: true,
-            ..idle
-        };
+        let closed = Writer { closed: true, ..idle };
         assert_eq!(step(closed, FALSE, 4, &mut [0]), Err(Closed));
         assert_eq!(step(closed, FALSE, 3, &mut [0]), Err(BadState));
-        let many = Writer {
-            pending: u64::MAX,
-            ..fits
-        };
+        let many = Writer { pending: u64::MAX, ..fits };
         assert_eq!(step(many, FALSE, 999, &mut [0, 0]), Err(NoRoom));
         assert_eq!(step(many, Call::Array(0), 999, &mut [0, 0]), Err(Owed));
     }
@@ -574,17 +497,10 @@ mod tests {
     #[test]
     fn the_longest_output() {
         let room = MAX_LEN + 9;
-        let at = |written| Writer {
-            written: written as u64,
-            count: 1,
-            ..Writer::new()
-        };
+        let at = |written| Writer { written: written as u64, count: 1, ..Writer::new() };
         let mut starts = [MAX_LEN as u32 - 2, 0];
         let close = Call::Close(MAX_LEN as u64 - 2);
-        assert_eq!(
-            step(at(MAX_LEN + 1), FALSE, room, &mut starts),
-            Err(BadState)
-        );
+        assert_eq!(step(at(MAX_LEN + 1), FALSE, room, &mut starts), Err(BadState));
         assert_eq!(step(at(MAX_LEN), FALSE, room, &mut starts), Err(NoRoom));
         assert_eq!(step(at(MAX_LEN), close, room, &mut starts), Err(NoRoom));
         assert_eq!(step(at(MAX_LEN - 1), FALSE, room, &mut starts), Err(NoRoom));
@@ -595,11 +511,7 @@ mod tests {
 
     #[test]
     fn listed_words_in_any_order() {
-        let writer = Writer {
-            written: 100,
-            count: 4,
-            ..Writer::new()
-        };
+        let writer = Writer { written: 100, count: 4, ..Writer::new() };
         let mut starts = [90, 5, 200, 5, 7];
         for target in [90, 5] {
             assert!(step(writer, Call::Pointer(target), 200, &mut starts.clone()).is_ok());
@@ -610,11 +522,7 @@ mod tests {
         }
         // In a long table too, at each place.
         let long: Vec<u32> = (0..3000).rev().collect();
-        let writer = Writer {
-            written: 5000,
-            count: 3000,
-            ..Writer::new()
-        };
+        let writer = Writer { written: 5000, count: 3000, ..Writer::new() };
         for target in 0..3000 {
             let mut starts = long.clone();
             starts.push(0);

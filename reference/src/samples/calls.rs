@@ -18,11 +18,8 @@ const JUNK_BYTE: u8 = 0xaa;
 
 /// The answers of a new writer's calls, then what it has written and listed, and what check says of a closed file.
 pub fn answer(room: u64, words: usize, calls: &[&str]) -> String {
-    let mut lent = Lent {
-        out: vec![JUNK_BYTE; room.min(MOST_BYTES) as usize],
-        starts: vec![JUNK_WORD; words],
-        strayed: (false, false),
-    };
+    let mut lent =
+        Lent { out: vec![JUNK_BYTE; room.min(MOST_BYTES) as usize], starts: vec![JUNK_WORD; words], strayed: (false, false) };
     let mut writer = Writer::new();
     let mut answers = String::new();
     for word in calls {
@@ -35,13 +32,7 @@ pub fn answer(room: u64, words: usize, calls: &[&str]) -> String {
     let bytes = &lent.out[..writer.written as usize];
     let starts = &lent.starts[..writer.count as usize];
     let mark = |strayed| if strayed { " !" } else { "" };
-    let mut answer = format!(
-        "{answers}={}{} /{}{}",
-        hex(bytes),
-        mark(lent.strayed.0),
-        list(starts),
-        mark(lent.strayed.1)
-    );
+    let mut answer = format!("{answers}={}{} /{}{}", hex(bytes), mark(lent.strayed.0), list(starts), mark(lent.strayed.1));
     if writer.closed {
         let mut table = [JUNK_WORD; MOST_WORDS as usize];
         answer += " / ";
@@ -65,11 +56,7 @@ impl Lent {
         let words = request.words.min(self.starts.len());
         let old = *writer;
         let answer;
-        (answer, *writer) = old.step(
-            request.call.as_call(),
-            &mut self.out[..room],
-            &mut self.starts[..words],
-        );
+        (answer, *writer) = old.step(request.call.as_call(), &mut self.out[..room], &mut self.starts[..words]);
         self.strayed.0 |= has_strayed(&old_out, &self.out, old.written, writer.written);
         self.strayed.1 |= has_strayed(&old_starts, &self.starts, old.count, writer.count);
         match answer {
@@ -118,11 +105,7 @@ impl Request {
             }
             None => (word, u64::MAX, u64::MAX),
         };
-        Some(Self {
-            call: parse_call(call)?,
-            room: room.min(MOST_BYTES) as usize,
-            words: words.min(MOST_WORDS) as usize,
-        })
+        Some(Self { call: parse_call(call)?, room: room.min(MOST_BYTES) as usize, words: words.min(MOST_WORDS) as usize })
     }
 }
 

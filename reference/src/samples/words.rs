@@ -31,13 +31,9 @@ pub fn bytes(word: &str) -> Option<Vec<u8>> {
 
 /// Bytes in hex.
 pub fn parse_hex(word: &str) -> Option<Vec<u8>> {
-    let digits: Option<Vec<u8>> = word
-        .chars()
-        .map(|digit| Some(digit.to_digit(16)? as u8))
-        .collect();
+    let digits: Option<Vec<u8>> = word.chars().map(|digit| Some(digit.to_digit(16)? as u8)).collect();
     let (pairs, rest) = digits.as_ref()?.as_chunks::<2>();
-    rest.is_empty()
-        .then(|| pairs.iter().map(|[high, low]| high << 4 | low).collect())
+    rest.is_empty().then(|| pairs.iter().map(|[high, low]| high << 4 | low).collect())
 }
 
 /// Bytes as hex behind a space, if there are any.

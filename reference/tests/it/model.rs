@@ -77,14 +77,8 @@ fn short_outputs_and_tables() {
         let words = random.below(8) as usize;
         refused.extend(compare(&mut random, room, words, 30));
     }
-    for kind in [
-        ErrorKind::BadText,
-        ErrorKind::BadTarget,
-        ErrorKind::Full,
-        ErrorKind::NoRoom,
-        ErrorKind::Owed,
-        ErrorKind::Closed,
-    ] {
+    for kind in [ErrorKind::BadText, ErrorKind::BadTarget, ErrorKind::Full, ErrorKind::NoRoom, ErrorKind::Owed, ErrorKind::Closed]
+    {
         assert!(refused.contains(&kind), "{kind}");
     }
     assert!(!refused.contains(&ErrorKind::BadState));

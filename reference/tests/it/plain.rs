@@ -90,12 +90,7 @@ fn head(region: &[u8], at: usize, is_item: bool) -> Result<Head, ErrorKind> {
     if kind == 4 && !is_text(&region[end - n as usize..end]) {
         return Err(BadText);
     }
-    Ok(Head {
-        kind,
-        n,
-        items,
-        end,
-    })
+    Ok(Head { kind, n, items, end })
 }
 
 fn is_text(bytes: &[u8]) -> bool {
@@ -129,10 +124,7 @@ fn row(file: &[u8], words: usize) -> Result<(Vec<Plain>, usize), Fault> {
             }
             let found = head(region, at, at > start).map_err(|kind| (kind, at))?;
             if found.kind >= 14 {
-                let target = row
-                    .iter()
-                    .map(|value| value.start)
-                    .find(|target| at as u128 == *target as u128 + found.n + 1);
+                let target = row.iter().map(|value| value.start).find(|target| at as u128 == *target as u128 + found.n + 1);
                 targets.push(target.ok_or((BadTarget, at))?);
             }
             wanted += found.items;
@@ -141,10 +133,7 @@ fn row(file: &[u8], words: usize) -> Result<(Vec<Plain>, usize), Fault> {
         }
         row.push(Plain { start, targets });
     }
-    let entry = row
-        .iter()
-        .map(|value| value.start)
-        .find(|start| start + usize::from(*delta) + 1 == region.len());
+    let entry = row.iter().map(|value| value.start).find(|start| start + usize::from(*delta) + 1 == region.len());
     match entry {
         Some(entry) => Ok((row, entry)),
         None => Err((BadEntry, region.len())),
@@ -175,11 +164,7 @@ fn compare(file: &[u8], words: usize, more_words: usize) -> Result<(), ErrorKind
         }
         Err((kind, place)) => {
             let error = answer.expect_err("refused by the plain rules");
-            assert_eq!(
-                (error.kind, error.place),
-                (*kind, *place as u64),
-                "{file:x?}"
-            );
+            assert_eq!((error.kind, error.place), (*kind, *place as u64), "{file:x?}");
         }
     }
     assert_eq!(starts, expected);
@@ -219,9 +204,7 @@ fn compare(file: &[u8], words: usize, more_words: usize) -> Result<(), ErrorKind
 /// In an accepted file a value ends where the next starts, and following takes at most j hops from value number j.
 fn questions_fit(file: &[u8], row: &[Plain]) {
     for (number, value) in row.iter().enumerate() {
-        let end = row
-            .get(number + 1)
-            .map_or(file.len() - 1, |next| next.start);
+        let end = row.get(number + 1).map_or(file.len() - 1, |next| next.start);
         let at = value.start as u64;
         assert_eq!(skip(file, at), Ok(end));
         let followed = follow(file, at).expect("a target");
@@ -270,9 +253,7 @@ fn written_and_spoilt_files() {
             refused.extend(compare(&spoilt, words, more_words).err());
         }
     }
-    for kind in [
-        Trunc, Reserved, Overlong, Range, Nested, BadText, BadTarget, Full, BadEntry,
-    ] {
+    for kind in [Trunc, Reserved, Overlong, Range, Nested, BadText, BadTarget, Full, BadEntry] {
         assert!(refused.contains(&kind), "{kind}");
     }
 }

@@ -31,14 +31,8 @@ fn with(mut bytes: Vec<u8>, body: &[u8]) -> Vec<u8> {
 }
 
 /// The rules of document 01's section on the writer.
-fn plain(
-    writer: Writer,
-    call: Call<'_>,
-    room: usize,
-    starts: &[u32],
-) -> Result<Accepted, ErrorKind> {
-    let [w, count, pending, start] =
-        [writer.written, writer.count, writer.pending, writer.start].map(i128::from);
+fn plain(writer: Writer, call: Call<'_>, room: usize, starts: &[u32]) -> Result<Accepted, ErrorKind> {
+    let [w, count, pending, start] = [writer.written, writer.count, writer.pending, writer.start].map(i128::from);
     let words = starts.len() as i128;
     let longest = room.min(MAX_LEN) as i128;
     if w > room as i128 || w > MAX_LEN as i128 || count > words {
@@ -93,11 +87,7 @@ fn plain(
                 if w + 1 > longest {
                     return Err(NoRoom);
                 }
-                let next = Writer {
-                    written: writer.written + 1,
-                    closed: true,
-                    ..writer
-                };
+                let next = Writer { written: writer.written + 1, closed: true, ..writer };
                 return Ok((vec![delta as u8], next, None));
             }
             let mut bytes = head(15, delta);
@@ -129,11 +119,7 @@ fn plain(
     if bytes.len() as i128 + owed > (longest - 1 - w).max(0) {
         return Err(NoRoom);
     }
-    let start = if pending > 0 {
-        writer.start
-    } else {
-        writer.written
-    };
+    let start = if pending > 0 { writer.start } else { writer.written };
     let next = Writer {
         written: writer.written + bytes.len() as u64,
         count: writer.count + u64::from(owed == 0),
@@ -152,21 +138,10 @@ fn state(random: &mut Random, room: usize, words: usize) -> Writer {
         _ => random.below(bound as u64 + 1),
     };
     let [written, count, start] = [near(room), near(words), near(room)];
-    Writer {
-        written,
-        count,
-        pending: if random.one_in(2) { 0 } else { random.number() },
-        start,
-        closed: random.one_in(12),
-    }
+    Writer { written, count, pending: if random.one_in(2) { 0 } else { random.number() }, start, closed: random.one_in(12) }
 }
 
-fn compare(
-    writer: Writer,
-    call: Call<'_>,
-    out: &mut [u8],
-    starts: &mut [u32],
-) -> Option<ErrorKind> {
+fn compare(writer: Writer, call: Call<'_>, out: &mut [u8], starts: &mut [u32]) -> Option<ErrorKind> {
     let expected = plain(writer, call, out.len(), starts);
     let (mut new_out, mut new_starts) = (out.to_vec(), starts.to_vec());
     let (answer, next) = writer.step(call, out, starts);
@@ -195,9 +170,7 @@ fn any_state() {
         let room = random.pick(&[0, 1, 9, 40, 300, 700]);
         let words = random.below(9) as usize;
         let mut out = vec![0xaa; room];
-        let mut starts: Vec<u32> = (0..words)
-            .map(|_| random.below(room as u64 + 2) as u32)
-            .collect();
+        let mut starts: Vec<u32> = (0..words).map(|_| random.below(room as u64 + 2) as u32).collect();
         if random.one_in(2) {
             starts.sort_unstable();
         }
