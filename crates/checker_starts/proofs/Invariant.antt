@@ -41,13 +41,9 @@ indexed-start s t blocks h e = record { long = h; counted = counted-first blocks
 pub known-fits : (s t : List ℕ) (cap at count : ℕ) → TableInvariant s t cap at count → (blocks : List ℕ) → Indexed s t blocks at count → at / BLOCK + 1 ≤ length blocks
 known-fits s t cap at count a blocks i = omega (arith, a .going .inside, i .long)
 
--- what `table::count_blocks` asks for, where a value is finished that begins at `start` and ends at `end`
-pub record Countable (t blocks : List ℕ) (start count end : ℕ) : Type 0 where
-  pub next : start / BLOCK + 1 ≤ end / BLOCK + 1
-  pub last : end / BLOCK < length blocks
-  pub few : length (take count t) < 2 ^ 32
-  pub below : Below ((start / BLOCK + 1) * BLOCK) (take count t)
-  pub counted : Counted (take (start / BLOCK + 1) blocks) (take count t)
+pub indexed-on : (s t u blocks after : List ℕ) (at end count n : ℕ) → Indexed s t blocks at count → length after ≡ length blocks
+    → Counted (take (end / BLOCK + 1) after) (take n u) → Indexed s u after end n
+indexed-on s t u blocks after at end count n i same counted = record { long = rw same (i .long); counted = counted }
 
 pub table-start : (s t : List ℕ) → TableInvariant s t (length t) 0 0
 table-start s t = record { long = refl; fits = omega arith; going = invariant-begun s (length t); leads = refl }
@@ -86,16 +82,26 @@ module _ (s t : List ℕ) (cap at count : ℕ) (a : TableInvariant s t cap at co
         leads = rw words (rw is at e ∙ a .leads);
       }
 
-      pub table-counts : (blocks : List ℕ) → length s ≤ LIMIT → Indexed s t blocks at count → Countable (set t count at) blocks at (count + 1) end
-      table-counts blocks short i =
-          let g = a .going in
-          let h = table-ends in
-          let n = length-take-le count t (a .fits) in
-          let few : count ≤ at = split 0 count (λ p. omega (arith, rising-ge (take count t) (g .rising) (count - 1) (omega arith), g .below (count - 1) (omega arith))) (λ z. omega arith) in
-          record {
-            next = omega (arith, h .0);
-            last = omega (arith, h .1, i .long);
-            few = rw (words, length-append) (omega (arith, g .inside));
-            below = rw words (below-snoc (take count t) at _ (λ k b. omega (arith, g .below k b)) (omega arith));
-            counted = rw words (counted-snoc (take (at / BLOCK + 1) blocks) (take count t) at (omega (arith, length-take (at / BLOCK + 1) blocks)) (i .counted));
-          }
+      -- what `table::count_blocks` asks for
+      module _ (blocks : List ℕ) (short : length s ≤ LIMIT) (i : Indexed s t blocks at count) where
+        pub next-le : at / BLOCK + 1 ≤ end / BLOCK + 1
+        next-le = omega (arith, table-ends .0)
+
+        pub last-lt : end / BLOCK < length blocks
+        last-lt = omega (arith, table-ends .1, i .long)
+
+        pub few-words : length (take (count + 1) (set t count at)) < 2 ^ 32
+        few-words =
+            let g = a .going in
+            let n = length-take-le count t (a .fits) in
+            let few : count ≤ at =
+            split 0 count (λ p. omega (arith, rising-ge (take count t) (g .rising) (count - 1) (omega arith), g .below (count - 1) (omega arith)))
+            (λ z. omega arith) in
+            rw (words, length-append) (omega (arith, g .inside))
+
+        pub words-below : Below ((at / BLOCK + 1) * BLOCK) (take (count + 1) (set t count at))
+        words-below = rw words (below-snoc (take count t) at _ (λ k b. omega (arith, a .going .below k b)) (omega arith))
+
+        pub words-counted : Counted (take (at / BLOCK + 1) blocks) (take (count + 1) (set t count at))
+        words-counted =
+            rw words (counted-snoc (take (at / BLOCK + 1) blocks) (take count t) at (omega (arith, length-take (at / BLOCK + 1) blocks)) (i .counted))

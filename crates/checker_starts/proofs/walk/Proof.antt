@@ -1,11 +1,13 @@
 -- `checker_starts::walk` meets its contract.
-use mathlib.Core.Path.{_≡_, refl, sym, _∙_}
+use mathlib.Core.Path.{_≡_, refl, sym}
 use Prim.Native.Nat.{_-_}
 use lib.ListN.{length, length-set}
 use lib.Seq.{length-take-le}
 use borrow.Author.Needs.{needs}
 use native.Mathlib.Omega.{arith}
-use Rattle.checker_starts.proofs.Invariant.{TableInvariant, Indexed, table-start, indexed-start, known-fits, table-end, table-full, table-error, table-less, table-finished, table-counts}
+use Rattle.checker_starts.proofs.Invariant.{TableInvariant, Indexed, table-start, indexed-start, indexed-on, known-fits}
+use Rattle.checker_starts.proofs.Invariant.{next-le, last-lt, few-words, words-below, words-counted}
+use Rattle.checker_starts.proofs.Invariant.{table-end, table-full, table-error, table-less, table-finished}
 use Rattle.checker_starts.proofs.walk.Statement.{statement}
 use Rattle.checker_starts.proofs.walk.Tie as tie
 
@@ -15,10 +17,6 @@ Inv-loop region starts₀ blocks₀ at₀ count₀ starts blocks at count =
 
 abbrev μ-loop : tie.MeasureT-loop
 μ-loop region starts₀ blocks₀ at₀ count₀ starts blocks at count = length region - at
-
--- the place before a value, from the one behind it
-abbrev before : tie.After-known-told Inv-loop μ-loop → tie.Else1 Inv-loop μ-loop
-before k = k .before .before .before .before .before .before
 
 pub walk-spec : {M : Type 1} → statement M
 walk-spec =
@@ -33,8 +31,8 @@ walk-spec =
     (λ c. search needs)
     (λ c. search needs)
     (λ c. sym (length-take-le _ _ (c .before .before .before .loop .inv .0 .fits)))
-    (λ c. let i = c .before .before .before .loop .inv in known-fits _ _ _ _ _ (i .0) _ (i .1))
-    (λ c. let i = c .before .before .before .before .loop .inv in sym (length-take-le _ _ (known-fits _ _ _ _ _ (i .0) _ (i .1))))
+    (λ c. search known-fits)
+    (λ c. sym (length-take-le _ _ (search known-fits)))
     (λ c κs. let i = c .before .before .before .before .loop .inv in (i .0 .going .rising, i .1 .counted, search needs, search needs))
     (λ c. search needs)
     (λ c. search needs)
@@ -43,15 +41,9 @@ walk-spec =
     (λ c. search needs)
     (λ c. rw length-set (omega arith))
     (λ c. sym (length-take-le _ _ (rw length-set (omega arith))))
-    (λ c κs. let k = c .before .before in
-    let e = before k in
-    let i = e .before .before .loop .inv in
-    let n = table-counts _ _ _ _ _ (i .0) (e .if1 .left) _ _ (k .before .before .before .check-value .ensures) (k .before .end .given .1) _ (omega arith) (i .1) in
-    (omega (arith, n .next), omega (arith, n .next, n .last), n .few, n .below, n .counted))
+    (λ c κs. (search (next-le, arith), search (last-lt, arith), search few-words, search words-below, search words-counted))
     (λ c. search (table-less, arith))
-    (λ c. let n = c .before .before .count-blocks in
-    let i = before (c .before .before .before .before .before) .before .before .loop .inv in
-    (search (table-finished, arith), record { long = rw (n .kept .1 .0) (i .1 .long); counted = n .ensures }, n .kept .1 .0 ∙ i .2))
+    (λ c. (search (table-finished, arith), search indexed-on, omega arith))
     (λ c. search needs)
     (λ c. search needs)
     (λ c. search needs)
