@@ -10,7 +10,7 @@ put-spec =
     tie.close
     (tie.spec
     (λ c κs. search needs)
-    (λ c. let d = c .before .before .before .args .rest .now in store-none _ d (omega arith))
+    (λ c. store-none _ _ (omega arith))
     (λ c κs. search needs)
     (λ c. search needs)
-    (λ c. let d = c .before .before .before .before .before .before .before .args .rest .now in store-put _ d _ _ (omega arith) (c .before .before .put-within .ensures)))
+    (λ c. store-put _ _ _ _ (omega arith) (c .before .before .put-within .ensures)))
