@@ -15,6 +15,4 @@ put-body-spec =
     (λ c κs. search needs)
     (λ c. search needs)
     (λ c. search needs)
-    (λ c. let a = c .before .before .before .before .before .before in
-    let two = c .before .before .copy in
-    putAt-part (a .args .body .now) (a .args .out .now) (two .last .0) (a .args .at) (two .result) (omega arith) (two .ensures)))
+    (λ c. putAt-part _ _ _ _ _ (omega arith) (c .before .before .copy .ensures)))

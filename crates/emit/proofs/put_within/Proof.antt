@@ -25,8 +25,7 @@ put-within-spec =
     tie.close
     (tie.spec
     (λ c κs. let s = c .before .before .before in (s .pre .0, s .pre .1, omega (arith, room s)))
-    (λ c κs. let h = c .before .before .before in omega (arith, h .put-head .ensures .size, room (start h), put-same _ (start h .args .out .now) _ _ (h .put-head .ensures)))
+    (λ c κs. let h = c .before .before .before in
+    omega (arith, h .put-head .ensures .size, room (start h), put-same _ (start h .args .out .now) _ _ (h .put-head .ensures)))
     (λ c. search needs)
-    (λ c. let h = c .before .before .before .before .before .before in
-    let a = start h .args in
-    rw emit-append (put-append _ (a .body .now) (a .out .now) (h .put-head .last .0) (c .before .before .put-body .last .0) _ _ (h .put-head .ensures) (c .before .before .put-body .ensures))))
+    (λ c. rw emit-append (search put-append)))
