@@ -15,22 +15,24 @@ use Rattle.scan.proofs.Steps.{AfterNumber, Counted, ruled-row, scan-pas
 use Rattle.scan.proofs.scan.Statement.{statement}
 use Rattle.scan.proofs.scan.Tie as tie
 
--- ---- behind the first number
+-- ---- after the first number: the places where the kind's rule is read, and where the function starts
+
+abbrev ruled : tie.After-number → tie.After-rule-of
+ruled c = c .before .before .before .before .before .before
 
 abbrev start : tie.After-number → tie.Start
-start c = c .before .before .before .before .before .before .before .before .before .before
+start c = ruled c .before .before .before .before
 
 abbrev rule : tie.After-number → Rule
-rule c = c .before .before .before .before .before .before .rule-of .result
+rule c = ruled c .rule-of .result
 
 first : (c : tie.After-number) (x : GetResult) → c .number .result ≡ x → let a = start c .args in AfterNumber (a .inner) (a .region .now) (a .at) (rule c) x
 first c x is =
     let i = c .before .before .before in
-    let e = i .before in
-    scan-number _ _ _ (e .before .before .before .before .if1 .left) (e .before .before .rule-of .ensures) (e .if2 .left) (i .is-immediate .ensures)
+    scan-number _ _ _ (ruled c .before .before .if1 .left) (ruled c .rule-of .ensures) (i .before .if2 .left) (i .is-immediate .ensures)
     (c .before .before .if3 .left) (c .number .result) x (rw part-from at (c .number .ensures)) is
 
--- ---- behind n
+-- ---- after n
 
 abbrev read : tie.After-known-told → tie.After-number
 read w = w .before .before .before
@@ -54,7 +56,7 @@ second c x is =
     let e = c .before .before in
     scan-second (number (e .before)) (e .if4 .taken) (c .get-wide .result) x (rw part-from at (c .get-wide .ensures)) is
 
--- the place behind n, where no second number is
+-- the place after n, if there is no second number
 abbrev alone : tie.After-has-room → tie.Else4
 alone c = c .before .before .before .before
 
