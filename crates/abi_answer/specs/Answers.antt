@@ -1,4 +1,4 @@
--- What an answer is in C.
+-- What the answers of check and of the queries are in C.
 --
 --   offsetC a        an offset and 0, or the error
 --   pairC a          two numbers, or the error

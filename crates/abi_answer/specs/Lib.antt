@@ -1,4 +1,4 @@
--- what an answer is in C
+-- what the answers are in C
 pub mod Answers
--- what `twine_read` tells: a row for each kind
+-- what `twine_read` returns: a row for each kind
 pub mod Read

@@ -1,11 +1,14 @@
--- What `twine_read` tells of a value: its kind, its number, the offset just after the header's numbers, and its count.
+-- What `twine_read` returns for a value: its kind, its number, the offset just after the header's numbers, and its count.
 --
---   floatBits file h   the bits of a float, 4 bytes for n = 0 and 8 for n = 1
---   rowsC file at h    number and count of the value of head h at `at`, a row for each kind in their order. The number is the scalar's low
---                      nibble, the integer in two's complement, the float's bits, the body's length, the items, the pairs, the tag, the
---                      variant's index, the target; the count is the body's bytes or the items. 9 and 13 are reserved and never read
+--   floatBits file h   the bits of a float: 4 bytes if n is 0, else 8
+--   rowC number count  a row: the number and the count of a value
+--   rowsC file at h    the rows for a value with head h at `at`, one for each kind, in the order of the kinds. The
+--                      number is the scalar's low nibble, the integer in two's complement, the float's bits, the body's
+--                      length, the items, the pairs, the tag, the variant's index or the target; the count is the
+--                      body's bytes or the items. Kinds 9 and 13 are reserved and never read
 --   rowOf file at h    the row of its kind
---   readC file at      the four words, or the error's number, and its place and zeros
+--   headC file at a    the four words for a head; or the error's number, and its place and zeros
+--   readC file at      the same for the value at an offset of a file
 use Prim.Native.Nat.{ℕ, _-_, _^_}
 use mathlib.Core.List.{List, [], _∷_}
 use lib.Dec.{eqb}

@@ -1,8 +1,9 @@
--- What a call answers in C: a number, 0 or an error's, and words in an array of the caller's.
+-- What a call answers in C: a number, 0 or an error's, and words in an array of the caller.
 --
---   nameC n          the name of the error n with zeros behind it, 11 bytes; zeros alone for a number that no error has
---   reply n ws       the number n, and the array's words
---   errorC e         an error: its number, and its place and 0
+--   ended name         a name with zeros after it, 11 bytes in all
+--   nameC n            the name of error number n in this form; zeros alone if no error has this number
+--   Reply, reply n ws  the number n, and the words of the array
+--   errorC e           an error: its number, and its place and 0
 use Prim.Native.Nat.{ℕ, _-_}
 use mathlib.Core.List.{List, [], _∷_, _++_}
 use lib.ListN.{length, getD, replicate}

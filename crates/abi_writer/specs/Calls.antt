@@ -1,11 +1,17 @@
--- The writer's calls in C. Its state is five words of the caller's, which may hold anything.
+-- The writer's calls in C. The state is five words in the caller's memory, which may hold anything.
 --
---   writerOf state            the writer that the words are: written, count, pending, start, closed; any word but 0 means closed
---   wordsOf w                 the words of a writer; 1 where it is closed
---   truth b                   the scalar of a bool
---   called n state out table  the number that a call answers, and what state, output and table hold then
---   calledBy v r ..           the same where the writer says v and makes r of a call: 0 and what r leaves, or the error and all as it was
---   stepC c state out table   what the call c answers and leaves
+--   writerOf state            the writer that the words stand for: written, count, pending, start, and closed if the
+--                             fifth is not 0
+--   wordsOf w                 the words of a writer; the fifth is 1 if it is closed, else 0
+--   truth b                   the scalar for a bool
+--   Called, called n state out table
+--                             the number that a call returns, and what state, output and table hold after it
+--   calledBy v r state out table
+--                             the same, if the writer answers v and its result is r: 0 and what r leaves, or the
+--                             error and no change
+--   stepC c state out table   what the call c returns and leaves
+--   settleC a w state         the number for the answer a, and the state's words after it: those of the next writer w,
+--                             or on an error those of before. No contract of a C function cites it
 use Prim.Native.Nat.{ℕ}
 use mathlib.Core.Bool.{Bool, true, false, not}
 use mathlib.Core.List.{List, [], _∷_}
@@ -56,7 +62,6 @@ calledBy (error f) r state out table = called f state out table
 unfoldable pub stepC : Call → List ℕ → List ℕ → List ℕ → Called
 stepC c state out table = let r = step c (writerOf state) out table in calledBy (r .answer) r state out table
 
--- the number, and the state's words, where the writer w is the next; no contract of C's functions cites it
 abbrev pub settleC : WriteAnswer → Writer → List ℕ → Reply
 settleC Ok w state = reply 0 (wordsOf w)
 settleC (Err e) w state = reply (numberOf e) state

@@ -1,6 +1,6 @@
 -- What the answers of this crate's functions mean.
 --
---   checkAnswer  count and entry, or the error's number and place
+--   checkAnswer r  count and entry, or the error's number and place
 use Prim.Native.Nat.{ℕ}
 use Rattle.prelude.specs.Answer.{Answer, ok, error}
 use Rattle.error.specs.Error as errors

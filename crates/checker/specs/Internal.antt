@@ -1,8 +1,7 @@
--- What this crate's private functions make. No public contract cites this file.
+-- What this crate's private functions return. No public contract cites this file.
 --
---   checkInAnswer r t
---                     a `CheckResult` with the table t that it left: starts and entry, or the error's number and place
---   keptWords r       how many words of the table it keeps
+--   checkInAnswer r t  a `CheckResult` with the table t that it left: starts and entry, or the error's number and place
+--   keptWords r        how many words of the table it keeps
 use Prim.Native.Nat.{ℕ}
 use mathlib.Core.List.{List}
 use lib.ListN.{take}

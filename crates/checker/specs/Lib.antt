@@ -2,5 +2,5 @@
 pub mod Check
 -- what the code's answers mean
 pub mod Answers
--- what the private functions make
+-- what the private functions return
 pub mod Internal

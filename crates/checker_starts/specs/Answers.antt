@@ -1,7 +1,7 @@
--- What the answer of `list_starts` means. No contract for users cites this file.
+-- What the answer of `list_starts` means. No contract of a function for users cites this file.
 --
 --   listAnswer r t    a `ListResult` with the table t that it left: the starts, or the error's number and place
---   Listed r t        the starts that it tells are words of t
+--   Listed r t        t has a word for each start that it reports
 use Prim.Native.Nat.{ℕ, _≤_}
 use mathlib.Core.List.{List}
 use lib.ListN.{length, take}

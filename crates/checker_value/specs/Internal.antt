@@ -1,14 +1,15 @@
--- What this crate's functions make, in terms of the walk.
+-- What this crate's functions return, in terms of the walk.
 --
 --   inValue at start pending done
---                     the walk at `at` in the value that begins at `start`, with so many items pending there; behind it where none is
+--                     the walk at `at`, in the value that begins at `start`, with that many items pending; after the
+--                     value if none is
 --   rest r s cap done start
---                     what the walk comes to where a `PassResult` tells the end of that value, or an error in it
---   Ends r at n       the end that it tells is one of at to n
+--                     the result of the walk, if the `ValueResult` r reports the end of that value, or an error in it
+--   Ends r at n       the end that r reports is at least `at` and at most n
 --   ChecksItems r s done at items
---                     it tells what the walk finds in so many items of a value, from `at` on
+--                     r reports what the walk finds in that many items of a value, from `at` on
 --   ChecksValue r s done at
---                     the same of a value, where the table has a word for it
+--                     the same for a whole value, if the table has a word for it
 use mathlib.Core.Path.{_≡_}
 use Prim.Native.Nat.{ℕ, _+_, _≤_, _<_}
 use mathlib.Core.List.{List, [], _∷_, _++_}

@@ -1,4 +1,4 @@
 -- the walk over a region's tokens
 pub mod Walk
--- what the functions make, in terms of the walk
+-- what the functions return, in terms of the walk
 pub mod Internal

@@ -1,19 +1,21 @@
--- The walk of check over a region (document 01, "Check and depths"): left to right, token by token, and the first fault wins.
+-- The walk of check over a region (document 01, "Check and depths"): left to right, token by token; the first fault wins.
 --
---   Walk               where the walk stands: the offset, the start of the value that it is in, the items pending there, and the starts
---                      of the values before it
---   between at done    the walk between two values, at `at`
 --   hasTarget done at h
---                      whether the reference or pointer of head h at `at` has its target among the starts `done`
+--                      whether the reference or pointer with head h at `at` has its target among the starts `done`
 --   tokenFault s done at h
---                      the token of head h at `at` of the region s: BAD_TEXT, then BAD_TARGET, or itself
+--                      the token with head h at `at` of the region s: BAD_TEXT, then BAD_TARGET; else the head
+--   Walk               where the walk is: the offset, the start of the value it is in, the items pending there, and the
+--                      starts of the values before it
+--   between at done    the walk between two values, at `at`
 --   nextToken s cap done pending at
---                      the token at `at`, where that many items are pending, with a table of cap words: FULL of a new value, then the
---                      token's own faults in their order
---   walkAfter w h      the walk behind it: a value's start is listed when none of its items is pending
---   walkTurn s cap w   one turn: the starts at the region's end between two values, and else a token
---   walkTurned w a     the same by what `nextToken` told
---   startsFrom s cap w the starts of a region's values, or the first fault; the walk goes on from w
+--                      the token at `at`, with that many items pending and a table of cap words: FULL for a new value,
+--                      then the token's own faults in their order
+--   due pending items  the items pending after a token: its own if it begins a value, else one less than before
+--   walkAfter w h      the walk after a token with head h: a value's start is listed once none of its items is pending
+--   walkTurned w a     the turn at w, if `nextToken` answered a
+--   walkTurn s cap w   one turn: at the region's end between two values, the starts; else a token
+--   startsFrom s cap w
+--                      the starts of a region's values, or the first fault; the walk goes on from w
 use Prim.Native.Nat.{ℕ, _-_}
 use mathlib.Core.Bool.{Bool, not, _&&_}
 use mathlib.Core.List.{List, [], _∷_, _++_}
@@ -55,7 +57,6 @@ nextToken s cap done pending at =
     pick (eqb pending 0 && leb cap (length done)) (error (fault FULL at))
     (bind (scanAt (ltb 0 pending) s at) (tokenFault s done at))
 
--- the items pending behind a token: its own where it begins a value, and else one less than before
 abbrev pub due : ℕ → ℕ → ℕ
 due pending items = pick (eqb pending 0) items (pending - 1)
 
@@ -72,6 +73,6 @@ walkTurned w (error e) = stop (error e)
 unfoldable pub walkTurn : List ℕ → ℕ → Walk → Turn Walk (Answer Fault (List ℕ))
 walkTurn s cap w = pick (eqb (w .pending) 0 && leb (length s) (w .at)) (stop (ok (w .done))) (walkTurned w (nextToken s cap (w .done) (w .pending) (w .at)))
 
--- each turn goes on in the region, so the loop stops; `fault 0 0` is never told
+-- each turn goes on in the region, so the loop stops; `fault 0 0` is never the answer
 unfoldable pub startsFrom : List ℕ → ℕ → Walk → Answer Fault (List ℕ)
 startsFrom s cap w = from (walkTurn s cap) (λ v. length s - v .at) (error (fault 0 0)) w

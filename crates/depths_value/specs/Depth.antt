@@ -1,10 +1,14 @@
--- The depth of a value (document 01, "Check and depths"), by the depths of those before it.
+-- The depth of a value (document 01, "Check and depths"), from the depths of the values before it.
 --
---   targetDepth ss ds at h     the depth of what the token of head h at `at` targets, where the values start at ss and ds are the depths of
---                              those before; 0 where it targets nothing
---   depthTurn s ss ds end w    one turn: a token that starts before `end`, and the greater of its depth and the one so far
---   deepestIn s ss ds end at   the greatest such depth of the tokens of the region s from `at` to `end`; a token that does not scan ends it,
---                              which no accepted file has
+--   targetDepth ss ds at h     the depth of the target of the token with head h at `at`, or 0 if it has none; ss are
+--                              the starts of the values, and ds the depths of those before this one
+--   DepthState, depthState at deep
+--                              an offset, and the greatest depth so far
+--   depthTurned ss ds w a      the turn at w, if the token there was scanned with the answer a
+--   depthTurn s ss ds end w    one turn: a token that starts before `end`; the state keeps the greatest depth of a target
+--   deepestFrom s ss ds end w  the greatest depth of a target of the tokens of the region s, from the state w on up to
+--                              `end`; a token that does not scan ends it, which no accepted file has
+--   deepestIn s ss ds end at   the same from the offset `at` on
 --   depthAt s ss ds i          the depth of value number i: one more than the greatest depth of its targets
 --   depthsTo s ss k            the depths of the first k values
 use Prim.Native.Nat.{ℕ, zero, suc, _-_, max}
@@ -23,7 +27,6 @@ use Rattle.scan.specs.declared.Head.{Head}
 abbrev pub targetDepth : List ℕ → List ℕ → ℕ → Head → ℕ
 targetDepth ss ds at h = pick (leb 14 (h .kind) && ltb (h .n) at) (getD ds (rank (at - h .n - 1) ss) 0) 0
 
--- an offset, and the greatest depth so far
 pub record DepthState : Type 0 where
   pub at : ℕ
   pub deep : ℕ
@@ -44,7 +47,7 @@ deepestFrom s ss ds end w = from (depthTurn s ss ds end) (λ v. length s - v .at
 abbrev pub deepestIn : List ℕ → List ℕ → List ℕ → ℕ → ℕ → ℕ
 deepestIn s ss ds end at = deepestFrom s ss ds end (depthState at 0)
 
--- value number i ends where the next one starts, the last at the region's end
+-- value number i ends where the next one starts, and the last at the region's end
 unfoldable pub depthAt : List ℕ → List ℕ → List ℕ → ℕ → ℕ
 depthAt s ss ds i = suc (deepestIn s ss ds (getD ss (suc i) (length s)) (getD ss i 0))
 

@@ -1,6 +1,6 @@
--- What the functions of depth and depths take. No contract for users cites this file.
+-- What the functions of depths_value and depths require. No contract of a function for users cites this file.
 --
---   Starts s ss    ss rise and are offsets of the region s
+--   Starts s ss    ss is rising, and its words are offsets of the region s
 use Prim.Native.Nat.{ℕ, _<_}
 use mathlib.Core.List.{List}
 use lib.ListN.{length, getD}

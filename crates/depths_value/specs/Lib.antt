@@ -1,4 +1,4 @@
 -- the depth of a value: one more than the greatest depth of its targets
 pub mod Depth
--- what the functions take
+-- what the functions require
 pub mod Internal

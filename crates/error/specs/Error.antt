@@ -1,14 +1,14 @@
 -- The errors of document 01 ("Numbers of refusal").
 --
---   EMPTY, ..        the numbers
---   numberOf k       the number of the code's error k
---   names            their names in the paper's spelling, as bytes, by number; entry 0 is empty, since no error has the number 0
---   nameOf k         the name of the code's error k
---   padded s         the name s as the code tells it, filled up with zeros
---   Fault            an error as the paper tells it: its number and its place
---   fault f p        the error f at the place p
---   faultOf e        the code's error e as the paper tells it
---   LIMIT            the most bytes that a file may have: one with more is TOO_LONG
+--   LIMIT                the most bytes that a file may have: a longer one is TOO_LONG
+--   EMPTY, ..            the numbers
+--   numberOf k           the number of the code's error k
+--   Fault, fault f p     an error as document 01 has it: its number f and its place p
+--   faultOf e            the code's error e in this form
+--   names                the names in document 01's spelling, as bytes, by number; entry 0 is empty, since no error
+--                        has the number 0
+--   nameOf k             the name of the code's error k
+--   padded s             the name s as the code returns it, padded with zeros
 use Prim.Native.Nat.{ℕ}
 use mathlib.Core.List.{List, [], _∷_, _++_}
 use lib.ListN.{length, take, replicate, getD}

@@ -1,2 +1,2 @@
--- the errors: numbers, names, and what the code's error tells
+-- the errors: numbers, names, and what the code's error means
 pub mod Error

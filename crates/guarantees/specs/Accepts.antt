@@ -1,11 +1,11 @@
 -- What check's answers mean, in terms of values (document 01, "Row of a file", "Check and depths").
 --
 --   Accepted file cap count entry table
---                      the file is well formed, with `count` values and the entry `entry`; a table of cap words has a word for each of them, and
---                      becomes `table`: their starts, and zeros behind them
+--                      the file is well formed, with `count` values and the entry `entry`; a table of cap words has a
+--                      word for each value, and becomes `table`: their starts, and zeros after them
 --   Overfull file cap p
---                      the file begins with cap values as they may stand there, its first p bytes, and the region goes on at p: with one
---                      value more than there are words
+--                      the first p bytes of the file are cap values that a file may begin with, and the region goes on
+--                      at p: with one value more than there are words
 use Prim.Native.Nat.{ℕ, _-_, _≤_, _<_}
 use mathlib.Core.Path.{_≡_}
 use mathlib.Core.List.{List}

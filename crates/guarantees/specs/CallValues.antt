@@ -1,9 +1,8 @@
--- What reading must tell of what a call wrote (document 01, "Row of a file").
+-- What reading must return for what a call wrote (document 01, "Row of a file").
 --
---   first q k n a   the offset just behind the header at q and its numbers, of kind k with the number n and the argument count a: where a body, or
---                   the items, start
---   valueOfCall q c
---                   the value that reading tells of what the call c wrote at q: of a close, the pointer where it adds one
+--   first q k n a    the offset just after the header at q and its numbers, for kind k, number n and argument count a:
+--                    where the body, or the items, start
+--   valueOfCall q c  the value that reading returns for what the call c wrote at q; for a close, the pointer, if it adds one
 use Prim.Native.Nat.{ℕ, _+_, _*_}
 use mathlib.Core.List.{[]}
 use lib.ListN.{length}

@@ -1,10 +1,17 @@
--- Lists of the writer's calls, and what the reference model says of them.
+-- Lists of the writer's calls, and the reference model's answers to them.
 --
---   Ran, runs cs ..    the answers of the calls cs one after the other, each given the state, output and table that the one before left; and
---                      what the last left
---   ModelRan, modelRun cs .. the answers of the reference model, with an output of n bytes and a table of m words, and the model behind the last
---   Agree ..           the bytes written and the starts listed are the model's, with the items pending and the close. Nothing is said here of the
---                      output and the table behind them
+--   Ran, ran vs s out table
+--                      the answers of a list of calls, and the state, output and table that the last one left
+--   runs cs s out table
+--                      the calls cs one after the other, each given the state, output and table that the one before left
+--   ModelRan, modelRan vs b
+--                      the model's answers to a list of calls, and the model after the last one
+--   unlessRefused v b next
+--                      the model after the answer v: `next` if the call was accepted; a refused call changes nothing
+--   modelRun cs b n m  the calls cs made to the model b, with an output of n bytes and a table of m words
+--   Agree s out table b
+--                      the bytes written and the starts listed are the model's, and so are the items pending and the
+--                      close. Nothing is said here about the rest of the output and of the table
 use Prim.Native.Nat.{ℕ}
 use mathlib.Core.Path.{_≡_}
 use mathlib.Core.List.{List, [], _∷_}
@@ -37,7 +44,6 @@ pub record ModelRan : Type 0 where
 abbrev pub modelRan : List Verdict → Model → ModelRan
 modelRan vs b = record { answers = vs; model = b }
 
--- a refused call changes nothing
 abbrev pub unlessRefused : Verdict → Model → Model → Model
 unlessRefused (ok u) b next = next
 unlessRefused (error f) b next = b

@@ -2,9 +2,9 @@
 pub mod Accepts
 -- what its refusals mean
 pub mod Refused
--- what the pages say of a token
+-- what the Twine pages say about a token
 pub mod TokenValues
--- the tokens of a file's values by their place, and where following comes to
+-- the tokens of a file's values by their place, and where following leads
 pub mod Places
 -- document 01's samples
 pub mod Samples
@@ -12,11 +12,11 @@ pub mod Samples
 pub mod Model
 -- lists of calls, of the writer and of the model
 pub mod History
--- what the reader gives back of the model's values
+-- what the reader gives back for the model's values
 pub mod ReadsBack
 -- the calls that write values again
 pub mod Rewrites
--- what reading must tell of what a call wrote
+-- what reading must return for what a call wrote
 pub mod CallValues
 -- lists of calls, and the bytes that they write
 pub mod Written

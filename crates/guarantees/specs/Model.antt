@@ -1,29 +1,37 @@
--- The reference model of the writer (document 01's plain book), in terms of values alone: no buffer, no table, no state that is handed in.
+-- The reference model of the writer (document 01: "plain book"), in terms of values alone: no buffer, no table, no
+-- state handed in.
 --
---   Part               what a call puts down: its kind, its number, the argument count of a variant of many, and its body. The number is the
---                      table's n (of a text or byte string its length, of a float 0 for 4 bytes and 1 for 8), but of a reference or pointer its
---                      target, the offset that was handed in
---   Request, requestOf c
---                      what the call c asks for: a part, or a close at an offset
---   formOf q p         the token of p in the form of a file, with its header at q: a target is told by its distance. `-` stops at 0: where the
---                      target is not below q, it is no start and p is BAD_TARGET
---   ModelValue         a value: the part that began it, and the items that it has taken
---   valueAt, valuesAt  values in the form of a file, the first at an offset
+--   Part, part k n a b
+--                      what a call adds: its kind, its number, the argument count of a variant of many, and its body.
+--                      The number is the table's n (the length of a text or byte string; 0 for a float of 4 bytes, 1
+--                      for one of 8); for a reference or pointer it is the target, the offset that was handed in
+--   Request            what a call asks for: a part, or a close at an offset
+--   requestOf c        what the call c asks for
+--   ModelValue, modelValue p ps
+--                      a value: the part that began it, and the items that it has taken
+--   formOf q p         the token of p as a file has it, with its header at q: a target is stored as a distance. `-`
+--                      stops at 0: a target that is not below q is not a start, and p is BAD_TARGET
+--   formsOf q ps       the tokens of parts, the first at q
+--   valueAt, valuesAt  values as a file has them, the first at an offset
 --   Stage              no value is open; one is, as far as it got; or the model is closed, with this delta byte
---   Model, emptyModel  the finished values in order, and the stage; the model before any call
+--   openOf g, deltaOf g
+--                      the open value of a stage, and its delta byte, as lists: empty if it has none
+--   isClosed g         whether the stage is closed
+--   Model, model vs g  the finished values in order, and the stage
+--   emptyModel         the model before any call
 --   modelBytes b       the bytes: those of the finished values, those of the open one, and the delta
---   modelStarts b      the starts of the finished values: each counts the bytes before it
+--   modelStarts b      the starts of the finished values: each is the number of bytes before it
 --   pendingIn v, pendingAt g
---                      the items still pending of a value, and at a stage
---   grown g p          the value that p begins, or is the next item of
---   settle vs v        v behind the finished values vs: finished when no item of it is pending, and else open
---   firstOf ..         the first reason to refuse, in document 01's order. BAD_STATE is none: the model is handed no state
+--                      the items still pending in a value, and at a stage
+--   grown g p          the value that p begins, or whose next item p is
+--   firstOf ..         the first reason to refuse, in document 01's order; without BAD_STATE, since the model is handed no state
 --   modelRoom b n      the bytes left for parts, with an output of n bytes
 --   backTo e b         the delta that would name the value at e
 --   modelAnswer l b n m
---                      the answer to what a call asks for, with an output of n bytes and a table of m words. Each value has a byte, so that the
---                      model's starts are all below its bytes, as targets must be
---   modelAfter l b     the model after what was accepted
+--                      the answer to the request l, with an output of n bytes and a table of m words. Each value has a
+--                      byte, so the model's starts are all below its bytes, as targets must be
+--   settle vs v        the model with v after the finished values vs: finished if none of its items is pending, else open
+--   modelAfter l b     the model after the request l was accepted
 use Prim.Native.Nat.{ℕ, _+_, _-_, min}
 use mathlib.Core.Bool.{Bool, true, false, not, _&&_}
 use mathlib.Core.List.{List, [], _∷_, _++_}
@@ -174,7 +182,7 @@ modelAnswer (adds p) b n m =
     firstOf (isClosed (b .stage)) (not (immediate (rule (p .kind))) && ltb 0 (pendingAt (b .stage))) (eqb (p .kind) 4 && not (isText (p .body)))
     (leb 14 (p .kind) && not (among (p .number) (modelStarts b))) (eqb (pendingAt (b .stage)) 0 && leb m (length (b .finished)))
     (ltb (modelRoom b n) (length (emit (formOf (length (modelBytes b)) p)) + pendingIn (grown (b .stage) p)))
--- a delta byte reaches back 256 bytes; farther back, a pointer is a new value, and the room holds back a byte for its delta
+-- a delta byte reaches back 256 bytes; farther back, a pointer is added as a new value, and the room keeps a byte for its delta
 modelAnswer (ends e) b n m =
     let far = ltb 255 (backTo e b) in
     firstOf (isClosed (b .stage)) (ltb 0 (pendingAt (b .stage))) false (not (among e (modelStarts b))) (far && leb m (length (b .finished)))

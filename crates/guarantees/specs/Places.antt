@@ -1,8 +1,8 @@
--- The tokens of a file's values by their place, and where following comes to.
+-- The tokens of a file's values by their place, and where following leads.
 --
---   TokenAt vs j q t     t is a token of value number j of the values vs, its head or an item, and its header is at q
---   FollowsTo file vs j q
---                        following from q comes to the start of value number `number`, which is no pointer; `hops` and `number` make at most j
+--   TokenAt vs j q t       t is a token of value number j of the values vs, its head or an item, and its header is at q
+--   FollowsTo file vs j q  following from q reaches the start of value number `number`, which is not a pointer; `hops`
+--                          and `number` add up to at most j
 use Prim.Native.Nat.{ℕ, _+_, _≤_}
 use mathlib.Core.Path.{_≡_}
 use mathlib.Core.List.{List, _∷_, _++_}

@@ -1,15 +1,16 @@
--- What the reader gives back of a file that the writer closed, in terms of the reference model's values.
+-- What the reader gives back for a file that the writer closed, in terms of the reference model's values.
 --
+--   endOf vs           where the values vs end, and the next value starts
 --   Holds vs j q p     p is a part of value number j of the values vs, its head or an item, and its header is at q
---   Names b j q p      p at q, a part of value number j of the model b, names a finished value before that one: its start is p's number, the offset
---                      that was handed in
---   valueOfPart q p    what reading must tell of p at q: of a reference or pointer the offset that was handed in
+--   Names b j q p      p at q, a part of value number j of the model b, names a finished value before that one: its
+--                      start is p's number, the offset that was handed in
+--   valueOfPart q p    what reading must return for p at q; for a reference or pointer, the offset that was handed in
 --   GivesBack file vs entry
---                      the file is well formed, with the values vs; check, with enough words, accepts it, with their starts and this entry;
---                      reading, items and bodies tell the values vs
+--                      the file is well formed, with the values vs; check, given enough words, accepts it, with their
+--                      starts and this entry; reading, items and bodies return the values vs
 --   ReadsBack b e c file
---                      the model was b before it was closed at e, and is c behind that: c's values are b's, and where one was needed the pointer;
---                      the file gives them back, with the entry where document 01 has it
+--                      the model was b before it was closed at e, and is c after that: c's values are b's, and the
+--                      pointer if one was needed; the file gives them back, with the entry that document 01 asks for
 use Prim.Native.Nat.{ℕ, _+_, _-_, _≤_, _<_}
 use mathlib.Core.Path.{_≡_}
 use mathlib.Core.Bool.{true, false}
@@ -31,7 +32,6 @@ use Rattle.checker.specs.Check.{checked, filled, checkOf}
 use Rattle.guarantees.specs.TokenValues.{tokenEnd, valueOfToken}
 use Rattle.guarantees.specs.Model.{Part, part, ModelValue, modelValue, formOf, formsOf, valueAt, valuesAt, Model, modelBytes, modelStarts, backTo}
 
--- where the value behind the values vs starts
 abbrev pub endOf : List ModelValue → ℕ
 endOf vs = length (region (valuesAt 0 vs))
 

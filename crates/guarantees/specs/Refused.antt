@@ -1,13 +1,13 @@
--- What check's refusals mean (document 01, "Numbers of refusal"); FULL is said once more, by itself, by `Overfull`.
+-- What check's refusals mean (document 01, "Numbers of refusal"); FULL also has a statement of its own, `Overfull`.
 --
---   Unnamed file cap p  BAD_ENTRY: all else is well formed, and the delta byte, at p, names the start of no value
+--   Unnamed file cap p   BAD_ENTRY: all else is well formed, but the delta byte, at p, does not name the start of a value
 --   Begun cap len vs t is k
---                       behind the values vs, in a region of len bytes, a value is open: its head t and its items so far `is`, as they may
---                       stand there, with k items missing
+--                        after the values vs, in a region of len bytes, a value is open: its head t and its items so
+--                        far, `is`, are allowed there, and k items are missing
 --   Open cap len vs ts k
---                       the tokens ts behind the values vs are such an open value, or there is none
---   Faulty file cap p f a fault of the walk: all before p is well formed, finished values and an open one as far as it got; the token that is
---                       wanted at p is refused, with f
+--                        the tokens ts after the values vs are such an open value; or there are none, and no item is missing
+--   Faulty file cap p f  a fault of the walk: all before p is well formed, finished values and an open one as far as it
+--                        got; the token that is wanted at p is refused with f
 use Prim.Native.Nat.{ℕ, _+_, _-_, _≤_, _<_}
 use mathlib.Core.Path.{_≡_}
 use mathlib.Core.Bool.{false}
@@ -35,7 +35,7 @@ pub record Begun (cap len : ℕ) (vs : List Value) (t : Token) (is : List Token)
   -- its start has a word
   pub word : length vs < cap
   pub head : Sound t
-  -- the items that the head counts have a byte each behind it
+  -- the items that the head counts have a byte each after it
   pub room : length (region vs) + length (emit t) + counted (rule (t .kind)) (t .n) (t .args) ≤ len
   pub items : Each Item is
   pub count : length is + k ≡ pending (rule (t .kind)) (t .n) (t .args)

@@ -1,17 +1,18 @@
 -- The calls that write values again.
 --
---   callOf q t       the call that writes the token t at q: of sixteen rows, one for each kind in their order, the one of its kind; 9 and 13 are
---                    reserved. `-` stops at 0: a target q - n - 1 means something where n < q, which it is in a well-formed file
---   callsAt q ts     the calls of tokens, the first at q
---   callsOf q vs     the calls of values, the first at q: each value's head, then its items
+--   callRows q t     the call for the token t at q: a row for each kind, in the order of the kinds; 9 and 13 are reserved
+--   callOf q t       the row of t's kind. `-` stops at 0: a target q - n - 1 is meaningful if n < q, as in a
+--                    well-formed file
+--   callsAt q ts     the calls that write tokens, the first at q
+--   callsOf q vs     the calls that write values, the first at q: each value's head, then its items
 --   rewriting vs entry
 --                    the calls that write a file's values vs again, and close at its entry
---   callOfValue v s  the call that writes a value again which the reader tells as v, with the body s where it is a text or byte string: what
---                    is told is enough
+--   callOfValue v s  the call that writes again a value that the reader returned as v, with the body s if it is a text
+--                    or byte string: what the reader returns is enough
 --   AllOk as         each of the answers is `ok`
 --   Rewritten file entry out table
---                    the file has values, a new writer accepts each call that writes them again in order and closes at the entry, and what it has
---                    written then is the file
+--                    the file has values; a new writer accepts each call that writes them again in order, and the close
+--                    at the entry; what it has written then is the file, and what it has listed are the values' starts
 use Prim.Native.Nat.{ℕ, _+_, _-_}
 use mathlib.Core.Path.{_≡_}
 use mathlib.Core.List.{List, [], _∷_, _++_}

@@ -1,11 +1,12 @@
--- The twelve marked samples of document 01, as one list: a file, what is asked of it, and what the paper says. Two of the samples ask more than
--- one thing, and stand there for each.
+-- The twelve marked samples of document 01, as one list: a file, a query, and what document 01 answers. Two of the
+-- samples ask more than one thing, and have an entry for each.
 --
---   Query        check and depths, each with tables of four words; an item of the value at an offset; the value at an offset
---   SampleAnswer
---                check's answer and table, and the depths; an offset; a value
+--   Query            check and depths, each with tables of four words; an item of the value at an offset; the value at an offset
+--   SampleAnswer     check's answer and table, and the depths; an offset; a value
 --   sampleAnswer file q
---                what the definitions that the contracts cite tell
+--                    the answer by the definitions that the contracts cite
+--   refused f place  check's error f at `place`, which leaves zeros
+--   samples          the list
 use Prim.Native.Nat.{ℕ, _-_, _^_}
 use mathlib.Core.List.{List, [], _∷_, _++_}
 use lib.IntN.{negsuc}
@@ -34,7 +35,6 @@ sampleAnswer file check = table (checkOf file 4) (depthsOf file 4 4 .depths)
 sampleAnswer file (item at i) = offset (itemOf file at i)
 sampleAnswer file (read at) = value (readOf file at)
 
--- an error of check leaves zeros
 abbrev refused : ℕ → ℕ → SampleAnswer
 refused f place = table (checked (error (fault f place)) (replicate 4 0)) (replicate 4 0)
 

@@ -1,9 +1,9 @@
--- What the Twine pages say of a token (document 01, "Row of a file"), by the token alone.
+-- What the Twine pages say about a token (document 01, "Row of a file"), in terms of the token alone.
 --
---   tokenEnd q t  the offset just behind the token t whose header is at q: where its items start
---   valueOfToken q t
---                 the value that t is the head of: of sixteen rows, one for each kind in their order, the one of its kind; 9 and 13 are
---                 reserved. `-` stops at 0: a target q - n - 1 means something where n < q, which it is in a well-formed file
+--   tokenEnd q t      the offset just after the token t whose header is at q: where its items start
+--   tokenRows q t     the value that t is the head of: a row for each kind, in the order of the kinds; 9 and 13 are reserved
+--   valueOfToken q t  the row of t's kind. `-` stops at 0: a target q - n - 1 is meaningful if n < q, as in a
+--                     well-formed file
 use Prim.Native.Nat.{ℕ, _+_, _-_, _*_}
 use mathlib.Core.List.{List, [], _∷_}
 use lib.Dec.{eqb}

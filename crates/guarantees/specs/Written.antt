@@ -1,8 +1,13 @@
--- Lists of calls with the bytes that they write, as document 01 has them: a part of each kind; document 001's file; and its two samples of a close.
+-- Lists of calls with the bytes that they write, as document 01 has them: a part of each kind; document 001's file; and
+-- the two samples of a close.
 --
---   Sample        calls, how long output and table are, and then the bytes written and the starts listed; each call is accepted
---   writes s      the bytes written, the starts listed and the answers, by the definition that the writer's contracts cite, where output and table
---                 hold ones at first
+--   Sample, sample cs n m b ss
+--                 the calls cs, with an output of n bytes and a table of m words, are all accepted; then the bytes b
+--                 are written and the starts ss listed
+--   writes s      the bytes written, the starts listed and the answers, by the definition that the writer's contracts
+--                 cite; output and table hold ones at first
+--   expects s     the same, as the sample says
+--   written       the samples
 use Prim.Native.Nat.{ℕ}
 use mathlib.Core.List.{List, [], _∷_, _++_, map}
 use lib.IntN.{pos, negsuc}

@@ -1,6 +1,6 @@
 -- The code's packed form of a rule: sixteen bits. No public contract cites this file.
 --
---   bound c     what n may be at most, of a code below 8: c itself below 3; 32, 63 and 64 bits for 3, 4 and 5
+--   bound c     the greatest n, for a code c below 8: c itself below 3; the greatest of 32, 63 and 64 bits for 3, 4 and 5
 --   unpack c    the rule of the packed form c
 use Prim.Native.Nat.{ℕ, _-_, _*_, _/_, _%_, _^_}
 use lib.Dec.{eqb}

@@ -1,9 +1,12 @@
--- The kind table (document 01, "Row of a file"), as numbers, so that what a token holds is reckoned and not told kind by kind.
+-- The kind table (document 01, "Row of a file"), as numbers, so that sizes are computed from the table, without a case
+-- for each kind.
 --
+--   row ..          a rule, by the columns of the table
+--   reserved        the rule of a reserved kind: no low nibble is in use
 --   table           the sixteen rules, in the order of the kinds
---   rule k          the rule of kind k; that of a reserved kind past the table
+--   rule k          the rule of kind k; past the table, that of a reserved kind
 --   size r n        how many bytes the body has
---   counted r n a   the items that the file counts, by n or by a second number a, which is 0 where the kind has none
+--   counted r n a   the items that the file counts, by n or by a second number a, which is 0 if the kind has none
 --   pending r n a   all items: those, and the one of a tag or a variant of one
 --   immediate r     whether a value of this rule may be an item: its kind never has items, and is not reserved
 use Prim.Native.Nat.{ℕ, _+_, _-_, _*_, _^_}
@@ -27,8 +30,8 @@ row lows most fixed scale single each args = record {
 abbrev pub reserved : Rule
 reserved = row 0 0 0 0 0 0 false
 
--- the low nibbles in use; the most that n may be; the body's bytes, and its bytes for each n; items, and items for each n; whether
--- a second number counts items
+-- the columns: the low nibbles in use; the greatest n; the body's bytes, and its bytes for each n; items, and items for
+-- each n; whether a second number counts items
 abbrev pub table : List Rule
 table =
     row 3 2 0 0 0 0 false  -- 0: false, true, null

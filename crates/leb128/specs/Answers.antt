@@ -1,7 +1,6 @@
 -- What the answer of `get` means.
 --
---   answerOf r
---             a `GetResult` as document 01 tells it: the number with the bytes left, or the error's number
+--   answerOf r   a `GetResult` in document 01's terms: the number with the bytes left, or the error's number
 use Prim.Native.Nat.{ℕ}
 use Rattle.prelude.specs.Answer.{Answer, ok, error}
 use Rattle.error.specs.Error.{numberOf}

@@ -1,9 +1,10 @@
--- What this crate's private functions make. No public contract cites this file.
+-- What this crate's private functions return. No public contract cites this file.
 --
---   last, tenth       what a last byte makes, with `left` bytes after it; and what a last allowed one makes
---   raised d u a      the answer a with its number u times, and d more
---   valueOf r         the number of an answer, or 0
---   leftOf r          the bytes left of an answer, or 0; for the laws of crate scan
+--   last least b left   the answer at a last byte b, with `left` bytes after it
+--   tenth least b left  the same for the tenth byte, the last allowed one
+--   raised d u a        the answer a with its number times u, plus d
+--   valueOf r           the number of an answer, or 0
+--   leftOf r            the bytes left after an answer, or 0; for the laws of crate scan
 use Prim.Native.Nat.{ℕ, _+_, _*_}
 use lib.Dec.{ltb, leb}
 use Rattle.prelude.specs.Pick.{pick}

@@ -1,11 +1,13 @@
--- LEB128 numbers (document 01, "Row of a file"): seven bits a byte, the lowest first, the high bit set on all but the last.
+-- LEB128 numbers (document 01, "Row of a file"): seven bits a byte, the lowest first, the high bit set on all but the last byte.
 --
---   put k n          the shortest bytes of n, where k may follow the first; 9 for n below 2 ^ 64
---   get k least s    the number at the front of s and the bytes after it, where k bytes may follow the first; or the first fault:
---                    TRUNC where the bytes end before a wanted one, RANGE of a last allowed byte over 1, OVERLONG of a last byte
---                    below `least`, which is 0 at the first byte and 1 after it. `get 9 0` reads a number
---   value s          the number that the bytes s of a number hold, in whatever form
---   top k            what `put k` and `get k` reach: every number below it
+--   top k             `put k` and `get k` reach every number below it
+--   put k n           the shortest bytes of n, with at most k after the first; k is 9 for n below 2 ^ 64
+--   value s           the number that the bytes s of a number hold, shortest or not
+--   lastOf least b s  the answer at a last byte b, with the bytes s after it
+--   get k least s     the number at the front of s and the bytes after it, with at most k bytes after the first; or the
+--                     first fault: TRUNC if the bytes end before the number does, RANGE if a last allowed byte is over
+--                     1, OVERLONG if a last byte is below `least`, which is 0 at the first byte and 1 after it.
+--                     `get 9 0` reads a number
 use Prim.Native.Nat.{ℕ, zero, suc, _+_, _*_, _/_, _%_, _^_}
 use mathlib.Core.List.{List, [], _∷_}
 use lib.Dec.{ltb, leb}
@@ -24,7 +26,6 @@ unfoldable pub value : List ℕ → ℕ
 value [] = 0
 value (b ∷ s) = b % 128 + 128 * value s
 
--- the last byte of a number
 abbrev pub lastOf : ℕ → ℕ → List ℕ → Res ℕ ℕ
 lastOf least b s = guard (leb least b) OVERLONG (got b s)
 

@@ -2,5 +2,5 @@
 pub mod Leb
 -- what the answer of `get` means
 pub mod Answers
--- what the private functions make
+-- what the private functions return
 pub mod Internal

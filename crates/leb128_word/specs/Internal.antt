@@ -1,7 +1,7 @@
 -- Several bytes as one number, the lowest first, looked at together. No public contract cites this file.
 --
---   marks k w     of the k lowest bytes of w: 128 in the place of each that is below 128, and 0 in that of each other
---   sevens k w    the number of which the k lowest bytes of w have seven bits each, the lowest first
+--   marks k w     for each of the k lowest bytes of w, in its place: 128 if it is below 128, else 0
+--   sevens k w    the number made of the lower seven bits of each of the k lowest bytes of w, the lowest first
 use Prim.Native.Nat.{ℕ, zero, suc, _+_, _-_, _*_, _/_, _%_}
 
 unfoldable pub marks : ℕ → ℕ → ℕ

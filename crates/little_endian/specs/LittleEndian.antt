@@ -1,9 +1,9 @@
--- Float bits as bytes, lowest first (document 01, "Row of a file", the body of kind 3). A float is the number
--- that its bits are, and nothing is computed with it.
+-- Numbers as bytes, the lowest first. Float bits are stored this way (document 01, "Row of a file", the body of kind
+-- 3): a float is the number that its bits are, and nothing is computed with it.
 --
---   little k n    the k lowest bytes of n, lowest first
---   fromLittle s  the number that the bytes s hold, lowest first
---   load k s      the number that the first k bytes of s hold; 0 where s has fewer
+--   little k n    the k lowest bytes of n, the lowest first
+--   fromLittle s  the number that the bytes s hold, the lowest first
+--   load k s      the number that the first k bytes of s hold; 0 if s has fewer
 use Prim.Native.Nat.{ℕ, zero, suc, _+_, _*_, _/_, _%_}
 use mathlib.Core.List.{List, [], _∷_}
 use lib.Dec.{leb}

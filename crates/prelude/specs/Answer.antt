@@ -1,13 +1,14 @@
 -- What a call answers, and what a reader of bytes answers.
 --
 --   Answer E A         a value of A, or an error of E
---   bind a f           what f makes of a's value; a's error where it is one
+--   bind a f           f applied to a's value, or a's error
 --   Res E A            a value of A with the bytes after it, or an error of E
---   guard t e r        r where the test t passes, and else the error e
---   then r f           what f makes of r's value and the bytes after it; r's error where it is one
---   r >>= f, c >> r    the same two for `do`, where `need t e` is a test that reads nothing
---   orError f r        r with its error e told as f e
---   measured r         r with the bytes after the value counted: what code can tell without handing them back
+--   guard t e r        r if the test t passes, else the error e
+--   then r f           f applied to r's value and the bytes after it, or r's error
+--   orError f r        r, with f applied to its error
+--   measured r         r, with the bytes after the value only counted: what code can report without handing them back
+--   r >>= f, c >> r    `then` and `guard` in `do` form
+--   Need, need t e     a test that reads nothing, and the error if it fails: a line of `do`
 use Prim.Native.Nat.{ℕ}
 use mathlib.Core.Bool.{Bool, true, false}
 use mathlib.Core.List.{List}

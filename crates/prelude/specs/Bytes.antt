@@ -1,8 +1,8 @@
 -- Bytes, and bytes stored at the front of a buffer.
 --
---   Bytes s      each element of s is a byte
---   store p d    p stored at the front of d where it fits, and how many bytes that is; else d as it is, and 0
---   stored r e   what a call that stores tells: r bytes, and the buffer e that it leaves
+--   Bytes s             each element of s is a byte
+--   Stored, stored r e  what a call that stores answers: r bytes, and the buffer e that it leaves
+--   store p d           if p fits into d: its length, and d with p stored at its front; else 0, and d as it is
 use Prim.Native.Nat.{ℕ, _<_}
 use mathlib.Core.List.{List, [], _∷_, _++_}
 use lib.Dec.{leb}

@@ -1,4 +1,4 @@
--- the choice by a test
+-- choice by a test
 pub mod Pick
 -- what a call answers, and what a reader of bytes answers
 pub mod Answer
@@ -6,5 +6,5 @@ pub mod Answer
 pub mod Bytes
 -- a loop as a definition
 pub mod Loop
--- words searched in a list
+-- words in a list
 pub mod Search

@@ -1,7 +1,9 @@
 -- A loop as a definition: a turn goes on from a state, or stops with an answer.
 --
---   run turn r k s      at most k turns from s; r where they do not stop
---   from turn μ r s     the answer of the loop from s, where each turn makes the measure μ less; r is never told
+--   Turn S R            what a turn does: `go` on from a state of S, or `stop` with an answer of R
+--   follow t f          f applied to the state from which t goes on, or the answer with which it stops
+--   run turn r k s      the answer of at most k turns from s; r if they do not stop
+--   from turn μ r s     the answer of the loop from s, if each turn makes the measure μ less; then r is never the answer
 use Prim.Native.Nat.{ℕ, zero, suc}
 
 pub data Turn (S R : Type 0) : Type 0 where

@@ -1,7 +1,7 @@
--- Words searched in a list.
+-- Words in a list: whether one is there, and its rank.
 --
 --   among x xs    whether x is one of xs
---   rank x xs     how many of xs are less than x: where xs rise and x is one of them, its index
+--   rank x xs     how many of xs are less than x: its index, if xs is rising and x is one of them
 --   Rising xs     each is less than those after it
 use Prim.Native.Nat.{ℕ, _+_, _<_}
 use mathlib.Core.Bool.{Bool, false, _||_}

@@ -1,6 +1,6 @@
 -- What the answer of `body_place` means.
 --
---   bodyAnswer  first offset and length, or the error's number and place
+--   bodyAnswer r  first offset and length, or the error's number and place
 use Prim.Native.Nat.{ℕ}
 use Rattle.prelude.specs.Answer.{Answer, ok, error}
 use Rattle.error.specs.Error as errors

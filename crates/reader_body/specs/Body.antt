@@ -1,8 +1,11 @@
--- The body of a text or byte string (document 01, "Questions at an offset"), in files that nobody checked.
+-- The body of a text or byte string (document 01, "Questions at an offset"), in unchecked files.
 --
---   bodyPlaceOf file at  first offset and length of the text or byte string that `at` leads to; it begins with `inRegion`: EMPTY, TOO_LONG,
---                        OUTSIDE
---   bodyOf file at       its bytes; none on an error
+--   bodyPlaceOn at h     first offset and length of the body of the value at `at` with head h; WRONG_KIND if it is
+--                        neither a text nor a byte string
+--   bodyPlaceIn s at     the same for the value that `at` leads to, in a region
+--   bodyPlaceOf file at  the same in a file; it begins with `inRegion`: EMPTY, TOO_LONG, OUTSIDE
+--   bodyPart file a      the bytes at such a place; none on an error
+--   bodyOf file at       the bytes of the body that `at` leads to; none on an error
 use Prim.Native.Nat.{ℕ, _-_}
 use mathlib.Core.Bool.{_||_}
 use mathlib.Core.List.{List, []}
@@ -15,7 +18,6 @@ use Rattle.scan.specs.declared.Head.{Head}
 use Rattle.reader_region.specs.Region.{inRegion}
 use Rattle.reader_follow.specs.Follow.{position, followFrom}
 
--- the body of a value that following came to
 abbrev pub bodyPlaceOn : ℕ → Head → Answer Fault (ℕ × ℕ)
 bodyPlaceOn at h = pick (eqb (h .kind) 4 || eqb (h .kind) 5) (ok (h .first, h .end - h .first)) (error (fault WRONG_KIND at))
 

@@ -1,8 +1,7 @@
 -- What the answers of this crate's functions mean.
 --
---   followHeadAnswer
---                 where following came to, or the error's number and place
---   followAnswer  its offset and the hops, or the same
+--   followHeadAnswer r  the value that following reached, or the error's number and place
+--   followAnswer r      its offset and the hops, or the same error
 use Prim.Native.Nat.{ℕ}
 use Rattle.prelude.specs.Answer.{Answer, ok, error}
 use Rattle.error.specs.Error as errors

@@ -1,10 +1,15 @@
--- Pointers followed (document 01, "Questions at an offset"), in files that nobody checked.
+-- Pointers followed (document 01, "Questions at an offset"), in unchecked files.
 --
---   followFrom s p      from the spot p, an offset and the pointers met before it, from pointer to pointer to a value of another kind: its
---                       offset, its head, and the pointers met
+--   Followed, followed at hops h
+--                       a value that following reached, with its offset and its head, and the pointers met
+--   Position, position at hops
+--                       an offset, and the pointers met before it
+--   followTurned p a    the turn at p, if the token there was looked at with the answer a
+--   followTurn s p      one turn: a pointer leads on to its target; a value of another kind is the answer
+--   followFrom s p      from the position p, from pointer to pointer to a value of another kind
 --   followHeadOf file at
---                       the same from any offset of a file, which begins with `inRegion`: EMPTY, TOO_LONG, OUTSIDE
---   followOf file at    the same: offset and hops
+--                       the same from any offset of a file; it begins with `inRegion`: EMPTY, TOO_LONG, OUTSIDE
+--   followIn, followOf  the same from an offset of a region, and of a file: offset and hops
 use Prim.Native.Nat.{ℕ, _+_, _-_}
 use mathlib.Core.Bool.{false}
 use mathlib.Core.List.{List}
@@ -16,7 +21,6 @@ use Rattle.error.specs.Error.{Fault, fault}
 use Rattle.scan.specs.declared.Head.{Head}
 use Rattle.reader_region.specs.Region.{inRegion, peekIn}
 
--- a value that following came to, and the pointers met
 pub record Followed : Type 0 where
   pub place : ℕ
   pub hops : ℕ
@@ -25,7 +29,6 @@ pub record Followed : Type 0 where
 abbrev pub followed : ℕ → ℕ → Head → Followed
 followed at hops h = record { place = at; hops = hops; head = h }
 
--- an offset, and the pointers met before it
 pub record Position : Type 0 where
   pub place : ℕ
   pub hops : ℕ
@@ -40,7 +43,7 @@ followTurned p (error e) = stop (error e)
 unfoldable pub followTurn : List ℕ → Position → Turn Position (Answer Fault Followed)
 followTurn s p = followTurned p (peekIn false s (p .place))
 
--- each pointer leads to a lower offset, so the loop stops; `fault 0 0` is never told
+-- each pointer leads to a lower offset, so the loop stops; `fault 0 0` is never the answer
 unfoldable pub followFrom : List ℕ → Position → Answer Fault Followed
 followFrom s p = from (followTurn s) (λ q. q .place) (error (fault 0 0)) p
 

@@ -1,10 +1,12 @@
--- The end of a value, and its items (document 01, "Questions at an offset"), in files that nobody checked. Each query begins with `inRegion`:
--- EMPTY, TOO_LONG, OUTSIDE.
+-- The end of a value, and its items (document 01, "Questions at an offset"), in unchecked files. Each query begins with
+-- `inRegion`: EMPTY, TOO_LONG, OUTSIDE.
 --
 --   skipItems s k at    the offset after k items from `at` on, each looked at
---   skipOf file at      where the value ends; its items are looked at
---   itemOf file at i    the offset of item i: WRONG_KIND of a kind without items, NO_ITEM, the items before it, and TRUNC where it would
---                       start at the region's end
+--   skipIn, skipOf      where the value at an offset of a region, and of a file, ends; its items are looked at
+--   startsIn len q      the offset q, where an item is to start in a region of len bytes; TRUNC if that is the region's end
+--   itemOn s at i h     the offset of item i of the value at `at` with head h: WRONG_KIND for a kind without items,
+--                       NO_ITEM, the faults of the items before it, and TRUNC if it would start at the region's end
+--   itemIn, itemOf      the same for the value at an offset of a region, and of a file
 use Prim.Native.Nat.{ℕ, zero, suc}
 use mathlib.Core.Bool.{true, false}
 use mathlib.Core.List.{List}
@@ -27,7 +29,6 @@ skipIn s at = bind (peekIn false s at) (λ h. skipItems s (h .items) (h .end))
 abbrev pub skipOf : List ℕ → ℕ → Answer Fault ℕ
 skipOf file at = inRegion file at (λ s. skipIn s at)
 
--- an offset where an item is to start, in a region of len bytes
 unfoldable pub startsIn : ℕ → ℕ → Answer Fault ℕ
 startsIn len q = pick (ltb q len) (ok q) (error (fault TRUNC len))
 

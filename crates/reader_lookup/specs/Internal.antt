@@ -1,10 +1,10 @@
--- What this crate's private functions make. No public contract cites this file.
+-- What this crate's private functions return. No public contract cites this file.
 --
+--   orStop a f          f applied to a's value, or a stop with a's error
+--   matchKey s key q h  the rest of a pair whose key, followed, has the head h, and whose value starts at q: the key is
+--                       compared with `key`; if it differs, the value is looked at
 --   pairOf s key q      one pair of a map, from q on: where the next one starts, or the answer; the key is looked at and followed
---   matchKey s key q h  the rest of it, where the key, followed, has the head h and the value starts at q: the key is held against
---                       `key`; where it is another, the value is looked at
 --   pairAnswer r        a `PairResult` as such a turn
---   orStop a f          what f makes of a's value; a stop with a's error where it is one
 use Prim.Native.Nat.{ℕ}
 use mathlib.Core.Bool.{true}
 use mathlib.Core.List.{List}

@@ -1,8 +1,12 @@
--- The value that a map has for a key (document 01, "Questions at an offset"), in files that nobody checked.
+-- The value that a map has for a key (document 01, "Questions at an offset"), in unchecked files.
 --
---   same a b                whether two parts have the same bytes
---   lookupOf file at key    in a map, the offset of the value of the first pair whose key, followed, is a text of these bytes; it begins with
---                           `inRegion`: EMPTY, TOO_LONG, OUTSIDE
+--   same a b             whether two parts have the same bytes
+--   isKey s key h        whether the value with head h is a text with the bytes of `key`
+--   pairs s at key k q   the lookup in k pairs from q on, of the map at `at`; NO_ITEM if none of them has the key
+--   lookupOn s at key h  the lookup in the value at `at` with head h; WRONG_KIND if it is not a map
+--   lookupIn, lookupOf   in the map at an offset of a region, and of a file: the offset of the value of the first pair
+--                        whose key, followed, is a text with the bytes of `key`. In a file it begins with `inRegion`:
+--                        EMPTY, TOO_LONG, OUTSIDE
 use Prim.Native.Nat.{ℕ, zero, suc}
 use mathlib.Core.Bool.{Bool, true, false, _&&_}
 use mathlib.Core.List.{List, [], _∷_}
@@ -23,11 +27,9 @@ same [] (b ∷ t) = false
 same (a ∷ s) [] = false
 same (a ∷ s) (b ∷ t) = eqb a b && same s t
 
--- a value of head h is a text of these bytes
 abbrev pub isKey : List ℕ → List ℕ → Head → Bool
 isKey s key h = eqb (h .kind) 4 && same (bodyOn s h) key
 
--- k pairs from q on, of the map at `at`
 unfoldable pub pairs : List ℕ → ℕ → List ℕ → ℕ → ℕ → Answer Fault ℕ
 pairs s at key zero q = error (fault NO_ITEM at)
 pairs s at key (suc k) q =

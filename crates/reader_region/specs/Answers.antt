@@ -1,6 +1,6 @@
--- What the answers of this crate's functions mean, but for `scan`'s own.
+-- What the answers of this crate's functions mean, except those of `scan`.
 --
---   offsetAnswer  the offset, or the error's number and place
+--   offsetAnswer r  the offset, or the error's number and place
 use Prim.Native.Nat.{ℕ}
 use Rattle.prelude.specs.Answer.{Answer, ok, error}
 use Rattle.error.specs.Error as errors

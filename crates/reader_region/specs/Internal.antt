@@ -1,6 +1,6 @@
--- What private functions of the crates above ask of a head. No contract of a function for users cites this file.
+-- What private functions of the crates above require of a head. No contract of a function for users cites this file.
 --
---   Peeked s at h     what a head that was looked at as a value at `at` of the region s tells of itself
+--   Peeked s at h     what holds for a head that was looked at as a value at `at` of the region s
 use Prim.Native.Nat.{ℕ, _≤_, _<_}
 use mathlib.Core.List.{List}
 use lib.ListN.{length}

@@ -2,5 +2,5 @@
 pub mod Region
 -- what the code's answers mean
 pub mod Answers
--- what a head that was looked at tells of itself
+-- what holds for a head that was looked at
 pub mod Internal

@@ -1,13 +1,14 @@
 -- A file and its region (document 01, "Row of a file" and "Questions at an offset").
 --
---   regionLen len at
---                    how long the region of a file of len bytes is, where the offset `at` is in it: all bytes but the last, which is the
---                    delta; EMPTY, TOO_LONG, OUTSIDE in this order
---   inRegion file at k what k makes of the region, or `regionLen`'s error
---   peekIn inner s at
---                    the token at the offset `at` of the region s, as a query looks at it, and as an item (NESTED) where `inner` is true: its
---                    faults, then BAD_TARGET where its target is below 0; of text and targets nothing more
---   peekOf file at   the same of a value at any offset of a file
+--   regionLen len at    how long the region of a file of len bytes is, if the offset `at` is in it: all bytes but the
+--                       last, which is the delta; else EMPTY, TOO_LONG, OUTSIDE, in this order
+--   inRegion file at k  k applied to the region, or `regionLen`'s error
+--   below at h          whether the token with head h at `at` is a reference or pointer that reaches below offset 0:
+--                       its target would be at - n - 1, and n < at does not hold
+--   peekIn inner s at   the token at the offset `at` of the region s as a query looks at it, and as an item (NESTED) if
+--                       `inner` is true: its faults, then BAD_TARGET if its target is below 0; no more of texts and
+--                       targets is looked at
+--   peekOf file at      the same for a value at any offset of a file
 use Prim.Native.Nat.{ℕ, _-_}
 use mathlib.Core.Bool.{Bool, false, _&&_}
 use mathlib.Core.List.{List}
@@ -29,7 +30,6 @@ regionLen len at =
 unfoldable pub inRegion : {A : Type 0} → List ℕ → ℕ → (List ℕ → Answer Fault A) → Answer Fault A
 inRegion file at k = bind (regionLen (length file) at) (λ n. k (take n file))
 
--- a reference or pointer at `at` whose distance reaches below offset 0: its target would be at - n - 1, and n < at does not hold
 abbrev pub below : ℕ → Head → Bool
 below at h = leb 14 (h .kind) && leb at (h .n)
 

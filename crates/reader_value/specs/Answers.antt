@@ -1,6 +1,6 @@
 -- What the answer of `read` means.
 --
---   readAnswer  the value, or the error's number and place
+--   readAnswer r  the value, or the error's number and place
 use Rattle.prelude.specs.Answer.{Answer, ok, error}
 use Rattle.error.specs.Error as errors
 use Rattle.error.specs.Error.{Fault}

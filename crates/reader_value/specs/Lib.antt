@@ -1,4 +1,4 @@
--- what `read` tells
+-- what `read` returns
 pub mod Value
 -- what the code's answers mean
 pub mod Answers

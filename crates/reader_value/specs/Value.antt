@@ -1,11 +1,12 @@
--- What reading one value tells (document 01, "Questions at an offset"): kind and everything that the header holds.
+-- What reading one value returns (document 01, "Questions at an offset"): the kind, and everything that the header holds.
 --
 --   scalar n           false, true, null for 0, 1, 2
---   float s h          the bits of a float, 4 bytes for n = 0 and 8 for n = 1
---   valueOn s at h     the value of head h at the offset `at` of the region s: of `valueRows`, a row for each kind in their order, the one of
---                      its kind; 9 and 13 are reserved and never read
---   readIn, readOf     the value at an offset of a region, and of a file: its faults as a query looks at a token; items and text bytes are
---                      not looked at, and of a target only that it is not below 0
+--   float s h          the bits of a float: 4 bytes if n is 0, else 8
+--   valueRows s at h   the value with head h at the offset `at` of the region s: a row for each kind, in the order of
+--                      the kinds; 9 and 13 are reserved and never read
+--   valueOn s at h     the row of its kind
+--   readIn, readOf     the value at an offset of a region, and of a file: its faults as a query looks at a token;
+--                      neither items nor text bytes are looked at, and a target only has to be 0 or more
 use Prim.Native.Nat.{ℕ, _-_}
 use mathlib.Core.Bool.{false}
 use mathlib.Core.List.{List, [], _∷_}

@@ -1,8 +1,8 @@
--- What remains to be made of a token, stage by stage. No public contract cites this file.
+-- What remains to be read of a token, stage by stage. No public contract cites this file.
 --
---   fitted .. left       behind its numbers, with `left` bytes left: the head, or TRUNC
---   andThen at f a       what f makes of a number and the bytes left; the number's error, placed at `at`
---   ranged .. n left     behind n, with `left` bytes left: the second number, and so on
+--   fitted .. left       after its numbers, with `left` bytes left: the head, or TRUNC
+--   andThen at f a       f applied to a number and the bytes left, or the number's error, placed at `at`
+--   ranged .. n left     after n, with `left` bytes left: the second number, and so on
 use Prim.Native.Nat.{ℕ, _+_, _-_}
 use mathlib.Core.List.{List}
 use lib.Dec.{leb}

@@ -1,4 +1,4 @@
 -- what the answer of `scan` means: `scanAt`
 pub mod Answers
--- what remains to be made of a token
+-- what remains to be read of a token
 pub mod Internal

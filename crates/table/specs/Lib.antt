@@ -1,2 +1,2 @@
--- how many words of a table are before each block
+-- how many words of a table come before each block
 pub mod Blocks

@@ -1,11 +1,12 @@
 -- The reader of one token, in document 01's order of faults.
 --
---   getIf w s            a number at the front of s where w is true, and else 0 of no bytes
---   number at w          the same, its fault placed at the header's offset
---   body at k r n a      TRUNC where the body or the counted items exceed the bytes left; the token
---   scanKind ..          behind a header of kind k, rule r and low nibble `low`: RESERVED, NESTED of an item, the number (TRUNC, RANGE of
---                        the tenth byte, OVERLONG), RANGE of n, the second number likewise, TRUNC of the body
---   scan inner at s      the token at the front of s, whose header has the offset `at`, and the bytes after it; TRUNC where there is none
+--   getIf w s            a number at the front of s if w is true, else 0 of no bytes
+--   number at w          the same, with its fault placed at the header's offset
+--   body at k r n a      the token; TRUNC if the body, with a byte for each counted item, exceeds the bytes left
+--   scanKind ..          after a header of kind k, rule r and low nibble `low`: RESERVED, NESTED for an item, the
+--                        number (TRUNC, RANGE of the tenth byte, OVERLONG), RANGE of n, the second number likewise,
+--                        TRUNC of the body
+--   scan inner at s      the token at the front of s, whose header has the offset `at`, and the bytes after it; TRUNC if s is empty
 use Prim.Native.Nat.{ℕ, _+_, _/_, _%_}
 use mathlib.Core.Bool.{Bool, not, _&&_}
 use mathlib.Core.List.{List, [], _∷_}

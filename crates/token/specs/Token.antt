@@ -1,13 +1,14 @@
 -- A token: a header with its numbers and its body, without items. A value is a token and as many item tokens as it has pending.
 --
---   Token             kind, n, args (the argument count of a variant of many, else 0) and the body's bytes
---   putIf w n         the bytes of a number n that is there where w is true
---   emit t            the bytes of t: header, the number behind it where n is 15 or more, the argument count where the kind has one, body
---   emitInto t d      the bytes of t stored at the front of d where they fit, and how many; of a kind over 15 nothing is
---   Allowed t         t's kind allows it: the low nibble is in use, n is within its bound, an argument count stands only where the kind
---                     has one and fits 64 bits, and the body is as long as n says
---   Fits inner t s    t may stand before the bytes s: it is allowed, an immediate where `inner` is true, and its counted items have a
---                     byte each in s
+--   Token, token k n a b  kind, n, args (the argument count of a variant of many, else 0) and the body's bytes
+--   putIf w n             the bytes of the number n if w is true, else none
+--   emit t                the bytes of t: header, the number after it if n is 15 or more, the argument count if the
+--                         kind has one, body
+--   emitInto t d          the bytes of t stored at the front of d if they fit, and how many; nothing for a kind over 15
+--   Allowed t             t's kind allows it: the low nibble is in use, n is within its bound, there is an argument
+--                         count only if the kind has one, and it fits in 64 bits, and the body is as long as n says
+--   Fits inner t s        t may come before the bytes s: it is allowed, an immediate if `inner` is true, and s has a
+--                         byte for each of its counted items
 use Prim.Native.Nat.{ℕ, _+_, _-_, _*_, _^_, _≤_, _<_, min}
 use mathlib.Core.Path.{_≡_}
 use mathlib.Core.Bool.{Bool, true, false, not, _&&_}

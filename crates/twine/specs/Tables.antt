@@ -1,8 +1,12 @@
 -- What check and depths answer in C, and leave in the tables.
 --
+--   CheckReply, checkReply r t
+--                    a reply, and the table of starts that it comes with
 --   checkC file cap  what `twine_check` answers, and leaves in a table of cap words
+--   DepthsReply, depthsReply r t d
+--                    a reply, and the tables of starts and depths that it comes with
 --   depthsC file cap room
---                    what `twine_depths` answers, and leaves in tables of cap and of room words
+--                    what `twine_depths` answers, and leaves in tables of cap and room words
 use Prim.Native.Nat.{ℕ}
 use mathlib.Core.List.{List}
 use Rattle.checker.specs.Check.{checkOf}

@@ -1,6 +1,6 @@
 -- What the states of this crate's code mean.
 --
---   dueOf d    the ranges due at the state d: of d bytes after a first one; none from 4 on, where a byte cannot stand
+--   dueOf d    the ranges due at the state d: d continuation bytes if d is below 4; else a refusal
 use Prim.Native.Nat.{ℕ}
 use mathlib.Core.List.{List}
 use mathlib.Core.Option.{Option, some, none}

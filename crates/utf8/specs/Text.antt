@@ -1,17 +1,19 @@
--- Text (document 01, "Row of a file"): characters of one to four bytes, one after the other; all else is BAD_TEXT. The rule is looser than UTF-8:
--- surrogates, and forms of three and four bytes that are longer than need be, pass.
+-- Text (document 01, "Row of a file"): characters of one to four bytes, one after the other; all else is BAD_TEXT. The
+-- rule is looser than UTF-8: it allows surrogates, and forms of three and four bytes that are longer than need be.
 --
---   Range           the bytes from lo to hi, both in it
---   forms           the forms of a character, a range for each byte: the one table of the rule
---   Matches f p     p has a byte in each range of f, and no other
---   Text s          s is a text: no bytes; or bytes that match a form, and then a text
---   within r b      whether b is in r
---   lead fs b       the ranges due after b where it begins a character: the others of the first form of fs whose first range
---                   has b; `none`, a refusal, where no first range has it
---   next due b      the ranges due after b, where `due` were before it; a refusal where b cannot stand there, or before it
---   complete due    whether there was no refusal and nothing is due
---   textFrom due s  whether s fills the ranges due, and then is a text; false after a refusal
---   isText s        whether s is a text
+--   Range, range a b  the bytes from lo to hi, both included
+--   continuation      the bytes after the first of a character
+--   forms             the forms of a character, a range for each byte: the one table of the rule
+--   Matches f p       p has a byte in each range of f, and no other
+--   Text s            s is a text: no bytes; or bytes that match a form, and then a text
+--   within r b        whether b is in r
+--   lead fs b         the ranges due after b if it begins a character: the rest of the first form of fs whose first
+--                     range has b; `none`, a refusal, if no first range has it
+--   next due b        the ranges due after b, if `due` were due before it; a refusal if b is not allowed there, or
+--                     after a refusal
+--   complete due      whether there was no refusal and nothing is due
+--   textFrom due s    whether s fills the ranges due, and then is a text; false after a refusal
+--   isText s          whether s is a text
 use Prim.Native.Nat.{ℕ, _≤_}
 use mathlib.Core.Bool.{Bool, true, false, _&&_}
 use mathlib.Core.List.{List, [], _∷_, _++_, List·Memᴰ}
@@ -26,7 +28,6 @@ pub record Range : Type 0 where
 abbrev pub range : ℕ → ℕ → Range
 range a b = record { lo = a; hi = b }
 
--- the bytes after the first of a character
 abbrev pub continuation : Range
 continuation = range 0x80 0xBF
 

@@ -1,14 +1,18 @@
 -- Paths and depth (document 01: "descent").
 --
---   targets q ts     the targets of the references and pointers among the tokens ts, the first at q
---   targetsOf at vs  the targets that each of the values vs is or holds, the first value at `at`
---   Leads vs i j     value number i is or holds a reference or pointer to the start of value number j
---   Path vs i l      a path from value number i; l are the values met, i among them
---   Depth vs i d     d is the depth of value number i: a path from it meets d values, and none meets more
---   Falling l        each is less than those before it, so none is met twice
---   deepest ds js    the greatest depth of the values of numbers js; 0 where there are none
---   depthsOfValues vs  the depths, from left to right (`depthsFrom`), each one more than the greatest of its targets' depths
--- `-` stops at 0: a target q - n - 1 means something where n < q, as `Reaches` has it.
+--   targets q ts           the targets of the references and pointers among the tokens ts, the first at q
+--   targetsOf at vs        for each of the values vs, the first at `at`: the targets of the references and pointers
+--                          that it is or holds
+--   Leads vs i j           value number i is or holds a reference or pointer to the start of value number j
+--   Path vs i l            a path from value number i; l are the values on it, i first
+--   Depth vs i d           d is the depth of value number i: a path from it has d values, and none has more
+--   Falling l              each is less than those before it, so none occurs twice
+--   deepest ds js          the greatest depth of the values with numbers js; 0 if there are none
+--   depthsFrom ss ds tss   the depths ds of the first values, and those of the values after them, whose targets are
+--                          tss; ss are the starts of all values
+--   depthsOfValues vs      the depths, from left to right, each one more than the greatest depth of the value's targets
+--
+-- `-` stops at 0: a target q - n - 1 is meaningful if n < q, as `HasTarget` says.
 use Prim.Native.Nat.{ℕ, suc, _+_, _-_, _≤_, _<_, max}
 use mathlib.Core.Path.{_≡_}
 use mathlib.Core.Bool.{true}
@@ -47,13 +51,12 @@ abbrev pub Falling : List ℕ → Type 0
 Falling [] = Unit {0}
 Falling (x ∷ l) = Each (λ y. y < x) l × Falling l
 
--- ---- the depths, reckoned
+-- ---- the depths, computed
 
 unfoldable pub deepest : List ℕ → List ℕ → ℕ
 deepest ds [] = 0
 deepest ds (j ∷ js) = max (getD ds j 0) (deepest ds js)
 
--- the values start at ss, and ds are the depths of those before
 unfoldable pub depthsFrom : List ℕ → List ℕ → List (List ℕ) → List ℕ
 depthsFrom ss ds [] = ds
 depthsFrom ss ds (os ∷ more) = depthsFrom ss (ds ++ (suc (deepest ds (map (λ x. rank x ss) os)) ∷ [])) more

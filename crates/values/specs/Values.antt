@@ -5,20 +5,21 @@
 --   bytes ts            the bytes of tokens, back to back
 --   region vs           the bytes of values, back to back
 --   starts at vs        the offsets where values start, the first at `at`: running sums of their sizes
---   Each P xs           P holds of each of xs
+--   Each P xs           P holds for each of xs
 --   Sound t             t's kind allows it, and a text is text
 --   Item t              t is sound and an immediate
 --   Formed v            the head is sound, the items are items, and as many as the head says
---   HasTarget done q t  where t is a reference or pointer and its header is at q, its target q - n - 1 is not below 0, and is one of `done`
+--   HasTarget done q t  if t is a reference or pointer, with its header at q, its target q - n - 1 is not below 0 and
+--                       is one of `done`
 --   HasTargets done q ts
---                       so does each of the tokens ts, the first at q
+--                       this holds for each of the tokens ts, the first at q
 --   TargetsEarlier done at vs
---                       so do the tokens of each of the values vs, the first at `at`, with the starts of the values before it, which ended
---                       before it began; `done` are those of the values before the first
---   Values vs           vs are values as they may stand at the front of a file
+--                       this holds for the tokens of each of the values vs, the first at `at`, with the starts of the
+--                       values before it, which ended before it began; `done` are those of the values before the first
+--   Values vs           vs are values that a file may begin with
 --   WellFormed file vs entry
---                       the file is the values vs and a delta byte that names the start `entry` of one of them. That its elements are
---                       bytes is said beside it where it is needed
+--                       the file has at most LIMIT bytes: the values vs, and a delta byte that names the start `entry`
+--                       of one of them. That its elements are bytes is stated separately where it is needed
 use Prim.Native.Nat.{ℕ, _+_, _-_, _≤_, _<_}
 use mathlib.Core.Path.{_≡_}
 use mathlib.Core.Bool.{true}
