@@ -71,7 +71,7 @@ pub fn answer_body(answer: BodyResult, out: &mut [u64; 2]) -> u32
 
 // ---- one value
 
-// What a value's header says: its number, and how many bytes or items follow.
+// What `read` returns for a value, besides its kind: its number, and how many bytes or items follow.
 struct Row {
     number: u64,
     count: u64,
@@ -88,7 +88,7 @@ fn float_bits(file: &[u8], h: Head) -> u64
     little_endian::load8(&file[first..])
 }
 
-// The row of head h at `at`: the kinds in their order; 9 and 13 are no kinds.
+// The row for a value with head h at `at`: the kinds in their order; 9 and 13 are reserved.
 fn row_of(file: &[u8], at: usize, h: Head) -> Row
     requires { ⌜ Peeked (now file) at h ⌝ }
     ensures { λ r. ⌜ r ≡ rowOf (now (file .entry)) at h ⌝ }

@@ -1,4 +1,4 @@
-// What a call answers in C: an error's number, 0 for none, and words in an array of the caller's. Crate twine exports the calls.
+// What a call answers in C: an error's number, 0 for none, and words in an array of the caller. Crate twine exports the calls.
 use error::Error;
 ghost use mathlib.Core.Path.{_≡_};
 ghost use Rattle.error.specs.Error as errors;
@@ -11,7 +11,7 @@ pub fn abi() -> u32
     1
 }
 
-// `error::name_of`: the name, and zeros behind it; zeros alone for a number that no error has.
+// `error::name_of`: the name, with zeros after it; zeros alone if no error has this number.
 pub fn spell_error(number: u32, name: &mut [u8; 11]) -> u32
     ensures { λ r. ⌜ reply r (now (name .exit)) ≡ reply 0 (nameC number) ⌝ }
 {

@@ -1,4 +1,4 @@
-// The writer's state as C has it, five words of the caller's, and what a call answers.
+// The writer's state as C has it, five words in the caller's memory, and what a call answers.
 use writer::Scalar;
 use writer::WriteAnswer;
 use writer::WriteResult;
@@ -17,7 +17,7 @@ pub fn begin(state: &mut [u64; 5]) -> u32
     0
 }
 
-// The writer that five words are.
+// The writer that the five words stand for.
 pub fn writer_of(state: &[u64; 5]) -> Writer
     ensures { λ r. ⌜ r ≡ writerOf (now (state .entry)) ⌝ }
 {
@@ -30,7 +30,7 @@ pub fn writer_of(state: &[u64; 5]) -> Writer
     }
 }
 
-// 1 for true, and 0 for false.
+// 1 for true, 0 for false.
 fn flag(b: bool) -> u64
     ensures { λ r. ⌜ r ≡ pick b 1 0 ⌝ }
 {

@@ -26,7 +26,7 @@ fn entry_at(starts: &[u32], p: usize, d: u8) -> CheckResult
     let delta = d as usize;
     if delta < p {
         let entry = p - delta - 1;
-        // by no block: one search a file
+        // without blocks: a file needs only one such search
         if table_search::is_among(starts, &starts[..0], entry as u32) {
             return CheckResult::Ok {
                 count: starts.len(),
@@ -75,9 +75,9 @@ fn kept_words(answer: CheckResult) -> usize
     }
 }
 
-// Checks a file. The table gets the offsets where its values start, in rising order, and 0 in every other word; on an error 0 in every word. The
-// first value starts at 0, so that the count tells how many words are starts.
-// A table with as many words as the file has bytes is never too short. Besides it, check takes some 17 KB of the stack.
+// Checks a file. The table gets the offsets where its values start, in rising order, and 0 in every other word; on an
+// error, 0 in every word. The first value starts at 0 as well, so the count says how many words are starts. A table
+// with as many words as the file has bytes is never too short. Apart from the table, check takes some 17 KB of stack.
 pub fn check(file: &[u8], starts: &mut [u32]) -> CheckResult
     ensures { λ r. ⌜ checked (checkAnswer r) (now (starts .exit)) ≡ checkOf (now (file .entry)) (length (now (starts .entry))) ⌝ }
 {

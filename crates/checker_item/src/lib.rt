@@ -6,7 +6,8 @@ ghost use mathlib.Core.Path.{_≡_};
 ghost use mathlib.Core.Bool.{true};
 ghost use Rattle.scan.specs.Answers.{answerOf, scanAt};
 
-// Reads an item, as `scan::scan` does: one without fault is read here, which is short enough to be compiled into a loop over items.
+// Reads an item, as `scan::scan` does. One without a fault is read here: the function is short enough to be inlined
+// into a loop over items.
 pub fn scan_item(region: &[u8], at: usize) -> ScanResult
     ensures { λ r. ⌜ answerOf r ≡ scanAt true (now (region .entry)) at ⌝ }
 {
@@ -28,7 +29,7 @@ pub fn scan_item(region: &[u8], at: usize) -> ScanResult
         GetResult::Ok { value, left } => {
             let n = value;
             let first = len - left;
-            // nothing behind n
+            // nothing after n
             if rule.scale == 0 {
                 return ScanResult::Ok(Head {
                     kind,

@@ -32,7 +32,7 @@ fn walk(region: &[u8], starts: &mut [u32], blocks: &mut [u32]) -> ListResult
                 place: at,
             });
         }
-        // the blocks that begin at most at `at` are counted
+        // the blocks that begin at `at` or before are counted
         let known = at / table::BLOCK + 1;
         match checker_value::check_value(region, &starts[..count], &blocks[..known], at) {
             ValueResult::Ok(end) => {
@@ -49,8 +49,8 @@ fn walk(region: &[u8], starts: &mut [u32], blocks: &mut [u32]) -> ListResult
     ListResult::Ok(count)
 }
 
-// Lists the starts of a region's values in the first words of the table. A short region has few blocks: for a small file, the zeros of the
-// large array would take longer than the walk.
+// Lists the starts of a region's values in the first words of the table. A short region has few blocks: for a small
+// file, clearing the large array would take longer than the walk.
 pub fn list_starts(region: &[u8], starts: &mut [u32]) -> ListResult
     requires { ⌜ length (now region) < LIMIT ⌝ }
     ensures { λ r. ⌜ (listAnswer r (now (starts .exit)) ≡ startsFrom (now (region .entry)) (length (now (starts .entry))) (between 0 [])) × (Listed r (now (starts .exit))) ⌝ }

@@ -1,4 +1,4 @@
-// A value that check passes (document 01, "Check and depths"): its token, its text and its target, and its items.
+// One value, checked (document 01, "Check and depths"): its token, its text and its target, and its items.
 use error::Error;
 use error::ErrorKind;
 use scan::Head;
@@ -24,7 +24,7 @@ pub enum ValueResult {
 
 // ---- one token
 
-// Whether a token of head h is a text that is not text.
+// Whether a token with head h is a text whose body is not text.
 fn is_bad_text(region: &[u8], h: Head) -> bool
     requires { ⌜ (h .first ≤ h .end) × (h .end ≤ length (now region)) ⌝ }
     ensures { λ r. ⌜ r ≡ eqb (h .kind) 4 && not (isText (scans.bodyOn (now (region .entry)) h)) ⌝ }
@@ -38,7 +38,7 @@ fn is_bad_text(region: &[u8], h: Head) -> bool
     false
 }
 
-// Whether the target of a reference or pointer of head h at `at` is one of the starts.
+// Whether the target of the reference or pointer with head h at `at` is one of the starts.
 fn has_target(starts: &[u32], blocks: &[u32], at: usize, h: Head) -> bool
     requires { ⌜ (Rising (now starts)) × (Counted (now blocks) (now starts)) × (at < 2 ^ 32) ⌝ }
     ensures { λ r. ⌜ r ≡ hasTarget (now (starts .entry)) at h ⌝ }
@@ -51,7 +51,7 @@ fn has_target(starts: &[u32], blocks: &[u32], at: usize, h: Head) -> bool
     false
 }
 
-// Whether a token of head h at `at` is a reference or pointer to no start.
+// Whether the token with head h at `at` is a reference or pointer whose target is not a start.
 fn is_bad_target(starts: &[u32], blocks: &[u32], at: usize, h: Head) -> bool
     requires { ⌜ (Rising (now starts)) × (Counted (now blocks) (now starts)) × (at < 2 ^ 32) ⌝ }
     ensures { λ r. ⌜ r ≡ leb 14 (h .kind) && not (hasTarget (now (starts .entry)) at h) ⌝ }
@@ -65,8 +65,9 @@ fn is_bad_target(starts: &[u32], blocks: &[u32], at: usize, h: Head) -> bool
 
 // ---- a value
 
-// Passes so many items of a value, the first at `from`, after the values that begin at `starts`, counted by blocks. The answers are made here and
-// in `check_value`: one handed on from a function for both costs more than the tests.
+// Checks that many items of a value, the first at `from`, after the values that begin at `starts`, counted by blocks.
+// This function and `check_value` build their answers themselves: returning them through a shared helper costs more
+// than the tests.
 fn check_items(
     region: &[u8],
     starts: &[u32],
@@ -105,7 +106,7 @@ fn check_items(
     ValueResult::Ok(at)
 }
 
-// Passes the value at `at` with its items, after the values that begin at `starts`, counted by blocks.
+// Checks the value at `at` with its items, after the values that begin at `starts`, counted by blocks.
 pub fn check_value(region: &[u8], starts: &[u32], blocks: &[u32], at: usize) -> ValueResult
     requires { ⌜ (Rising (now starts)) × (Counted (now blocks) (now starts)) × (at < length (now region)) × (length (now region) ≤ LIMIT) ⌝ }
     ensures { λ r. ⌜ ChecksValue r (now (region .entry)) (now (starts .entry)) at ⌝ }

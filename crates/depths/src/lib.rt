@@ -12,7 +12,7 @@ ghost use Rattle.depths_value.specs.Internal.{Starts};
 ghost use Rattle.checker.specs.Answers.{checkAnswer};
 ghost use Rattle.depths.specs.Depths.{deepened, depthsOf};
 
-// The depths of all values, in the first words of the table, by an index of their starts.
+// Computes the depths of all values into the first words of the table, with the blocks as an index of their starts.
 fn depths_to_by(region: &[u8], starts: &[u32], blocks: &mut [u32], depths: &mut [u32])
     requires { ⌜ (length (now starts) ≤ length (now depths)) × (length (now region) ≤ LIMIT) × (Starts (now region) (now starts)) × (Below (length (now blocks) * BLOCK) (now starts)) ⌝ }
     ensures { λ _. ⌜ take (length (now (starts .entry))) (now (depths .exit)) ≡ depthsTo (now (region .entry)) (now (starts .entry)) (length (now (starts .entry))) ⌝ }
@@ -25,7 +25,8 @@ fn depths_to_by(region: &[u8], starts: &[u32], blocks: &mut [u32], depths: &mut 
     }
 }
 
-// The depths of all values, in the first words of the table. A short region has few blocks, as in `checker_starts::list_starts`.
+// Computes the depths of all values into the first words of the table. A short region has few blocks, as in
+// `checker_starts::list_starts`.
 fn depths_to(region: &[u8], starts: &[u32], depths: &mut [u32])
     requires { ⌜ (length (now starts) ≤ length (now depths)) × (length (now region) ≤ LIMIT) × (Starts (now region) (now starts)) ⌝ }
     ensures { λ _. ⌜ take (length (now (starts .entry))) (now (depths .exit)) ≡ depthsTo (now (region .entry)) (now (starts .entry)) (length (now (starts .entry))) ⌝ }
@@ -39,10 +40,11 @@ fn depths_to(region: &[u8], starts: &[u32], depths: &mut [u32])
     depths_to_by(region, starts, &mut blocks, depths);
 }
 
-// Checks a file, and tells how deep its values are: the depth of a value is the number of values on the longest path from it, a path going
-// from a value to any that it points at or refers to, or that an item of it does. The tables get the starts and the depths, one word a value,
-// and 0 in every other word; on an error 0 in every word. Check's errors come first; then FULL where the second table has fewer words than the
-// file has values, at the start of the first value without a word.
+// Checks a file, and returns how deep its values are: the depth of a value is the number of values on the longest path
+// from it, where a path goes from a value to any value that it, or an item of it, points at or refers to. The tables
+// get the starts and the depths, one word a value, and 0 in every other word; on an error, 0 in every word. Check's
+// errors come first; then FULL, if the second table has fewer words than the file has values, at the start of the first
+// value without a word.
 pub fn depths(file: &[u8], starts: &mut [u32], depths: &mut [u32]) -> CheckResult
     ensures { λ r. ⌜ deepened (checkAnswer r) (now (starts .exit)) (now (depths .exit)) ≡ depthsOf (now (file .entry)) (length (now (starts .entry))) (length (now (depths .entry))) ⌝ }
 {

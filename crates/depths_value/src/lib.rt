@@ -1,4 +1,4 @@
-// The depth of one value (document 01, "Check and depths"), by the depths of those before it.
+// The depth of one value (document 01, "Check and depths"), from the depths of the values before it.
 use scan::Head;
 use scan::ScanResult;
 ghost use mathlib.Core.Path.{_≡_};
@@ -19,8 +19,8 @@ fn max(a: u32, b: u32) -> u32
     a
 }
 
-// The depth of what a token of head h at `at` targets, where the values start at `starts`, counted by blocks, and those before have the depths
-// `before`; 0 where it targets nothing.
+// The depth of the target of the token with head h at `at`, or 0 if it has none. The values start at `starts`, counted
+// by blocks; those before this one have the depths `before`.
 fn target_depth(starts: &[u32], blocks: &[u32], before: &[u32], at: usize, h: Head) -> u32
     requires { ⌜ (Rising (now starts)) × (Counted (now blocks) (now starts)) × (at < 2 ^ 32) ⌝ }
     ensures { λ r. ⌜ r ≡ targetDepth (now (starts .entry)) (now (before .entry)) at h ⌝ }
@@ -36,7 +36,7 @@ fn target_depth(starts: &[u32], blocks: &[u32], before: &[u32], at: usize, h: He
     0
 }
 
-// The greatest such depth of the tokens from `start` to `end`.
+// The greatest depth of a target of the tokens from `start` to `end`.
 fn deepest(
     region: &[u8],
     starts: &[u32],
@@ -64,7 +64,7 @@ fn deepest(
     deep
 }
 
-// Where value number i ends: where the next one starts, the last at the region's end.
+// Where value number i ends: where the next one starts; the last one, at the region's end.
 fn end_of(len: usize, starts: &[u32], i: usize) -> usize
     requires { ⌜ i < length (now starts) ⌝ }
     ensures { λ r. ⌜ r ≡ getD (now (starts .entry)) (suc i) len ⌝ }
@@ -76,7 +76,7 @@ fn end_of(len: usize, starts: &[u32], i: usize) -> usize
     len
 }
 
-// The depth of value number i, with the depths of those before in the first i words of the table.
+// The depth of value number i; the first i words of the table hold the depths of the values before it.
 pub fn depth_at(region: &[u8], starts: &[u32], blocks: &[u32], depths: &[u32], i: usize) -> u32
     requires { ⌜ (i < length (now starts)) × (i ≤ length (now depths)) × (length (now region) ≤ LIMIT) × (Starts (now region) (now starts)) × (Counted (now blocks) (now starts)) × (take i (now depths) ≡ depthsTo (now region) (now starts) i) ⌝ }
     ensures { λ r. ⌜ r ≡ depthAt (now (region .entry)) (now (starts .entry)) (take i (now (depths .entry))) i ⌝ }

@@ -1,5 +1,5 @@
-// One token written: how many bytes it takes, and its bytes put into a borrowed tail. The token is not judged: what its kind does not
-// allow is written as it stands, and need not read back; `args` counts for a kind with a second number alone.
+// One token written: how many bytes it takes, and its bytes, put into a borrowed tail. The token is not checked: one that
+// its kind does not allow is written as it is, and may not read back. `args` matters only for a kind with a second number.
 use kind::Rule;
 ghost use mathlib.Core.Path.{_≡_};
 ghost use mathlib.Core.List.{[]};
@@ -11,7 +11,7 @@ ghost use Rattle.prelude.proofs.Parts.{Put, PutAt};
 ghost use Rattle.kind.specs.Kind.{rule};
 ghost use Rattle.token.specs.Token.{token, putIf, emit, emitInto};
 
-// What a number n has beyond the low nibble.
+// What n has beyond the low nibble.
 fn above_15(n: u64) -> u64
     ensures { λ r. ⌜ r ≡ n - 15 ⌝ }
 {
@@ -31,7 +31,7 @@ fn nibble(n: u64) -> u8
     kind::EXTENDED as u8
 }
 
-// How many bytes a number takes that is there where `wanted` is true.
+// The size of a number, or 0 if it is not wanted.
 fn size_if(wanted: bool, n: u64) -> usize
     ensures { λ r. ⌜ (r ≡ length (putIf wanted n)) × (r ≤ 10) ⌝ }
 {
@@ -41,21 +41,21 @@ fn size_if(wanted: bool, n: u64) -> usize
     0
 }
 
-// How many bytes a token takes of a kind with this rule.
+// How many bytes a token of a kind with this rule takes.
 pub fn size_by(rule: Rule, n: u64, args: u64, body: &[u8]) -> usize
     ensures { λ r. ⌜ r ≡ 1 + length (putIf (leb 15 n) (n - 15)) + length (putIf (rule .args) args) + length (now (body .entry)) ⌝ }
 {
     1 + size_if(kind::EXTENDED <= n, above_15(n)) + size_if(rule.args, args) + body.len()
 }
 
-// How many bytes a token takes; of a kind over 15, which `put` does not write, as many as a reserved one.
+// How many bytes a token takes; for a kind over 15, which `put` does not write, as many as for a reserved one.
 pub fn size(kind: u8, n: u64, args: u64, body: &[u8]) -> usize
     ensures { λ r. ⌜ r ≡ length (emit (token kind n args (now (body .entry)))) ⌝ }
 {
     size_by(kind::rule_of(kind), n, args, body)
 }
 
-// Writes a number that is there where `wanted` is true into out from at on, and answers the offset after it.
+// Writes a number, if it is wanted, into out from `at` on, and returns the offset after it.
 fn put_if(out: &mut [u8], at: usize, wanted: bool, n: u64) -> usize
     requires { ⌜ at + length (putIf wanted n) ≤ length (now out) ⌝ }
     ensures { λ r. ⌜ PutAt (putIf wanted n) (now (out .entry)) at (now (out .exit)) r ⌝ }
@@ -85,7 +85,8 @@ fn put_body(out: &mut [u8], at: usize, body: &[u8]) -> usize
     at + copy(&mut out[at..], body)
 }
 
-// Writes the header and its numbers, which have room, and answers how many bytes that took; `second` tells whether the kind has a second number.
+// Writes the header and its numbers, for which there is room, and returns how many bytes that took. `second`: the kind
+// has a second number.
 pub fn put_head(out: &mut [u8], kind: u8, n: u64, second: bool, args: u64) -> usize
     requires { ⌜ (kind < 16) × (second ≡ rule kind .args) × (length (emit (token kind n args [])) ≤ length (now out)) ⌝ }
     ensures { λ r. ⌜ Put (emit (token kind n args [])) (now (out .entry)) (now (out .exit)) r ⌝ }
@@ -96,7 +97,7 @@ pub fn put_head(out: &mut [u8], kind: u8, n: u64, second: bool, args: u64) -> us
     put_if(out, number, second, args)
 }
 
-// Writes a token, which has room: the header, its number, the second number, the body. Answers how many bytes that took.
+// Writes a token, for which there is room: the header, its number, the second number, the body. Returns how many bytes that took.
 pub fn put_within(out: &mut [u8], kind: u8, n: u64, second: bool, args: u64, body: &[u8]) -> usize
     requires { ⌜ (kind < 16) × (second ≡ rule kind .args) × (length (emit (token kind n args (now body))) ≤ length (now out)) ⌝ }
     ensures { λ r. ⌜ Put (emit (token kind n args (now (body .entry)))) (now (out .entry)) (now (out .exit)) r ⌝ }
@@ -105,8 +106,8 @@ pub fn put_within(out: &mut [u8], kind: u8, n: u64, second: bool, args: u64, bod
     put_body(out, head, body)
 }
 
-// Writes a token at the front of rest and answers how many bytes that took; where it does not fit, or its kind is over 15, writes
-// nothing and answers 0.
+// Writes a token at the front of rest and returns how many bytes that took; if it does not fit, or its kind is over 15,
+// writes nothing and returns 0.
 pub fn put(rest: &mut [u8], kind: u8, n: u64, args: u64, body: &[u8]) -> usize
     ensures { λ r. ⌜ stored r (now (rest .exit)) ≡ emitInto (token kind n args (now (body .entry))) (now (rest .entry)) ⌝ }
 {

@@ -4,33 +4,33 @@ ghost use lib.ListN.{getD};
 ghost use mathlib.Core.List.{[]};
 ghost use Rattle.error.specs.Error.{numberOf, nameOf, names, padded};
 
-// The most bytes that a file has.
+// The most bytes that a file may have.
 pub const LIMIT: usize = 16777216;
 
-// What went wrong. The variants stand in the order of their numbers, from 1.
+// What went wrong. The variants are in the order of their numbers, from 1.
 pub enum ErrorKind {
     // The file has no bytes.
     Empty,
     // The file is over 16,777,216 bytes long.
     TooLong,
-    // The region ends inside a number or a fixed body; a length or count exceeds the bytes left, or a pair count half of them; an item is
-    // wanted at the region's end.
+    // The region ends inside a number or a fixed body; a length or count exceeds the bytes left, or a pair count exceeds
+    // half of them; an item is wanted at the region's end.
     Trunc,
     // A reserved kind or low nibble.
     Reserved,
-    // The last byte of a number is 0 and not its first.
+    // The last byte of a number is 0 and is not its first.
     Overlong,
     // A number over its kind's bound or over 64 bits.
     Range,
-    // An item of a kind that is no immediate.
+    // An item of a kind that is not an immediate.
     Nested,
     // A text that is not text.
     BadText,
-    // A target that is no start of a value that ended before.
+    // A target that is not the start of a value that ended before.
     BadTarget,
     // One value more than the table has words.
     Full,
-    // The delta byte names no start of a value.
+    // The delta byte does not name the start of a value.
     BadEntry,
     // The asked offset is not in the region.
     Outside,
@@ -44,17 +44,18 @@ pub enum ErrorKind {
     Owed,
     // Writer: already closed.
     Closed,
-    // Writer: a state that the output or the table does not fit.
+    // Writer: a state that does not fit the output or the table.
     BadState,
 }
 
-// What went wrong, and where: the offset that document 01 calls its place. Errors of the writer have none and are told by their kind alone.
+// What went wrong, and where: the offset that document 01 calls its place. The writer's errors have no place, and are
+// given by their kind alone.
 pub struct Error {
     pub kind: ErrorKind,
     pub place: usize,
 }
 
-// A name in the paper's spelling: the first `len` bytes of `text`, and then zeros, one at least, as C wants it.
+// A name in document 01's spelling: the first `len` bytes of `text`, followed by zeros, at least one, as C wants it.
 pub struct ErrorName {
     pub text: [u8; 11],
     pub len: usize,
@@ -169,7 +170,7 @@ const NAMES: [ErrorName; COUNT] = [
     },
 ];
 
-// The name of the error that has a number; an empty one where none has it.
+// The name of the error that has this number; an empty one if none has.
 pub fn name_of(number: u32) -> ErrorName
     ensures { λ r. ⌜ r ≡ padded (getD names number []) ⌝ }
 {
@@ -180,7 +181,7 @@ pub fn name_of(number: u32) -> ErrorName
     NAMES[0]
 }
 
-// The name of an error, as `BAD_TARGET`.
+// The name of an error, such as `BAD_TARGET`.
 pub fn name(kind: ErrorKind) -> ErrorName
     ensures { λ r. ⌜ r ≡ padded (nameOf kind) ⌝ }
 {

@@ -5,20 +5,20 @@ ghost use Rattle.kind.specs.Internal.{unpack, bound};
 
 // What a kind may hold.
 pub struct Rule {
-    // How many low nibbles are in use, from 0: none of a reserved kind, 16 where low 15 says that a number follows.
+    // How many low nibbles are in use, from 0: none for a reserved kind, 16 if low 15 means that a number follows.
     pub lows: u8,
     // n is at most this.
     pub most: u64,
     // The body has `fixed` bytes, and `scale` for each n.
     pub fixed: u64,
     pub scale: u64,
-    // The items are `single`, which is 0 or 1, `each` for each n, and as many as a second number says where `args` is true.
+    // The items are `single`, which is 0 or 1, `each` for each n, and as many as a second number says if `args` is true.
     pub single: u64,
     pub each: u64,
     pub args: bool,
 }
 
-// Where the fields of a rule stand in its packed form; `lows` is the lowest.
+// The place values of a rule's fields in its packed form; `lows` is the lowest field.
 const BOUND: u16 = 32;
 
 const FIXED: u16 = 256;
@@ -31,7 +31,7 @@ const EACH: u16 = 8192;
 
 const ARGS: u16 = 32768;
 
-// The bounds that no small number says.
+// The bounds that are not small numbers.
 const BITS_32: u16 = 3 * BOUND;
 
 const BITS_63: u16 = 4 * BOUND;
@@ -96,7 +96,7 @@ fn unpacked(c: u16) -> Rule
     }
 }
 
-// The low nibble that says that a number follows the header (document 01: "extension").
+// The low nibble that means that a number follows the header (document 01: "extension").
 pub const EXTENDED: u64 = 15;
 
 // False, true, null.
@@ -141,7 +141,7 @@ pub const KIND_REFERENCE: u8 = 14;
 // Pointer.
 pub const KIND_POINTER: u8 = 15;
 
-// The rule of a kind; of a number over 15 that of a reserved one.
+// The rule of a kind; for a number over 15, that of a reserved kind.
 pub fn rule_of(kind: u8) -> Rule
     ensures { λ r. ⌜ r ≡ rule kind ⌝ }
 {
@@ -151,7 +151,7 @@ pub fn rule_of(kind: u8) -> Rule
     unpacked(KINDS[kind as usize])
 }
 
-// Whether a value of this rule may be an item; none of a reserved rule may.
+// Whether a value of this rule may be an item; none of a reserved kind may.
 pub fn is_immediate(rule: Rule) -> bool
     ensures { λ r. ⌜ r ≡ immediate rule ⌝ }
 {

@@ -1,4 +1,4 @@
-// LEB128 numbers of up to 64 bits (document 01, "Row of a file"), in the shortest form alone.
+// LEB128 numbers of up to 64 bits (document 01, "Row of a file"), in the shortest form only.
 use error::ErrorKind;
 ghost use mathlib.Core.Path.{_≡_};
 ghost use Prim.Native.Nat.{_+_, _*_, _≤_, _<_, _^_};
@@ -24,11 +24,11 @@ fn wide(b: u8) -> u64
     b as u64
 }
 
-// A last byte, which is at least `least`: 0 where it is the first too, and else 1.
+// A last byte, which must be at least `least`: 0 if it is also the first byte, else 1.
 fn last_byte(b: u8, least: u8, left: usize) -> GetResult
     ensures { λ r. ⌜ answerOf r ≡ last least b left ⌝ }
 {
-    // OVERLONG: a last byte 0 after others
+    // OVERLONG: a last byte of 0 after others
     if b < least {
         return GetResult::Err(ErrorKind::Overlong);
     }
@@ -48,7 +48,7 @@ fn tenth_byte(b: u8, least: u8, left: usize) -> GetResult
     last_byte(b, least, left)
 }
 
-// The bits `low` below the number that follows them, whose lowest bit counts `unit`.
+// The answer `high` with its number times `unit`, plus `low`.
 fn with_low(low: u64, unit: u64, high: GetResult) -> GetResult
     requires { ⌜ low + unit * valueOf high < 2 ^ 64 ⌝ }
     ensures { λ r. ⌜ answerOf r ≡ raised low unit (answerOf high) ⌝ }
@@ -62,7 +62,7 @@ fn with_low(low: u64, unit: u64, high: GetResult) -> GetResult
     }
 }
 
-// Reads a number of which k bytes more than the first are allowed.
+// Reads a number that may have k bytes after its first.
 fn get_from(s: &[u8], k: usize, least: u8) -> GetResult
     requires { ⌜ k ≤ 9 ⌝ }
     ensures { λ r. ⌜ answerOf r ≡ measured (get k least (now (s .entry))) ⌝ }
@@ -99,7 +99,7 @@ pub fn size(n: u64) -> usize
     ((70 - u64::leading_zeros(n)) / 7) as usize
 }
 
-// Writes n at the front of rest, which has room for it, and answers how many bytes that took.
+// Writes n at the front of rest, which has room for it, and returns how many bytes that took.
 pub fn put_within(rest: &mut [u8], n: u64) -> usize
     requires { ⌜ length (put 9 n) ≤ length (now rest) ⌝ }
     ensures { λ r. ⌜ Put (put 9 n) (now (rest .entry)) (now (rest .exit)) r ⌝ }
@@ -115,7 +115,7 @@ pub fn put_within(rest: &mut [u8], n: u64) -> usize
     i + 1
 }
 
-// Writes n at the front of rest and answers how many bytes that took; where it does not fit, writes nothing and answers 0.
+// Writes n at the front of rest and returns how many bytes that took; if it does not fit, writes nothing and returns 0.
 pub fn put(rest: &mut [u8], n: u64) -> usize
     ensures { λ r. ⌜ stored r (now (rest .exit)) ≡ store (put 9 n) (now (rest .entry)) ⌝ }
 {

@@ -1,4 +1,4 @@
-// LEB128 numbers read fast: one or two bytes in the caller, up to seven from one word. The reader of crate leb128 takes what is left.
+// LEB128 numbers read fast: one or two bytes inline, up to seven from one word. The reader of crate leb128 does the rest.
 use leb128::GetResult;
 ghost use mathlib.Core.Path.{_≡_};
 ghost use Prim.Native.Nat.{_<_, _^_};
@@ -7,7 +7,7 @@ ghost use Rattle.leb128.specs.Leb.{get};
 ghost use Rattle.leb128.specs.Answers.{answerOf};
 ghost use Rattle.leb128_word.specs.Internal.{marks, sevens};
 
-// Of the four lowest bytes of w: 128 in the place of each that is below 128, and 0 in that of each other.
+// For each of the four lowest bytes of w, in its place: 128 if it is below 128, else 0.
 fn marks4(w: u64) -> u64
     ensures { λ r. ⌜ (r ≡ marks 4 w) × (r < 2 ^ 32) ⌝ }
 {
@@ -18,14 +18,14 @@ fn marks4(w: u64) -> u64
     a + 256 * (b + 256 * (c + 256 * d))
 }
 
-// The same of all eight.
+// The same for all eight.
 fn marks(w: u64) -> u64
     ensures { λ r. ⌜ r ≡ marks 8 w ⌝ }
 {
     marks4(w) + 0x1_0000_0000 * marks4(w / 256 / 256 / 256 / 256)
 }
 
-// The number of which the four lowest bytes of w have seven bits each, the lowest first.
+// The number made of the lower seven bits of each of the four lowest bytes of w, the lowest first.
 fn sevens4(w: u64) -> u64
     ensures { λ r. ⌜ (r ≡ sevens 4 w) × (r < 2 ^ 28) ⌝ }
 {
@@ -36,15 +36,15 @@ fn sevens4(w: u64) -> u64
     a + 128 * (b + 128 * (c + 128 * d))
 }
 
-// The same of all eight.
+// The same for all eight.
 fn sevens(w: u64) -> u64
     ensures { λ r. ⌜ r ≡ sevens 8 w ⌝ }
 {
     sevens4(w) + 0x1000_0000 * sevens4(w / 256 / 256 / 256 / 256)
 }
 
-// Reads the number at the front of s. One of up to seven bytes with no fault is read eight bytes at once, with no guess at how many are its own.
-// For numbers that are rare or long: `get` is compiled into its callers, this is called.
+// Reads the number at the front of s. One of up to seven bytes without a fault is read eight bytes at once, with no
+// branch on its length. For numbers that are rare or long: `get` is inlined into its callers, this one is called.
 pub fn get_wide(s: &[u8]) -> GetResult
     ensures { λ r. ⌜ answerOf r ≡ measured (get 9 0 (now (s .entry))) ⌝ }
 {
@@ -53,7 +53,7 @@ pub fn get_wide(s: &[u8]) -> GetResult
         return leb128::get(s);
     }
     let w = little_endian::load8(s);
-    // the last byte is the first without its high bit
+    // the number's last byte is the first one without its high bit
     let t = u64::trailing_zeros(marks(w));
     if 55 < t {
         return leb128::get(s);
@@ -71,7 +71,7 @@ pub fn get_wide(s: &[u8]) -> GetResult
     }
 }
 
-// Reads the number at the front of s. One of one or two bytes is read here, which is short enough to be compiled into its callers.
+// Reads the number at the front of s. One of one or two bytes is read here: the function is short enough to be inlined.
 pub fn get(s: &[u8]) -> GetResult
     ensures { λ r. ⌜ answerOf r ≡ measured (get 9 0 (now (s .entry))) ⌝ }
 {

@@ -1,10 +1,10 @@
-// Float bits as little-endian bytes (document 01, "Row of a file", the body of kind 3).
+// Numbers as little-endian bytes: the bits of floats (document 01, "Row of a file", the body of kind 3), and words of a file.
 ghost use mathlib.Core.Path.{_≡_};
 ghost use mathlib.Core.List.{[], _∷_};
 ghost use Prim.Native.Nat.{_^_, _<_};
 ghost use Rattle.little_endian.specs.LittleEndian.{little, fromLittle, load};
 
-// The bytes of an f32, whose bits are given.
+// The bytes of an f32 with these bits.
 pub fn bytes4(single: u32) -> [u8; 4]
     ensures { λ r. ⌜ r ≡ little 4 single ⌝ }
 {
@@ -16,7 +16,7 @@ pub fn bytes4(single: u32) -> [u8; 4]
     ]
 }
 
-// The bytes of an f64, whose bits are given.
+// The bytes of an f64 with these bits.
 pub fn bytes8(double: u64) -> [u8; 8]
     ensures { λ r. ⌜ r ≡ little 8 double ⌝ }
 {
@@ -38,14 +38,14 @@ fn wide(b: u8) -> u64
     b as u64
 }
 
-// The number that four bytes hold, lowest first.
+// The number that four bytes hold, the lowest first.
 fn four(a: u8, b: u8, c: u8, d: u8) -> u64
     ensures { λ r. ⌜ (r ≡ fromLittle (a ∷ b ∷ c ∷ d ∷ [])) × (r < 2 ^ 32) ⌝ }
 {
     wide(a) + 0x100 * wide(b) + 0x1_0000 * wide(c) + 0x100_0000 * wide(d)
 }
 
-// The bits of the f32 whose bytes s begins with; 0 where s is shorter than four bytes.
+// The bits of the f32 at the front of s; 0 if s is shorter than four bytes.
 pub fn load4(s: &[u8]) -> u32
     ensures { λ r. ⌜ r ≡ load 4 (now (s .entry)) ⌝ }
 {
@@ -55,7 +55,7 @@ pub fn load4(s: &[u8]) -> u32
     four(s[0], s[1], s[2], s[3]) as u32
 }
 
-// The bits of the f64 whose bytes s begins with; 0 where s is shorter than eight bytes.
+// The bits of the f64 at the front of s; 0 if s is shorter than eight bytes.
 pub fn load8(s: &[u8]) -> u64
     ensures { λ r. ⌜ r ≡ load 8 (now (s .entry)) ⌝ }
 {

@@ -1,4 +1,4 @@
-// The queries at an offset, on files that nobody checked (document 01, "Questions at an offset"), each proved in the crate that has it.
+// The queries at an offset, on unchecked files (document 01, "Questions at an offset"), each proved in its own crate.
 pub use reader_body::BodyResult;
 pub use reader_body::body;
 pub use reader_body::body_place;

@@ -15,7 +15,7 @@ pub enum BodyResult {
     Err(Error),
 }
 
-// The body of a value of head h at `at`.
+// The body of the value at `at` with head h.
 fn body_place_on(at: usize, h: Head) -> BodyResult
     requires { ⌜ h .first ≤ h .end ⌝ }
     ensures { λ r. ⌜ bodyAnswer r ≡ bodyPlaceOn at h ⌝ }
@@ -34,7 +34,7 @@ fn body_place_on(at: usize, h: Head) -> BodyResult
     })
 }
 
-// Where the bytes stand of the text or byte string that the value at `at` is or leads to.
+// Where the bytes are of the text or byte string that the value at `at` is or leads to.
 pub fn body_place(file: &[u8], at: usize) -> BodyResult
     ensures { λ r. ⌜ bodyAnswer r ≡ bodyPlaceOf (now (file .entry)) at ⌝ }
 {
@@ -44,7 +44,7 @@ pub fn body_place(file: &[u8], at: usize) -> BodyResult
     }
 }
 
-// The same as a part of the file; no bytes on an error, which `body_place` tells.
+// The same as a part of the file; no bytes on an error, which `body_place` reports.
 pub fn body(file: &[u8], at: usize) -> &[u8]
     ensures { λ r. ⌜ now r ≡ bodyOf (now (file .entry)) at ⌝ }
 {

@@ -9,12 +9,12 @@ ghost use Rattle.reader_follow.specs.Answers.{followHeadAnswer, followAn
 
 // The answer of `follow`.
 pub enum FollowResult {
-    // The offset of the value that is no pointer, and the pointers met.
+    // The offset of the value that is not a pointer, and the pointers met.
     Ok { at: usize, hops: usize },
     Err(Error),
 }
 
-// Where following came to, with the head there.
+// The value that following reached, with its head.
 pub enum FollowHeadResult {
     Ok { at: usize, hops: usize, head: Head },
     Err(Error),
@@ -56,7 +56,7 @@ pub fn follow_head(file: &[u8], at: usize) -> FollowHeadResult
     }
 }
 
-// Follows pointers from the value at `at` to one that is no pointer. References are not followed.
+// Follows pointers from the value at `at` to one that is not a pointer. References are not followed.
 pub fn follow(file: &[u8], at: usize) -> FollowResult
     ensures { λ r. ⌜ followAnswer r ≡ followOf (now (file .entry)) at ⌝ }
 {

@@ -38,7 +38,7 @@ pub fn skip(file: &[u8], at: usize) -> OffsetResult
     }
 }
 
-// An offset where an item is to start.
+// An offset where an item is to start, in a region of len bytes.
 pub fn starts_in(len: usize, q: usize) -> OffsetResult
     ensures { λ r. ⌜ offsetAnswer r ≡ startsIn len q ⌝ }
 {
@@ -52,7 +52,7 @@ pub fn starts_in(len: usize, q: usize) -> OffsetResult
     })
 }
 
-// An item of the value at `at` of a region, which has the head h.
+// The offset of an item of the value at `at` of a region, which has the head h.
 fn item_on(region: &[u8], at: usize, index: usize, h: Head) -> OffsetResult
     ensures { λ r. ⌜ offsetAnswer r ≡ itemOn (now (region .entry)) at index h ⌝ }
 {
@@ -79,8 +79,8 @@ fn item_on(region: &[u8], at: usize, index: usize, h: Head) -> OffsetResult
     }
 }
 
-// The offset of an item of the value at `at`, which is not followed. It takes time with the items before it: of a value that `skip` accepts,
-// a loop over its items takes item 0 and then, as often as it has more, what `skip` tells of the one before.
+// The offset of an item of the value at `at`, which is not followed. The time grows with the items before it: for a value
+// that `skip` accepts, a loop over its items asks for item 0, and then, while there are more, calls `skip` on the one before.
 pub fn item(file: &[u8], at: usize, index: usize) -> OffsetResult
     ensures { λ r. ⌜ offsetAnswer r ≡ itemOf (now (file .entry)) at index ⌝ }
 {

@@ -34,7 +34,7 @@ fn same(a: &[u8], b: &[u8]) -> bool
     true
 }
 
-// Whether a value of head h is a text of these bytes.
+// Whether the value with head h is a text with the bytes of `key`.
 fn is_key(region: &[u8], key: &[u8], h: Head) -> bool
     requires { ⌜ (h .first ≤ h .end) × (h .end ≤ length (now region)) ⌝ }
     ensures { λ r. ⌜ r ≡ isKey (now (region .entry)) (now (key .entry)) h ⌝ }
@@ -78,7 +78,7 @@ fn pair(region: &[u8], key: &[u8], q: usize) -> PairResult
     }
 }
 
-// The pairs of the map at `at`, of which `count` are left from `first` on.
+// Looks the key up in the map at `at`, of which `count` pairs are left from `first` on.
 fn pairs(region: &[u8], at: usize, key: &[u8], count: u64, first: usize) -> OffsetResult
     ensures { λ r. ⌜ offsetAnswer r ≡ pairs (now (region .entry)) at (now (key .entry)) count first ⌝ }
 {
@@ -95,7 +95,7 @@ fn pairs(region: &[u8], at: usize, key: &[u8], count: u64, first: usize) -> Offs
             }
         }
     }
-    // NO_ITEM: no key is the one
+    // NO_ITEM: no key matches
     OffsetResult::Err(Error {
         kind: ErrorKind::NoItem,
         place: at,
@@ -108,15 +108,15 @@ fn lookup_on(region: &[u8], at: usize, key: &[u8], h: Head) -> OffsetResult
     if h.kind == kind::KIND_MAP {
         return pairs(region, at, key, h.n, h.end);
     }
-    // WRONG_KIND: no map
+    // WRONG_KIND: not a map
     OffsetResult::Err(Error {
         kind: ErrorKind::WrongKind,
         place: at,
     })
 }
 
-// The offset of the value that a map has for a key: the first pair's whose key, followed, is a text of these bytes; it has to start in the
-// region. A fault in what stands before it is the answer. The map itself is not followed.
+// The offset of the value that a map has for a key: that of the first pair whose key, followed, is a text with these
+// bytes; it has to start in the region. A fault before it is the answer. The map itself is not followed.
 pub fn lookup(file: &[u8], at: usize, key: &[u8]) -> OffsetResult
     ensures { λ r. ⌜ offsetAnswer r ≡ lookupOf (now (file .entry)) at (now (key .entry)) ⌝ }
 {

@@ -1,5 +1,5 @@
-// What every query begins with: the region of a file that nobody checked, and the token at an offset of it (document 01, "Questions at an
-// offset").
+// What every query begins with: the region of an unchecked file, and the token at an offset of it (document 01,
+// "Questions at an offset").
 use error::Error;
 use error::ErrorKind;
 use scan::Head;
@@ -20,7 +20,7 @@ pub enum OffsetResult {
     Err(Error),
 }
 
-// How long the region of a file of len bytes is, where `at` is in it.
+// How long the region of a file of len bytes is, if `at` is in it.
 pub fn region_len(len: usize, at: usize) -> OffsetResult
     ensures { λ r. ⌜ offsetAnswer r ≡ regionLen len at ⌝ }
 {
@@ -45,7 +45,7 @@ pub fn region_len(len: usize, at: usize) -> OffsetResult
     })
 }
 
-// A head at `at`, or BAD_TARGET where its target is below 0.
+// The head h at `at`, or BAD_TARGET if its target is below 0.
 fn check_target(at: usize, h: Head) -> ScanResult
     ensures { λ r. ⌜ scans.answerOf r ≡ pick (below at h) (error (fault BAD_TARGET at)) (ok h) ⌝ }
 {
@@ -59,7 +59,7 @@ fn check_target(at: usize, h: Head) -> ScanResult
     ScanResult::Ok(h)
 }
 
-// The head at `at` of a region, as a query looks at it; as an item's where `inner` is true.
+// The head at `at` of a region, as a query looks at it; as an item's if `inner` is true.
 pub fn peek_in(region: &[u8], at: usize, inner: bool) -> ScanResult
     ensures { λ r. ⌜ scans.answerOf r ≡ peekIn inner (now (region .entry)) at ⌝ }
 {
@@ -69,7 +69,8 @@ pub fn peek_in(region: &[u8], at: usize, inner: bool) -> ScanResult
     }
 }
 
-// The head of the value at `at`, with the errors of `read`: its kind and numbers as they stand, and where its body or first item starts.
+// The head of the value at `at`, with the errors of `read`: its kind and numbers as they are, and where its body or
+// first item starts.
 pub fn peek(file: &[u8], at: usize) -> ScanResult
     ensures { λ r. ⌜ scans.answerOf r ≡ peekOf (now (file .entry)) at ⌝ }
 {
@@ -79,7 +80,7 @@ pub fn peek(file: &[u8], at: usize) -> ScanResult
     }
 }
 
-// The region: all bytes but the last; none of a file that has none.
+// The region: all bytes but the last; no bytes if the file has none.
 pub fn region(file: &[u8]) -> &[u8]
     ensures { λ r. ⌜ now r ≡ take (length (now (file .entry)) - 1) (now (file .entry)) ⌝ }
 {

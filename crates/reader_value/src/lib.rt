@@ -28,7 +28,8 @@ pub enum Value {
         first: usize,
         len: usize,
     },
-    // How many items, and where the first would start, which may be the region's end; of a map also how many pairs, key and value by turns.
+    // How many items, and where the first would start, which may be the region's end; for a map also how many pairs, keys
+    // and values alternating.
     Array {
         items: u64,
         first: usize,
@@ -43,7 +44,7 @@ pub enum Value {
         tag: u64,
         item: usize,
     },
-    // The index of a variant, with no item, with where its one item would start, and with many.
+    // The index of a variant: without an item; with where its one item would start; and with many items, as for an array.
     Variant {
         index: u32,
     },
@@ -109,7 +110,7 @@ fn negative(n: u64) -> Value
     Value::Integer(-1 - n as i64)
 }
 
-// The value of head h at `at`: the kinds in their order; 9 and 13 are no kinds.
+// The value at `at` with head h: the kinds in their order; 9 and 13 are reserved.
 fn value_on(region: &[u8], at: usize, h: Head) -> Value
     requires { ⌜ Peeked (now region) at h ⌝ }
     ensures { λ r. ⌜ r ≡ valueOn (now (region .entry)) at h ⌝ }
@@ -163,7 +164,7 @@ fn value_on(region: &[u8], at: usize, h: Head) -> Value
     }
 }
 
-// The value at `at`. Looks at neither items nor text bytes, and of a target only that it is not below 0.
+// The value at `at`. Neither items nor text bytes are looked at, and a target only has to be 0 or more.
 pub fn read(file: &[u8], at: usize) -> ReadResult
     ensures { λ r. ⌜ readAnswer r ≡ readOf (now (file .entry)) at ⌝ }
 {

@@ -24,8 +24,8 @@ pub enum ScanResult {
     Err(Error),
 }
 
-// Reads the token at the offset `at` of a region, as an item where `inner` is true. At the region's end and past it: TRUNC, placed at `at`.
-// All answers are made here: an answer handed on from a function of its own costs more than the rest.
+// Reads the token at the offset `at` of a region, as an item if `inner` is true. At the region's end and past it:
+// TRUNC, placed at `at`. One function on purpose: returning the answer through a helper costs more than the parse.
 pub fn scan(region: &[u8], at: usize, inner: bool) -> ScanResult
     ensures { λ r. ⌜ answerOf r ≡ scanAt inner (now (region .entry)) at ⌝ }
 {
@@ -48,7 +48,7 @@ pub fn scan(region: &[u8], at: usize, inner: bool) -> ScanResult
             place: at,
         });
     }
-    // NESTED: an item that is no immediate
+    // NESTED: an item that is not an immediate
     let immediate = kind::is_immediate(rule);
     if inner & !immediate {
         return ScanResult::Err(Error {

@@ -10,7 +10,7 @@ ghost use Rattle.kind.specs.Kind.{size};
 ghost use Rattle.kind.proofs.Laws.{Row};
 ghost use Rattle.scan_number.specs.Internal.{numbered};
 
-// The number n of a header with this low nibble, where s stands behind it, and the bytes left behind n.
+// The number n of a header with this low nibble, if s comes after it, and the bytes left after n.
 pub fn number(low: u8, most: u64, s: &[u8]) -> GetResult
     requires { ⌜ (low ≤ most) × (low < 16) ⌝ }
     ensures { λ r. ⌜ numbers.answerOf r ≡ numbered low most (now (s .entry)) ⌝ }
@@ -36,7 +36,7 @@ pub fn number(low: u8, most: u64, s: &[u8]) -> GetResult
     }
 }
 
-// Whether the body and the items that n counts have room in the bytes left.
+// Whether the bytes left have room for the body and the items that n counts.
 pub fn has_room(rule: Rule, n: u64, left: u64) -> bool
     requires { ⌜ (Row rule) × (n ≤ rule .most) × (left < 2 ^ 63) ⌝ }
     ensures { λ r. ⌜ r ≡ leb (size rule n + rule .each * n) left ⌝ }

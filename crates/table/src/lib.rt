@@ -1,4 +1,5 @@
-// A table of words: filled with zeros, and its words counted by blocks, so that a search (crate search) has little to look at.
+// A table of words: filled with zeros, and its words counted by blocks, so that a search (crate table_search) has
+// little to look at.
 ghost use mathlib.Core.Path.{_≡_};
 ghost use Prim.Native.Nat.{_+_, _*_, _≤_, _<_, _^_};
 ghost use lib.ListN.{length, take, replicate};
@@ -13,7 +14,7 @@ pub const BLOCK_WORD: u32 = BLOCK as u32;
 // How many blocks the longest region has.
 pub const BLOCKS: usize = 4096;
 
-// How many a short region has.
+// How many blocks a short region has.
 pub const FEW: usize = 16;
 
 // The length from which a region is not short: FEW blocks.
@@ -30,7 +31,7 @@ pub fn zero(t: &mut [u32])
     }
 }
 
-// Counts the words of a table, which are all before block number `next`, for the blocks from there to `last`.
+// Counts the words of a table for the blocks from `next` to `last`; all of them come before block `next`.
 pub fn count_blocks(t: &[u32], blocks: &mut [u32], next: usize, last: usize)
     requires { ⌜ (next ≤ last + 1) × (last < length (now blocks)) × (length (now t) < 2 ^ 32) × (Below (next * BLOCK) (now t)) × (Counted (take next (now blocks)) (now t)) ⌝ }
     ensures { λ _. ⌜ Counted (take (last + 1) (now (blocks .exit))) (now (t .entry)) ⌝ }
@@ -42,7 +43,7 @@ pub fn count_blocks(t: &[u32], blocks: &mut [u32], next: usize, last: usize)
     }
 }
 
-// Counts the words of a rising table by blocks, as far as blocks begin at most at its last word: answers how many blocks these are.
+// Fills `blocks` up to the block of the last word; returns how many blocks are filled.
 pub fn index(t: &[u32], blocks: &mut [u32]) -> usize
     requires { ⌜ (Rising (now t)) × (Below (length (now blocks) * BLOCK) (now t)) ⌝ }
     ensures { λ r. ⌜ (r ≤ length (now (blocks .exit))) × (Counted (take r (now (blocks .exit))) (now (t .entry))) ⌝ }

@@ -1,4 +1,4 @@
-// A rising table of words, searched; its words are counted by blocks, so that a search has little to look at.
+// A search in a rising table of words, which are counted by blocks, so that it has little to look at.
 ghost use mathlib.Core.Path.{_≡_};
 ghost use Prim.Native.Nat.{_+_, _≤_, _<_};
 ghost use lib.Dec.{ltb};
@@ -7,7 +7,7 @@ ghost use Rattle.prelude.specs.Pick.{pick};
 ghost use Rattle.prelude.specs.Search.{among, rank, Rising};
 ghost use Rattle.table.specs.Blocks.{Counted};
 
-// 1 where the word at i of a rising table is less than x, so that the rank of x is past i, and else 0.
+// 1 if the word at i of a rising table is less than x, so that the rank of x is past i, else 0.
 fn below(t: &[u32], i: usize, x: u32) -> usize
     requires { ⌜ (Rising (now t)) × (i < length (now t)) ⌝ }
     ensures { λ r. ⌜ (r ≡ pick (ltb i (rank x (now (t .entry)))) 1 0) × (r ≤ 1) ⌝ }
@@ -18,7 +18,7 @@ fn below(t: &[u32], i: usize, x: u32) -> usize
     0
 }
 
-// An index at most the rank: how many words are before x's block, where that is counted, and else the begin.
+// An index at most the rank: how many words come before x's block, if that is counted, else the beginning.
 fn low(t: &[u32], blocks: &[u32], x: u32) -> usize
     requires { ⌜ (Rising (now t)) × (Counted (now blocks) (now t)) ⌝ }
     ensures { λ r. ⌜ r ≤ rank x (now (t .entry)) ⌝ }
@@ -30,7 +30,7 @@ fn low(t: &[u32], blocks: &[u32], x: u32) -> usize
     0
 }
 
-// An index at least the rank: how many words are before the block after x's, where that is counted, and else the end.
+// An index at least the rank: how many words come before the block after x's, if that is counted, else the end.
 fn high(t: &[u32], blocks: &[u32], x: u32) -> usize
     requires { ⌜ (Rising (now t)) × (Counted (now blocks) (now t)) ⌝ }
     ensures { λ r. ⌜ (rank x (now (t .entry)) ≤ r) × (r ≤ length (now (t .entry))) ⌝ }
@@ -42,8 +42,9 @@ fn high(t: &[u32], blocks: &[u32], x: u32) -> usize
     t.len()
 }
 
-// Where 16 words begin behind which the rank is not: by the blocks, and then by quarters. Three words at a time are looked at, and their tests
-// added up, so that no step waits for a guess at a word's test. The last 16 words are taken where fewer are left.
+// The start of a window of 16 words that holds the rank or ends at it; narrowed by blocks, then by quarters. Each step
+// looks at three words and adds their tests up, so that no step depends on a branch prediction. If fewer words are
+// left, the last 16 are taken.
 fn narrow(t: &[u32], blocks: &[u32], x: u32) -> usize
     requires { ⌜ (Rising (now t)) × (Counted (now blocks) (now t)) × (16 ≤ length (now t)) ⌝ }
     ensures { λ r. ⌜ (r ≤ rank x (now (t .entry))) × (rank x (now (t .entry)) ≤ r + 16) × (r + 16 ≤ length (now (t .entry))) ⌝ }
@@ -63,7 +64,7 @@ fn narrow(t: &[u32], blocks: &[u32], x: u32) -> usize
     lo
 }
 
-// The rank, where it is at one of 16 words or just behind them: the tests of the 16 do not wait for one another.
+// The rank, if it is at one of 16 words or just after them: the 16 tests do not depend on one another.
 fn count_16(t: &[u32], base: usize, x: u32) -> usize
     requires { ⌜ (Rising (now t)) × (base ≤ rank x (now t)) × (rank x (now t) ≤ base + 16) × (base + 16 ≤ length (now t)) ⌝ }
     ensures { λ r. ⌜ r ≡ rank x (now (t .entry)) ⌝ }
@@ -77,7 +78,7 @@ fn count_16(t: &[u32], base: usize, x: u32) -> usize
     r
 }
 
-// The rank, by every word of a short table.
+// The rank, by looking at every word of a short table.
 fn count_all(t: &[u32], x: u32) -> usize
     requires { ⌜ Rising (now t) ⌝ }
     ensures { λ r. ⌜ r ≡ rank x (now (t .entry)) ⌝ }
@@ -91,8 +92,8 @@ fn count_all(t: &[u32], x: u32) -> usize
     r
 }
 
-// How many words of a rising table are less than x: x's index, where the table has it. `blocks` tells how many are before each block, as far as
-// these are counted.
+// How many words of a rising table are less than x: x's index, if the table has it. `blocks` has how many come before
+// each block, as far as these are counted.
 pub fn rank(t: &[u32], blocks: &[u32], x: u32) -> usize
     requires { ⌜ (Rising (now t)) × (Counted (now blocks) (now t)) ⌝ }
     ensures { λ r. ⌜ r ≡ rank x (now (t .entry)) ⌝ }

@@ -1,1 +1,1 @@
-// One token: a header with its numbers and its body, no items. Definitions and laws; no function.
+// One token: a header with its numbers and its body, without items. Definitions and laws; no function.

@@ -1,5 +1,6 @@
-// The library for C; bindings/c/twine.h is its header. A slice is a pointer and a length in C, an array a pointer. The result of a call is an
-// error's number, 0 for none; what it tells stands in an array of the caller's. A comment on a function names the function behind it.
+// The library for C; bindings/c/twine.h is its header. A slice is a pointer and a length in C, an array is a pointer. A
+// call returns an error's number, 0 for none; what else it reports is in an array of the caller. A comment on a
+// function names the Rattle function that it calls.
 use writer::Scalar;
 ghost use mathlib.Core.Path.{_≡_};
 ghost use lib.ListN.{length};
@@ -27,7 +28,7 @@ pub extern "C" fn twine_abi_1() -> u32
 
 // ---- names
 
-// `error::name_of`: the name, and zeros behind it; zeros alone for a number that no error has.
+// `error::name_of`: the name, with zeros after it; zeros alone if no error has this number.
 #[no_mangle]
 pub extern "C" fn twine_spell_error(number: u32, name: &mut [u8; 11]) -> u32
     ensures { λ r. ⌜ reply r (now (name .exit)) ≡ reply 0 (nameC number) ⌝ }
@@ -108,7 +109,7 @@ pub extern "C" fn twine_body(file: &[u8], at: usize, out: &mut [u64; 2]) -> u32
     abi_answer::answer_body(reader::body_place(file, at), out)
 }
 
-// ---- the writer's calls: those of `writer::Writer`, on the state that the words are
+// ---- the writer's calls: those of `writer::Writer`, on the state that the words stand for
 
 #[no_mangle]
 pub extern "C" fn twine_writer_new(state: &mut [u64; 5]) -> u32

@@ -1,5 +1,6 @@
-// Checks a plan file from standard input, of at most 16,384 bytes, and prints one line: `ok COUNT ENTRY`, or an error's `NAME PLACE`. A longer
-// input is `TOO_LONG 0`. An input that can't be read gets no line; standard error says so.
+// Checks a plan file of at most 16,384 bytes from standard input, and prints one line: `ok COUNT ENTRY`, or an error's
+// `NAME PLACE`. A longer input is `TOO_LONG 0`. For an input that can't be read there is no line, but a message on
+// standard error.
 use checker::CheckResult;
 use error::Error;
 use error::ErrorKind;
@@ -37,7 +38,7 @@ fn answer(r: CheckResult) {
     write(b"\n");
 }
 
-// Whether the input is at its end. `io::read_full` stops there, and also where a read fails.
+// Whether the input is at its end. `io::read_full` stops there, and also if a read fails.
 fn is_ended() -> bool {
     let mut byte = [0u8; 1];
     libc::read(STDIN_FILENO, &mut byte) == 0
@@ -60,7 +61,7 @@ fn main() {
         );
         return;
     }
-    // a value has at least one byte, so that these words are never too few
+    // a value has at least one byte, so these words are never too few
     let mut starts = [0u32; 16384];
     answer(checker::check(&buffer[..n], &mut starts));
 }

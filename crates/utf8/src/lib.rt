@@ -4,7 +4,7 @@ ghost use Prim.Native.Nat.{_<_};
 ghost use Rattle.utf8.specs.Text.{forms, lead, next, isText};
 ghost use Rattle.utf8.specs.Internal.{dueOf};
 
-// How many bytes are due after b, the first of a character; 4 where b begins none.
+// How many bytes are due after b, the first of a character; 4 if no character begins with b.
 fn lead(b: u8) -> u8
     ensures { λ r. ⌜ dueOf r ≡ lead forms b ⌝ }
 {
@@ -23,7 +23,7 @@ fn lead(b: u8) -> u8
     4
 }
 
-// How many bytes are due after b, where `due` were before it; 4 where b cannot stand there.
+// How many bytes are due after b, if `due` were due before it; 4 if b is not allowed there.
 fn next(due: u8, b: u8) -> u8
     requires { ⌜ due < 4 ⌝ }
     ensures { λ r. ⌜ dueOf r ≡ next (dueOf due) b ⌝ }
@@ -45,12 +45,12 @@ pub fn is_text(s: &[u8]) -> bool
     let mut i: usize = 0;
     while i < s.len() {
         due = next(due, s[i]);
-        // BAD_TEXT: a byte that cannot stand there
+        // BAD_TEXT: a byte that is not allowed there
         if 3 < due {
             return false;
         }
         i += 1;
     }
-    // BAD_TEXT: the last character is cut
+    // BAD_TEXT: the last character is incomplete
     due == 0
 }

@@ -1,4 +1,4 @@
-// The listed words, the first of a starts table (document 01, "Writer"): whether a word is among them, and one word more listed.
+// The listed words, the first of a starts table (document 01, "Writer"): whether a word is among them, and how one more is listed.
 ghost use mathlib.Core.Path.{_≡_};
 ghost use Prim.Native.Nat.{_+_, _≤_, _<_, _^_};
 ghost use lib.Dec.{eqb};
@@ -6,7 +6,7 @@ ghost use lib.ListN.{length, set};
 ghost use Rattle.prelude.specs.Pick.{pick};
 ghost use Rattle.prelude.specs.Search.{among};
 
-// 1 where the word at i is at most x, and else 0.
+// 1 if the word at i is at most x, else 0.
 fn until(t: &[u32], i: usize, x: u32) -> usize
     requires { ⌜ i < length (now t) ⌝ }
     ensures { λ r. ⌜ r ≤ 1 ⌝ }
@@ -17,7 +17,8 @@ fn until(t: &[u32], i: usize, x: u32) -> usize
     0
 }
 
-// Where to look first: 64 words before the end where the word there is at most x, since most targets are near, and else at the first word.
+// Where to look first: 64 words before the end, if the word there is at most x, since most targets are near; else at
+// the first word.
 fn near(t: &[u32], x: u32) -> usize
     requires { ⌜ 0 < length (now t) ⌝ }
     ensures { λ r. ⌜ r < length (now (t .entry)) ⌝ }
@@ -31,8 +32,8 @@ fn near(t: &[u32], x: u32) -> usize
     0
 }
 
-// The index at which a rising table would have x; some index of another table. Three words at a time are looked at, and their tests added up, so that
-// no step waits for a guess at a word's test.
+// The index at which a rising table would have x; for any other table, some index. Each step looks at three words and
+// adds their tests up, so that no step depends on a branch prediction.
 fn guess(t: &[u32], x: u32) -> usize
     requires { ⌜ 0 < length (now t) ⌝ }
     ensures { λ r. ⌜ r < length (now (t .entry)) ⌝ }
@@ -66,7 +67,7 @@ fn is_among_each(t: &[u32], x: u32) -> bool
     false
 }
 
-// Whether a table has x: first looked for where a rising table would have it.
+// Whether a table has x: it is first looked for where a rising table would have it.
 pub fn is_among(t: &[u32], x: u32) -> bool
     ensures { λ r. ⌜ r ≡ among x (now (t .entry)) ⌝ }
 {
@@ -80,7 +81,7 @@ pub fn is_among(t: &[u32], x: u32) -> bool
     is_among_each(t, x)
 }
 
-// Lists a start in the word `count` where no item is left pending, and answers how many are listed.
+// Lists a start in word number `count` if no item is left pending, and returns how many are listed.
 pub fn list_start(left: u64, start: usize, count: usize, starts: &mut [u32]) -> usize
     requires { ⌜ (start < 2 ^ 32) × (count < length (now starts)) ⌝ }
     ensures { λ r. ⌜ (r ≡ pick (eqb left 0) (count + 1) count) × (now (starts .exit) ≡ pick (eqb left 0) (set (now (starts .entry)) count start) (now (starts .entry))) ⌝ }
