@@ -1,4 +1,4 @@
--- The rows of `twine_read`: kinds one after the other whose rows are the same.
+-- The rows of `twine_read`: consecutive kinds whose rows are the same.
 use mathlib.Core.Path.{_≡_, sym, ap, _∙_}
 use mathlib.Core.List.{List}
 use Prim.Native.Nat.{ℕ, _+_, _-_, _≤_, _<_}

@@ -1,4 +1,4 @@
--- The writer's calls: a call of the writer whose state is stored is the call of C.
+-- The writer's calls: a call of the writer whose state is then stored is the call of C.
 use mathlib.Core.Path.{_≡_, sym, ap, _∙_}
 use mathlib.Core.List.{List}
 use Prim.Native.Nat.{ℕ}

@@ -1,4 +1,4 @@
 -- the writer's calls
 pub mod Calls
--- what holds of C's calls beside their contracts
+-- what holds for C's calls besides their contracts
 pub mod Theorems

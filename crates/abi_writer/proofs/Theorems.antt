@@ -1,5 +1,5 @@
--- What the writer's calls in C promise beside their contracts: on the words of a writer each is that writer's call, and leaves the words of the
--- next writer, so that what holds of every list of the writer's calls holds of C's.
+-- What the writer's calls in C promise besides their contracts: on the words of a writer each is that writer's call,
+-- and leaves the words of the next writer, so that what holds for every list of the writer's calls holds for C's.
 use mathlib.Core.Path.{_≡_, refl}
 use mathlib.Core.Bool.{Bool, true, false, not}
 use mathlib.Core.List.{List}
@@ -19,7 +19,7 @@ flag-back false = refl
 pub writerOf-wordsOf : (w : Writer) → writerOf (wordsOf w) ≡ w
 writerOf-wordsOf w = λ i. record { written = w .written; count = w .count; pending = w .pending; start = w .start; closed = flag-back (w .closed) i }
 
--- the number of an answer, 0 where the call is accepted
+-- the number of an answer, 0 if the call is accepted
 abbrev pub numberC : Verdict → ℕ
 numberC (ok u) = 0
 numberC (error f) = f

@@ -1,6 +1,6 @@
 -- The ways through check.
 --
--- In order: the entry behind the starts; a file whose region was walked; the table that is left.
+-- In order: the entry, given the starts; a file whose region was walked; the table that is left.
 use mathlib.Core.Path.{_≡_, ap, _∙_}
 use Prim.Native.Nat.{ℕ, _-_, _≤_}
 use mathlib.Core.List.{List, [], append-nil}
@@ -28,7 +28,7 @@ use Rattle.checker.specs.Check.{entryAt, checkIn, filled, checked, liste
 use Rattle.checker.specs.Answers.{checkAnswer}
 use Rattle.checker.specs.Internal.{checkInAnswer, keptWords}
 
--- starts in the first words of t, and the entry behind them
+-- q, with the starts in the first words of t, is the answer a
 pub record Entered (q : CheckResult) (t : List ℕ) (a : Answer Fault ((List ℕ) × ℕ)) : Type 0 where
   pub reported : checkInAnswer q t ≡ a
   pub fits : keptWords q ≤ length t
@@ -67,7 +67,7 @@ module _ (file t : List ℕ) (cap : ℕ) (some : length file ≡ 0 → ⊥) (sho
 
 -- ---- the table that is left
 
--- zeros behind the first `count` words
+-- zeros after the first `count` words
 pub zeros-after : (t : List ℕ) (count : ℕ) → count ≤ length t
     → putMid count (length t - count) t (replicate (length (take (length t - count) (drop count t))) 0) ≡ filled (length t) (take count t)
 zeros-after t count h =

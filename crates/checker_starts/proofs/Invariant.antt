@@ -30,7 +30,7 @@ pub record TableInvariant (s t : List ℕ) (cap at count : ℕ) : Type 0 where
   pub going : WalkInvariant s cap (between at (take count t))
   pub leads : startsFrom s cap (between at (take count t)) ≡ startsFrom s cap (between 0 [])
 
--- the starts are counted for the blocks that begin at most at `at`; each block of the region has a word
+-- the starts are counted for the blocks that begin at `at` or before; each block of the region has a word
 pub record Indexed (s t blocks : List ℕ) (at count : ℕ) : Type 0 where
   pub long : length s < length blocks * BLOCK
   pub counted : Counted (take (at / BLOCK + 1) blocks) (take count t)
@@ -70,7 +70,7 @@ module _ (s t : List ℕ) (cap at count : ℕ) (a : TableInvariant s t cap at co
       pub table-less : length s - end < length s - at
       table-less = let h = table-ends in omega (arith, h .0, h .1)
 
-      -- the starts with the one of the value that is finished
+      -- the starts, with that of the finished value
       words : take (count + 1) (set t count at) ≡ take count t ++ (at ∷ [])
       words = rw add-one (take-suc-set t count at free)
 

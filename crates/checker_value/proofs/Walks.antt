@@ -1,7 +1,7 @@
 -- The walk of check over a region.
 --
--- In order: a token that the walk takes; what holds of a walk, and of the walk behind a token; turns; the starts that it comes to rise and
--- are within the region; a value as the code passes it, by its token and its items.
+-- In order: a token that the walk takes; what holds for a walk, and for the walk after a token; turns; the starts that
+-- it yields are rising and within the region; a value as the code checks it, by its token and its items.
 use mathlib.Core.Path.{_≡_, refl, sym, _∙_, subst}
 use Prim.Native.Nat.{ℕ, _+_, _-_, _≤_, _<_}
 use mathlib.Core.Bool.{Bool, true, false, not, _&&_}
@@ -64,9 +64,9 @@ module _ (s : List ℕ) (cap : ℕ) (done : List ℕ) (pending at : ℕ) where
   pub taken : (h : Head) → ok h ≡ nextToken s cap done pending at → TokenTaken s cap done pending at h
   taken h e = subst Takes (sym e) takes
 
--- ---- what holds of a walk
+-- ---- what holds for a walk
 
--- the starts rise to the start of the value that the walk is in, which has a word; all is within the region
+-- the starts rise up to the start of the value that the walk is in, which has a word; all is within the region
 pub record WalkInvariant (s : List ℕ) (cap : ℕ) (w : Walk) : Type 0 where
   pub rising : Rising (w .done)
   pub below : (k : ℕ) → k < length (w .done) → getD (w .done) k 0 < w .start
@@ -92,7 +92,7 @@ below-snoc xs x m h l k b =
     (λ lt. rw (List·getD-append xs (x ∷ []) 0 k lt) (h k lt))
     (λ ge. let e : k ≡ length xs = omega (arith, length-append xs (x ∷ [])) in rw (e, getD-append-seam xs x [] 0) l)
 
--- behind a value that is finished
+-- after a finished value
 pub invariant-finished : (s : List ℕ) (cap : ℕ) (w : Walk) → WalkInvariant s cap w → length (w .done) < cap → (end : ℕ) → w .start < end → end ≤ length s
     → WalkInvariant s cap (between end (w .done ++ (w .start ∷ [])))
 invariant-finished s cap w g word end past inside = record {
@@ -134,7 +134,7 @@ module _ (s : List ℕ) (cap : ℕ) (w : Walk) (h : Head) (e : ok h ≡ nextToke
 
 -- ---- turns
 
--- a turn that goes on goes on in the region
+-- a turn that goes on moves forward in the region
 abbrev Falls : List ℕ → Walk → Turn Walk (Answer Fault (List ℕ)) → Type 0
 Falls s w (go v) = length s - v .at < length s - w .at
 Falls s w (stop a) = Unit {0}
@@ -167,7 +167,7 @@ module _ (s : List ℕ) (cap : ℕ) where
       unfolding startsFrom walkTurn
       walk-token h e = sym (from-go (walkTurn s cap) _ _ falls w _ (rw (t, ← e)))
 
-  -- ---- the starts that the walk comes to
+  -- ---- the starts that the walk yields
 
   abbrev Comes : Answer Fault (List ℕ) → Type 0
   Comes (ok done) = (Rising done) × (length done ≤ cap) × ((k : ℕ) → k < length done → getD done k 0 < length s)
@@ -197,13 +197,13 @@ module _ (s : List ℕ) (cap : ℕ) where
   pub come : (done : List ℕ) → ok done ≡ startsFrom s cap (between 0 []) → Comes (ok done)
   come done e = subst Comes (sym e) starts-come
 
--- ---- a value as the code passes it
+-- ---- a value as the code checks it
 
--- the token at `at`, as an item where `inner` is true: `nextToken` without FULL
+-- the token at `at`, as an item if `inner` is true: `nextToken` without FULL
 abbrev token : Bool → List ℕ → List ℕ → ℕ → Answer Fault Head
 token inner s done at = bind (scanAt inner s at) (tokenFault s done at)
 
--- what `scan` told of it, and what the tests of its text and its target
+-- what `scan` answered for it, and the tests of its text and its target
 module _ (inner : Bool) (s done : List ℕ) (at : ℕ) (r : ScanResult) (scanned : scans.answerOf r ≡ scanAt inner s at) where
   pub token-unscanned : (f : Error) → r ≡ Err f → error (errors.faultOf f) ≡ token inner s done at
   token-unscanned f is = bind-error _ (rw is at scanned)
@@ -271,7 +271,7 @@ module _ (s done : List ℕ) (at : ℕ) (more : at < length s) (cap : ℕ) where
     unfolding walkAfter
     value-on h e items = items ∙ walk-token s cap (between at done) is-more h (e ∙ sym (next-value s cap done at word))
 
--- the items end behind the token
+-- the items end after the token
 pub ends-after : (r : ValueResult) (s : List ℕ) (at : ℕ) (h : Head) → Within s at h → Ends r (h .end) (length s) → Ends r (at + 1) (length s)
 ends-after (results-are.Ok end) s at h w e = (omega (arith, w .numbers, w .body, e .0), e .1)
 ends-after (results-are.Err f) s at h w e = tt

@@ -65,7 +65,7 @@ module _ (file : List ℕ) (cap : ℕ) where
           (entryAt (length file - 1) (getD file (length file - 1) 0) ss)
       by-cases some short (error f) e = tt
 
--- an answer is no error
+-- an answer is not an error
 ok-error : {X A : Type 0} {a : A} {f : Fault} → _≡_ {A = Answer Fault A} (ok a) (error f) → X
 ok-error e = let z : _≡_ {A = ℕ} 0 1 = cc in absurd (omega arith)
 

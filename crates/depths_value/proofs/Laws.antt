@@ -1,7 +1,7 @@
 -- The depth of a value.
 --
--- In order: where a value ends; turns over the tokens of a value; no depth is above its value's number and one; the depths of the first
--- values.
+-- In order: where a value ends; turns over the tokens of a value; no depth is more than one above its value's number;
+-- the depths of the first values.
 use mathlib.Core.Path.{_≡_, refl, sym, ap, _∙_, subst}
 use Prim.Native.Nat.{ℕ, zero, suc, _+_, _-_, _≤_, _<_, max}
 use mathlib.Core.Bool.{false, _&&_}
@@ -32,7 +32,7 @@ use Rattle.scan.proofs.Places.{scan-within}
 use Rattle.depths_value.specs.Depth.{targetDepth, DepthState, depthState, depthTurned, depthTurn, deepestFrom, deepestIn, depthAt, depthsTo}
 use Rattle.depths_value.specs.Internal.{Starts}
 
--- a word of a list, whatever stands for those past it
+-- a word of a list, whatever is returned past its end
 pub getD-in : (xs : List ℕ) (i d e : ℕ) → i < length xs → getD xs i d ≡ getD xs i e
 getD-in [] i d e h = absurd (not-suc-le-zero h)
 getD-in (x ∷ xs) zero d e h = refl
@@ -92,7 +92,7 @@ module _ (s ss ds : List ℕ) (end : ℕ) where
           let e : ok h ≡ scanAt false s at = rw is at reported in
           sym (from-go (depthTurn s ss ds end) _ _ falls (depthState at deep) (depthState (h .end) m) (rw (lt-leb _ _ more, ← e, em, ed))) ∙ so
 
--- ---- no depth is above its value's number and one
+-- ---- no depth is more than one above its value's number
 
 module _ (s ss ds : List ℕ) (end b : ℕ) (small : (k : ℕ) → getD ds k 0 ≤ b) where
   abbrev Small : Turn DepthState ℕ → Type 0

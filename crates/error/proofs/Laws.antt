@@ -15,7 +15,7 @@ length-name : (k : ErrorKind) → length (nameOf k) ≤ 10
 unfolding nameOf
 length-name k = leb-true _ _ (every-getD (λ s. leb (length s) 10) names (numberOf k) [] refl refl)
 
--- a name has its place in the code's eleven bytes
+-- a name fits into the code's eleven bytes
 pub name-within : (k : ErrorKind) {r : ErrorName} → r ≡ padded (nameOf k) → r .len ≤ length (r .text)
 unfolding padded
 name-within k e =

@@ -1,7 +1,7 @@
--- Check accepts the well-formed files, and no other, with their values counted and listed.
+-- Check accepts the well-formed files, and no others, with their values counted and listed.
 --
--- In order: a region that was walked to its end is values (`walked-region`); a file that is accepted is well formed (`accepted`); both ways
--- (`accepts-exactly`).
+-- In order: a region that was walked to its end is values (`walked-region`); a file that is accepted is well formed
+-- (`accepted`); both ways (`accepts-exactly`).
 use mathlib.Core.Path.{_≡_, refl, sym, ap, _∙_, subst}
 use mathlib.Core.Logic.{_↔_}
 use Prim.Native.Nat.{ℕ, _≤_}
@@ -24,7 +24,7 @@ use Rattle.guarantees.proofs.Ends.{Ends, walk-ends}
 
 -- ---- a region that was walked to its end
 
--- s is values, and there is a word for each; `done` are their starts
+-- s is values, with a word for each; `done` are their starts
 pub record Listed (s : List ℕ) (cap : ℕ) (done : List ℕ) : Type 0 where
   pub values : List Value
   pub wellFormed : Values values

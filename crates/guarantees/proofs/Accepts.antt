@@ -1,7 +1,7 @@
--- Check accepts every well-formed file for which there are words enough.
+-- Check accepts every well-formed file for which there are enough words.
 --
--- In order: the walk over items of a value (`walks-items`), its head and items so far (`walks-open`), a value (`walks-value`), values before any
--- bytes (`walks-prefix`), and values alone (`walks-all`); the file (`finds`, `accepts`).
+-- In order: the walk over items of a value (`walks-items`), its head and items so far (`walks-open`), a value
+-- (`walks-value`), values before any bytes (`walks-prefix`), and values alone (`walks-all`); the file (`finds`, `accepts`).
 use mathlib.Core.Path.{_≡_, sym, _∙_}
 use Prim.Native.Nat.{ℕ, suc, _+_, _≤_, _<_}
 use mathlib.Core.Bool.{false}
@@ -28,7 +28,7 @@ use Rattle.guarantees.proofs.WalkTokens.{TakenToken, settled, due-suc, 
 -- ---- values
 
 module _ (s : List ℕ) (cap : ℕ) (done : List ℕ) where
-  -- the items `is`, and k more are pending behind them
+  -- the items `is`, with k more pending after them
   walks-items : (start at k : ℕ) (is : List Token) (rest : List ℕ) → drop at s ≡ bytes is ++ rest → Each Item is → HasTargets done at is
       → startsFrom s cap (settled start done at (length is + k)) ≡ startsFrom s cap (settled start done (at + length (bytes is)) k)
   unfolding bytes
@@ -47,7 +47,7 @@ module _ (s : List ℕ) (cap : ℕ) (done : List ℕ) where
       ∙ walks-items start (at + length (emit i)) k is rest (drop-past s at (emit i) _ here) (f .1) (a .1)
       ∙ rw (length-past at (emit i) (bytes is)))
 
-  -- a head and the items `is`, and k more are pending behind them
+  -- a head and the items `is`, with k more pending after them
   pub walks-open : (at k : ℕ) (t : Token) (is : List Token) (rest : List ℕ) → drop at s ≡ bytes (t ∷ is) ++ rest → Fits false t (bytes is ++ rest)
       → (t .kind ≡ 4 → Text (t .body)) → Each Item is → length is + k ≡ pending (rule (t .kind)) (t .n) (t .args) → HasTargets done at (t ∷ is)
       → length done < cap
@@ -72,7 +72,7 @@ module _ (s : List ℕ) (cap : ℕ) (done : List ℕ) where
   walks-value at v rest same f a room =
       walks-open at 0 (v .head) (v .items) rest same (fits-head v f rest) (f .head .text) (f .items) (rw add-zero (f .count)) a room
 
--- values from `at` on, behind those whose starts are `done`, and before any bytes
+-- values from `at` on, after those whose starts are `done`, and before any bytes
 pub walks-prefix : (s : List ℕ) (cap : ℕ) (done : List ℕ) (at : ℕ) (vs : List Value) (rest : List ℕ) → drop at s ≡ region vs ++ rest
     → Each Formed vs → TargetsEarlier done at vs → length done + length vs ≤ cap
     → startsFrom s cap (between at done) ≡ startsFrom s cap (between (at + length (region vs)) (done ++ starts at vs))

@@ -1,10 +1,11 @@
--- Of calls whose arguments are of their widths, the finished values of the reference model are values as they may stand at the front of a file.
+-- If the arguments of calls have the stated widths, the finished values of the reference model are values that a file
+-- may begin with.
 --
---   AllowedPart p
---             p's kind allows it wherever it stands: at 0, where the distance of a target is 0
+--   AllowedPart p   p's kind allows it at any offset: at 0, where the distance of a target is 0
 --
--- In order: the part of such a call is fine (`allowed-given`), so that the model keeps that (`invariant-given`); a fine part is allowed at each place, has
--- as many items there, and names the offset that was handed in; the items of a value, a value, and values (`invariant-values`).
+-- In order: the part of such a call is allowed (`allowed-given`), and the model keeps that (`invariant-given`); an
+-- allowed part is allowed at each offset, has as many items there, and names the offset that was handed in; the items
+-- of a value, a value, and values (`invariant-values`).
 use mathlib.Core.Path.{_≡_, ap, _∙_, subst}
 use mathlib.Core.Bool.{true}
 use mathlib.Core.List.{List, [], _∷_, _++_}
@@ -47,9 +48,9 @@ allowed-given c g clear = record { allowed = allowed-request (requestOf c) (rw (
 pub invariant-given : (cs : List Call) → Each Given cs → (n m : ℕ) → ModelInvariant AllowedPart (modelRun cs emptyModel n m .model)
 invariant-given cs g n m = invariant-run AllowedPart cs (each-imp Given _ allowed-given cs g) n m
 
--- ---- a part where it stands
+-- ---- a part at its offset
 
--- references and pointers have one rule
+-- references and pointers have the same rule
 rule-far : (k : ℕ) → 14 ≤ k → 0 < rule k .lows → rule k ≡ rule 15
 unfolding rule
 rule-far k far used =
@@ -78,7 +79,7 @@ module _ (q : ℕ) (p : Part) where
   unfolding formOf
   target-form far less = rw (le-leb 14 (p .kind) far) (omega arith, omega arith)
 
--- ---- a value behind others
+-- ---- a value after others
 
 module _ (before : List ModelValue) where
   abbrev done : List ℕ

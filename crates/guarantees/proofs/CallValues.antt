@@ -1,4 +1,4 @@
--- What is told of a part is what reading must tell of the call that asked for it.
+-- The value of a part is what reading must return for the call that asked for it.
 use mathlib.Core.Path.{_≡_, refl, sym, ap, _∙_}
 use mathlib.Core.List.{List, []}
 use Prim.Native.Nat.{ℕ, _-_}

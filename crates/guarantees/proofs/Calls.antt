@@ -1,7 +1,7 @@
--- Theorems of `step`, for any state, output and table.
+-- Theorems about `step`, for any state, output and table.
 --
--- In order: what an accepted call comes to (`put-by`, `close-by`, `accepted-by`); what it may change (`accepted-only`). That a refused one changes nothing is
--- `refused-same` of crate writer.
+-- In order: what an accepted call does (`put-by`, `close-by`, `accepted-by`); what it may change (`accepted-only`).
+-- That a refused one changes nothing is `refused-same` of crate writer.
 use mathlib.Core.Path.{_≡_, refl, sym, ap, _∙_}
 use mathlib.Core.Bool.{Bool, true}
 use mathlib.Core.List.{List, [], _∷_, _++_, append-assoc}
@@ -21,7 +21,7 @@ use Rattle.writer.proofs.Accepted.{Accepted, refusalOf-inv, room-after, emit-po
 use Rattle.writer.proofs.Closes.{Near, delta-inv}
 use Rattle.writer.proofs.Refused.{pointerTo}
 
--- ---- what an accepted call comes to
+-- ---- what an accepted call does
 
 module _ (s : Writer) (out table : List ℕ) (P : Result → Type 0) where
   settled-ok : (v : Verdict) (r : Result) → settled v s out table r .answer ≡ ok tt → (v ≡ ok tt → P r) → P (settled v s out table r)
@@ -58,8 +58,8 @@ module _ (s : Writer) (out table : List ℕ) (P : Result → Type 0) where
 
 -- ---- what an accepted call may change
 
--- a call that leaves r: more bytes are written, within the output and LIMIT; lengths stay, of the output only the bytes from the old to the
--- new `written` change, of the table only the word at the old count
+-- a call that leaves r: more bytes are written, within the output and LIMIT; lengths stay; in the output only the bytes
+-- from the old to the new `written` change, in the table only the word at the old count
 pub record Only (s : Writer) (out table : List ℕ) (r : Result) : Type 0 where
   pub grows : s .written < r .writer .written
   pub within : r .writer .written ≤ limit (length out)
@@ -118,7 +118,7 @@ drop-later m n l k h e =
     let q : m ≡ n + (m - n) = omega arith in
     ap (λ j. drop j l) q ∙ sym (drop-drop (m - n) n l) ∙ ap (drop (m - n)) e ∙ drop-drop (m - n) n k ∙ ap (λ j. drop j k) (sym q)
 
--- one call and then another, which leaves the table
+-- one call and then another that leaves the table as it is
 then-only : (s : Writer) (out table : List ℕ) (r q : Result) → Only s out table r → Only (r .writer) (r .out) (r .table) q → q .table ≡ r .table
     → Only s out table q
 then-only s out table r q one two same =
@@ -134,7 +134,7 @@ then-only s out table r q one two same =
       others = λ i h. ap (λ l. getD l i 0) same ∙ one .others i h;
     }
 
--- a pointer, and the delta byte behind it
+-- a pointer, and the delta byte after it
 writePointerDelta-only : (s : Writer) (out table : List ℕ) (t : Token) → s .written + length (emit t) < limit (length out)
     → Only s out table (writePointerDelta t s out table)
 unfolding writePointerDelta write writeDelta

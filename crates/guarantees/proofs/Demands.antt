@@ -1,7 +1,7 @@
--- Demands 2 and 3 of the writer itself: what is proved of the reference model holds of it by `history`.
+-- Demands 2 and 3 for the writer itself: what is proved of the reference model holds for it by `history`.
 --
--- In order: the values of an accepted file, written again, are the same bytes (`rewrites`); a file that was closed is read back (`reads-back`), and each
--- call after it is CLOSED (`closed-after`).
+-- In order: the values of an accepted file, written again, are the same bytes (`rewrites`); a file that was closed is
+-- read back (`reads-back`), and each call after it is CLOSED (`closed-after`).
 use mathlib.Core.Path.{_≡_, sym, ap, _∙_, subst}
 use mathlib.Core.List.{List, _∷_, _++_}
 use Prim.Native.Nat.{ℕ, _+_, _≤_}
@@ -27,7 +27,7 @@ use Rattle.guarantees.proofs.ReadsBack.{model-reads-back}
 
 -- ---- written again
 
--- of every accepted file, with an output at least as long and a word for each value
+-- for every accepted file, with an output at least as long and a word for each value
 pub rewrites : (file : List ℕ) (cap count entry : ℕ) → Bytes file → checkOf file cap .answer ≡ ok (count, entry)
     → (out table : List ℕ) → length file ≤ length out → count ≤ length table → Rewritten file entry out table
 rewrites file cap count entry b e out table long words =
@@ -75,8 +75,8 @@ module _ (cs more : List Call) (e : ℕ) (out table : List ℕ) where
     unfolding modelRun
     ended = ap (λ (k : ModelRan). k .model) (modelRun-append cs (close e ∷ more) emptyModel n m) ∙ rw answered (ended-same e b n m more)
 
-    -- of every list of calls with an accepted close among them, whatever came before it and after it: the output's first w bytes are a file that is
-    -- read back as the model's finished values
+    -- for every list of calls with an accepted close among them, whatever came before it and after it: the output's first w
+    -- bytes are a file that is read back as the model's finished values
     pub reads-back : Each Given cs → let r = runs all fresh out table in ReadsBack b e (modelRun all emptyModel n m .model) (take (r .writer .written) (r .out))
     reads-back given = rw (history all out table .1 .bytes, ended) (model-reads-back cs given n m e answered)
 

@@ -1,6 +1,7 @@
--- Depths of a well-formed file: what `depths` tells is the depth, as paths tell it.
+-- Depths of a well-formed file: what `depths` returns is the depth as paths define it.
 --
--- In order: where a value ends; the greatest depth that the tokens of a value reach; the depths from left to right; `depth-exact`.
+-- In order: where a value ends; the greatest depth that the tokens of a value reach; the depths from left to right;
+-- `depth-exact`.
 use mathlib.Core.Path.{_≡_, refl, sym, ap, _∙_}
 use Prim.Native.Nat.{ℕ, suc, _+_, _-_, _≤_, _<_, max}
 use mathlib.Core.Bool.{Bool, true, false, _&&_}
@@ -58,12 +59,12 @@ starts-snoc a v = starts-append 0 a (v ∷ []) ∙ rw zero-add
 
 -- ---- the tokens of a value
 
--- the depth that a token's target has
+-- the depth of a token's target
 abbrev aim : List ℕ → List ℕ → ℕ → Token → ℕ
 aim ss ds q t = pick (leb 14 (t .kind)) (getD ds (rank (q - t .n - 1) ss) 0) 0
 
 module _ (ss ds : List ℕ) where
-  -- a token is reached as its target is not below 0
+  -- the depth of a token's target is as `aim` has it, since the target is not below 0
   target-depth-is : (done : List ℕ) (q : ℕ) (t : Token) → HasTarget done q t → targetDepth ss ds q (headAt q t) ≡ aim ss ds q t
   target-depth-is done q t r = by-cases (leb 14 (t .kind)) refl
     where
@@ -131,7 +132,7 @@ module _ (ss ds : List ℕ) where
 -- ---- the depths from left to right
 
 module _ (vs : List Value) where
-  -- the depth of the value behind a
+  -- the depth of the value after the values a
   depth-value : (a : List Value) (v : Value) (b : List Value) (ds : List ℕ) → vs ≡ a ++ (v ∷ b) → Formed v → HasTargets (starts 0 a) (length (region a)) (tokens v)
       → depthAt (region vs) (starts 0 vs) ds (length a) ≡ suc (deepest ds (map (λ x. rank x (starts 0 vs)) (targets (length (region a)) (tokens v))))
   unfolding depthAt
@@ -156,7 +157,7 @@ module _ (vs : List Value) where
       ∙ (rw (long, length-snoc a v) at ih)
       ∙ ap (depthsTo (region vs) (starts 0 vs)) count
 
--- ---- what depths tells
+-- ---- what depths returns
 
 pub depths-are : (vs : List Value) → Values vs → depthsTo (region vs) (starts 0 vs) (length (starts 0 vs)) ≡ paths.depthsOfValues vs
 unfolding paths.depthsOfValues depthsTo starts region
@@ -185,7 +186,7 @@ module _ (file : List ℕ) (vs : List Value) (entry cap room : ℕ) (w : WellFor
       let many = length-starts 0 vs in
       rw (← finds file vs entry cap w words, lt-ltb room (length (starts 0 vs)) (omega arith))
 
-  -- the depths are those that paths tell
+  -- the depths are those that paths define
   pub depth-exact : length vs ≤ room → (i : ℕ) → i < length vs → Depth vs i (getD (depthsOf file cap room .depths) i 0)
   depth-exact enough i h =
       let reported : depthsOf file cap room .depths ≡ filled room (paths.depthsOfValues vs) = ap (λ (d : Deepened). d .depths) (depths-accept enough) in

@@ -21,7 +21,7 @@ use Rattle.guarantees.proofs.Faults.{Placed, scanAt-placed}
 
 -- ---- a token that is refused
 
--- what is refused is told at its offset; FULL, of a value that has no word
+-- what is refused has its offset as its place; FULL, for a value that has no word
 pub record Refused (cap : ℕ) (w : Walk) (f : Fault) : Type 0 where
   pub place : f .place ≡ w .at
   pub number : (TRUNC ≤ f .number) × (f .number ≤ FULL)
@@ -32,7 +32,7 @@ module _ (s : List ℕ) (cap : ℕ) (w : Walk) where
   Refuses (ok h) = Unit {0}
   Refuses (error f) = Refused cap w f
 
-  -- another than FULL
+  -- an error other than FULL
   other : (f : Fault) → Placed (w .at) f → Refused cap w f
   other f p = record { place = p .0; number = omega (arith, p .1); full = λ e. absurd (omega (arith, p .1)) }
 

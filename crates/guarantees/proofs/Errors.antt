@@ -1,7 +1,8 @@
 -- The errors of calls, for any state, output and table.
 --
--- In order: a new writer is not BAD_STATE (`fresh-not-bad`); a refused call tells one of seven errors (`error-known`), so neither RESERVED nor
--- RANGE (`never-reserved`), since what arguments of the stated widths come to is a token that its kind allows (`given-allowed`).
+-- In order: a new writer is not BAD_STATE (`fresh-not-bad`); a refused call answers one of seven errors
+-- (`error-known`), so neither RESERVED nor RANGE (`never-reserved`), since with arguments of the stated widths a call
+-- puts a token that its kind allows (`given-allowed`).
 use mathlib.Core.Path.{_≡_, refl, subst}
 use mathlib.Core.Bool.{Bool, true, false, not, _&&_, true≢false, false≢true}
 use mathlib.Core.List.{List, [], _∷_}
@@ -75,7 +76,7 @@ known-settled : (s : Writer) (out table : List ℕ) (v : Verdict) (r : Result) �
 known-settled s out table (ok u) r e k = rw e tt
 known-settled s out table (error f) r e k = k
 
--- a refused call tells one of the seven
+-- a refused call answers one of the seven
 pub error-known : (c : Call) (s : Writer) (out table : List ℕ) (f : ℕ) → step c s out table .answer ≡ error f → among f errors ≡ true
 error-known c s out table f e =
     subst Known e

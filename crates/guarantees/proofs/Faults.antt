@@ -1,6 +1,6 @@
--- What `scan` refuses is told at the header's offset, with a number from TRUNC on and below that of FULL.
+-- What `scan` refuses has the header's offset as its place, and a number from TRUNC on and below that of FULL.
 --
--- In order: what holds of a reader's errors, by the parts of the reader; the errors of `get`, `number`, `scan` and `scanAt`.
+-- In order: what holds for a reader's errors, by the parts of the reader; the errors of `get`, `number`, `scan` and `scanAt`.
 use Prim.Native.Nat.{ℕ, zero, suc, _≤_, _<_}
 use mathlib.Core.Path.{_≡_, refl}
 use mathlib.Core.Bool.{Bool, true, false}
@@ -16,7 +16,7 @@ use Rattle.token.specs.Token.{Token}
 use Rattle.token.specs.Scan.{getIf, number, body, scanKind, scan}
 use Rattle.scan.specs.Answers.{headOf, scanAt}
 
--- where r is an error, Q holds of it
+-- if r is an error, Q holds for it
 abbrev Fails : {E A : Type 0} → (E → Type 0) → Res E A → Type 0
 Fails Q (got a s) = Unit {0}
 Fails Q (bad e) = Q e

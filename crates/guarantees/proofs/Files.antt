@@ -1,8 +1,9 @@
 -- A file as check reads it: its region, and the delta byte.
 --
--- In order: a file is refused at once (`at-once`), or is a region and a delta byte (`shape`), and then check walks the region (`checkIn-whole`);
--- the entry that the delta byte names, or that it names none (`entered-named`, `entered-none`, `entered-answer`); what an answer tells: of check's
--- table (`answer-ok`, `answer-error`), of the walk of a file that is accepted (`found-ok`), and where a file failed (`failed`).
+-- In order: a file is refused at once (`at-once`), or is a region and a delta byte (`shape`), and then check walks the
+-- region (`checkIn-whole`); the entry that the delta byte names, or that it names none (`entered-named`,
+-- `entered-none`, `entered-answer`); what an answer says: about check's table (`answer-ok`, `answer-error`), about the
+-- walk of a file that is accepted (`found-ok`), and about where a file failed (`failed`).
 use mathlib.Core.Path.{_≡_, refl, sym, ap, _∙_, subst}
 use Prim.Native.Nat.{ℕ, suc, _+_, _-_, _≤_, _<_}
 use mathlib.Core.Bool.{true, false, _&&_}
@@ -61,7 +62,7 @@ shape file =
     (λ some. split LIMIT (length file) (λ l. refused (fault TOO_LONG 0) (long l refl)) (λ short. read (whole file some short)))
     (λ none. refused (fault EMPTY 0) (empty (omega arith) refl))
 
--- what check makes of the starts of a region's values, with the delta byte d at p behind the region
+-- check's answer, given the starts of a region's values, with the delta byte d at p after the region
 abbrev pub entered : ℕ → ℕ → List ℕ → Answer Fault ((List ℕ) × ℕ)
 entered p d done = bind (entryAt p d done) (λ e. ok (done, e))
 
@@ -124,7 +125,7 @@ module _ (p d : ℕ) (done : List ℕ) where
   entered-answer : (a : Answer Fault ((List ℕ) × ℕ)) → a ≡ entered p d done → Enters p d done a
   entered-answer a e = subst (Enters p d done) (sym e) enters
 
--- ---- what an answer tells
+-- ---- what an answer says
 
 pub answer-ok : {X : Type 0} (cap count entry : ℕ) (a : Answer Fault ((List ℕ) × ℕ)) → listed cap a .answer ≡ ok (count, entry)
     → ((done : List ℕ) → ok (done, entry) ≡ a → count ≡ length done → X) → X
@@ -138,7 +139,7 @@ answer-error cap f (ok r) e = let z : _≡_ {A = ℕ} 0 1 = cc in absurd (omega 
 answer-error cap f (error g) e = cc
 
 module _ {X : Type 0} (file : List ℕ) (cap : ℕ) where
-  -- an accepted file: the starts that the walk came to, and the entry
+  -- an accepted file: the starts that the walk yielded, and the entry
   pub found-ok : (done : List ℕ) (entry : ℕ) → ok (done, entry) ≡ checkIn file cap
       → ((w : Whole file) → ok done ≡ startsFrom (w .region) cap (between 0 []) → entry + w .delta + 1 ≡ length (w .region)
       → among entry done ≡ true → X)
@@ -152,7 +153,7 @@ module _ {X : Type 0} (file : List ℕ) (cap : ℕ) where
           let (same, named, start) = entered-answer (length (w .region)) (w .delta) found _ q in
           k w (rw same walked) named (rw same start))
 
--- where a file failed: at once, in the walk, or behind it
+-- where a file failed: at once, in the walk, or after it
 pub data Failed (file : List ℕ) (cap : ℕ) (f : Fault) : Type 0 where
   early : AtOnce file f → Failed file cap f
   walking : (w : Whole file) → error f ≡ startsFrom (w .region) cap (between 0 []) → Failed file cap f

@@ -28,8 +28,8 @@ use Rattle.guarantees.proofs.Results.{FinishesNone, Finishes, write-mor
 
 -- ---- one item
 
--- t may be the next item, with k more to come: an immediate, whose text is text, whose target is listed, and which has room with a byte for
--- each of the k
+-- t may be the next item, with k more to come: an immediate, whose text is text, whose target is listed, and which has
+-- room with a byte for each of the k
 pub record Item (k : ℕ) (t : Token) (target : ℕ) (s : Writer) (out table : List ℕ) : Type 0 where
   pub immediate : opens t ≡ false
   pub text : t .kind ≡ 4 → isText (t .body) ≡ true
@@ -84,7 +84,7 @@ item-taken k c t target s out table o e i =
 
 -- ---- items of one byte
 
--- wherever it is written, the call puts an immediate of one byte, which names no target and is no bad text
+-- at whatever offset it is written, the call puts an immediate of one byte, which has no target and is not a bad text
 pub record OneByte (c : Call) : Type 0 where
   pub item : Token
   pub always : (w : ℕ) → moveOf c w ≡ puts item 0
@@ -129,11 +129,11 @@ finishes-then x s table r q n e f = record {
   listed = rw (n .count, e) at (f .listed);
 }
 
--- what the calls cs leave behind r
+-- what the calls cs leave after r
 abbrev left : List Call → Result → Result
 left cs r = let q = runs cs (r .writer) (r .out) (r .table) in result (ok tt) (q .writer) (q .out) (q .table)
 
--- the calls cs behind r are all accepted; the value that starts at x is then finished, with w bytes written
+-- the calls cs after r are all accepted; the value that starts at x is then finished, with w bytes written
 pub record FinishedBy (cs : List Call) (x w : ℕ) (s : Writer) (table : List ℕ) (r : Result) : Type 0 where
   pub accepted : AllOk (runs cs (r .writer) (r .out) (r .table) .answers)
   pub finishes : Finishes x s table (left cs r)
@@ -181,7 +181,7 @@ opened t target s out table a (c ∷ cs) l b =
       written = f .written;
     }
 
--- so is a value from its opening t on: where the opening was written, its start is listed
+-- so is a value from its opening t on; its start, which is then listed, is where the opening was written
 pub opening-finishable : (c : Call) (t : Token) (target : ℕ) (s : Writer) (out table : List ℕ) → moveOf c (s .written) ≡ puts t target
     → opens t ≡ true → step c s out table .answer ≡ ok tt
     → (cs : List Call) → length cs ≡ step c s out table .writer .pending → Each OneByte cs

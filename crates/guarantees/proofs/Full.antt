@@ -1,8 +1,8 @@
 -- FULL, and the table that check leaves.
 --
--- In order: when FULL is told (`full-exactly`); never where there are as many words as bytes in the region (`never-full`); too few words change
--- nothing but that FULL is told (`fewer-words`); a file that is refused leaves zeros (`refused-zero`), and the table keeps its length
--- (`length-table`).
+-- In order: when FULL is the answer (`full-exactly`); never if there are as many words as bytes in the region
+-- (`never-full`); fewer words change nothing but that FULL is answered (`fewer-words`); a file that is refused leaves
+-- zeros (`refused-zero`), and the table keeps its length (`length-table`).
 use mathlib.Core.Path.{_≡_, refl, sym, ap, _∙_, subst}
 use mathlib.Core.Logic.{_↔_, _⊎_, inl, inr}
 use Prim.Native.Nat.{ℕ, zero, suc, _+_, _-_, _≤_, _<_}
@@ -34,7 +34,7 @@ use Rattle.guarantees.proofs.WalkValues.{WalkedValues, walked-between}
 use Rattle.guarantees.proofs.Ends.{Ends, walk-ends}
 use Rattle.guarantees.proofs.Accepted.{walked-ends}
 
--- ---- when FULL is told
+-- ---- when FULL is the answer
 
 full-by : {X : Type 0} (file : List ℕ) (cap p : ℕ) → checkOf file cap .answer ≡ error (fault FULL p)
     → ((w : Whole file) → error (fault FULL p) ≡ startsFrom (w .region) cap (between 0 []) → X) → X
@@ -67,7 +67,7 @@ overfull file cap p b w e =
       more = omega (arith, r .inside between, r .refused .place, length-whole file w);
     }
 
--- the walk passes the values, and has no word for the next
+-- the walk goes through the values, and has no word for the next
 overfull-full : (file : List ℕ) (cap p : ℕ) → Overfull file cap p → (w : Whole file)
     → error (fault FULL p) ≡ startsFrom (w .region) cap (between 0 [])
 unfolding nextToken
@@ -92,7 +92,7 @@ full-exactly file cap p b = (
       rw (← found),
 )
 
--- ---- never with words enough
+-- ---- never with enough words
 
 -- the values before the walk have a byte each
 done-le : (s : List ℕ) (cap : ℕ) (w : Walk) → WalkInvariant s cap w → length (w .done) ≤ w .at
@@ -114,7 +114,7 @@ never-full file cap p enough e =
 abbrev IsFull : Answer Fault (List ℕ) → Type 0
 IsFull a = (p : ℕ) × (a ≡ error (fault FULL p))
 
--- two loops whose turns are the same, but where the first stops with an answer of P
+-- two loops whose turns are the same, except where the first stops with an answer of P
 module _ {S R : Type 0} (P : R → Type 0) where
   follow-or : (f g : S → R) → ((s : S) → P (f s) ⊎ (f s ≡ g s)) → (t : Turn S R) → P (follow t f) ⊎ (follow t f ≡ follow t g)
   follow-or f g h (go s) = h s

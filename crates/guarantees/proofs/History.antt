@@ -1,8 +1,8 @@
 -- The writer does what the reference model says, over every list of calls.
 --
--- In order: a call of the writer is a line of the model; what the model's next part makes of its bytes; how state, output and table follow the
--- model (`Follows`), and that the answers are then the same; what an accepted part and an accepted close leave; one call (`step-follows`), and a list
--- of calls (`history`).
+-- In order: a call of the writer is a request to the model; the bytes of the model with its next part; how state,
+-- output and table follow the model (`Follows`), and that the answers are then the same; what an accepted part and an
+-- accepted close leave; one call (`step-follows`), and a list of calls (`history`).
 use mathlib.Core.Path.{_≡_, refl, sym, ap, _∙_, subst}
 use mathlib.Core.Bool.{Bool, true, false, not, _&&_, true≢false}
 use mathlib.Core.List.{List, [], _∷_, _++_}
@@ -34,7 +34,7 @@ use Rattle.guarantees.specs.History.{runs, modelRun, unlessRefused, Agre
 use Rattle.guarantees.specs.ReadsBack.{endOf}
 use Rattle.guarantees.proofs.Models.{pending-form, length-startsOf, starts-snoc, start-lt, bytes-between, bytes-closed, end-le, bytes-grown, bytes-settle}
 
--- ---- a call of the writer is a line of the model
+-- ---- a call of the writer is a request to the model
 
 abbrev pub moveAs : ℕ → Request → Move
 moveAs w (adds p) = puts (formOf w p) (pick (leb 14 (p .kind)) (p .number) 0)
@@ -88,7 +88,7 @@ module _ (s : Writer) (out table : List ℕ) (b : Model) (f : Follows s out tabl
   count-same : s .count ≡ length (b .finished)
   count-same = f .agree .count ∙ length-startsOf b
 
--- the items pending behind the next part, where the model is not closed
+-- the items pending after the next part, if the model is not closed
 due-same : (s : Writer) (vs : List ModelValue) (g : Stage) (q : ℕ) (p : Part) → Begun s vs g → isClosed g ≡ false
     → due (pendingAt g) (pendingOf (formOf q p)) ≡ pendingIn (grown g p)
 due-same s vs between q p h c = omega (arith, pending-form q p)
@@ -141,7 +141,7 @@ take-sets : (d p : List ℕ) (w : ℕ) → w + length p ≤ length d → take (w
 take-sets d p w h =
     rw (sets-eq p d w h) (take-at (take w d ++ p) _ (w + length p) (omega (arith, length-append (take w d) p, length-take-le w d (omega arith))))
 
--- the start is listed where the value is finished
+-- the start is listed if the value is finished
 module _ (vs : List ModelValue) (g : Stage) (v : ModelValue) (table : List ℕ) (n : ℕ) (word : n < length table) (same : take n table ≡ modelStarts (model vs g)) where
   starts-listed : (x : Bool) → take (pick x (n + 1) n) (pick x (set table n (endOf vs)) table) ≡ modelStarts (pick x (model (vs ++ (v ∷ [])) between) (model vs (within v)))
   unfolding modelStarts
@@ -199,7 +199,7 @@ module _ (s : Writer) (out table : List ℕ) (vs : List ModelValue) (g : Stage) 
 
 -- ---- what an accepted close leaves
 
--- nothing is pending and no close has been: no value is open
+-- nothing is pending and there was no close: no value is open
 stage-between : (s : Writer) (out table : List ℕ) (vs : List ModelValue) (g : Stage) → Follows s out table (model vs g) → s .closed ≡ false → s .pending ≡ 0
     → g ≡ between
 stage-between s out table vs between f c e = refl
@@ -315,7 +315,7 @@ module _ (c : Call) (s : Writer) (out table : List ℕ) where
       by-answer (error g) e = rw (refused-same c s out table g e) (refl, refl)
 
 pub record Alike (cs : List Call) (s : Writer) (out table : List ℕ) (b : Model) (n m : ℕ) : Type 0 where
-  -- each call was refused just where the model refuses it, with the same number
+  -- each call was refused exactly when the model refuses it, with the same number
   pub answers : runs cs s out table .answers ≡ modelRun cs b n m .answers
   pub follows : let r = runs cs s out table in Follows (r .writer) (r .out) (r .table) (modelRun cs b n m .model)
 
@@ -339,8 +339,8 @@ fresh-follows out table = record {
   begun = tt;
 }
 
--- of every list of calls from a new writer, whatever output and table hold at first: each call is refused just where the reference model refuses it,
--- with the same number, and behind them the bytes written and the starts listed are the model's
+-- for every list of calls from a new writer, whatever output and table hold at first: each call is refused exactly when the
+-- reference model refuses it, with the same number, and after them the bytes written and the starts listed are the model's
 pub history : (cs : List Call) (out table : List ℕ) → let r = runs cs fresh out table in let k = modelRun cs emptyModel (length out) (length table) in
     (r .answers ≡ k .answers) × Agree (r .writer) (r .out) (r .table) (k .model)
 history cs out table = let a = calls-alike cs fresh out table emptyModel (fresh-follows out table) in (a .answers, a .follows .agree)

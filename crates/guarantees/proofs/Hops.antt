@@ -1,9 +1,9 @@
--- Of a well-formed file, following comes to a value that is no pointer, by at most j hops from value number j (document 01, "Questions at an
--- offset").
+-- In a well-formed file, following reaches a value that is not a pointer, in at most j hops from value number j
+-- (document 01, "Questions at an offset").
 --
--- In order: a token that is no pointer is where following stops (`hops-none`), and a pointer leads where its target leads, by one hop more
--- (`follows-pointer`); a pointer's target is a value before the one that it is or is in, so following from it comes to one (`hops-pointer`), and
--- so does following from a value (`hops`).
+-- In order: following stops at a token that is not a pointer (`hops-none`), and a pointer leads where its target leads,
+-- by one hop more (`follows-pointer`); a pointer's target is a value before the one that it is or is in, so following
+-- from it reaches such a value (`hops-pointer`), and so does following from a value (`hops`).
 use mathlib.Core.Path.{_≡_, refl, sym, ap, _∙_, subst}
 use mathlib.Core.List.{List, _∷_, _++_}
 use Prim.Native.Nat.{ℕ, zero, suc, _+_, _-_, _<_}

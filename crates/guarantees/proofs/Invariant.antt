@@ -1,15 +1,16 @@
--- What the reference model keeps, call by call, whatever P holds of the parts that the calls ask for.
+-- What the reference model keeps, call by call, whatever P holds for the parts that the calls ask for.
 --
---   Fit P before p        p may be a part of the value behind the values `before`: P holds of it, and a reference or pointer names one of their
---                         starts
---   GoodValue P before v  so may the head of v and its items, which are immediates, and no more than the head says
---   Finished P before vs  behind the values `before`, each of the values vs is good, and none of its items is pending
---   Staged P vs g         behind the finished values vs: an open value is good, with an item pending; a delta byte names a start
---   ModelInvariant P b    all that, of the model b; and its bytes are no more than a file may have
---   Closes P vs d entry   a model that is closed with the delta byte d is kept, and the delta byte names `entry`
+--   Fit P before p        p may be a part of the value after the values `before`: P holds for it, and a reference or
+--                         pointer names one of their starts
+--   GoodValue P before v  this holds for the head of v and its items, which are immediates, and no more than the head says
+--   Finished P before vs  after the values `before`, each of the values vs is good, and none of its items is pending
+--   Staged P vs g         after the finished values vs: an open value is good, with an item pending; a delta byte names a start
+--   ModelInvariant P b    all that, for the model b; and it has no more bytes than a file may have
+--   Closes P vs d entry   the invariant holds for a model that is closed with the delta byte d, and d names `entry`
 --
--- In order: finished values joined (`finished-append`), and their parts (`holds-fit`); their starts; what an accepted line is (`adds-inv`,
--- `ends-inv`), the bytes that it adds, and what it leaves (`invariant-adds`, `closes-near`, `closes-far`); lists of calls (`invariant-run`, `invariant-any`).
+-- In order: finished values joined (`finished-append`), and their parts (`holds-fit`); their starts; what an accepted
+-- request is (`adds-inv`, `ends-inv`), the bytes that it adds, and what it leaves (`invariant-adds`, `closes-near`,
+-- `closes-far`); lists of calls (`invariant-run`, `invariant-any`).
 use mathlib.Core.Path.{_≡_, refl, ap, _∙_, subst}
 use mathlib.Core.Logic.{_↔_}
 use mathlib.Core.Bool.{Bool, true, false, not, _&&_, true≢false}
@@ -68,7 +69,7 @@ pub record Closes (P : Part → Type 0) (vs : List ModelValue) (d entry : ℕ) :
   pub kept : ModelInvariant P (model vs (closed d))
   pub named : entry + d + 1 ≡ endOf vs
 
--- the part that a line adds, or may add
+-- the part that a request adds, or may add
 abbrev pub addedBy : Request → Part
 addedBy (adds p) = p
 addedBy (ends e) = part 15 e 0 []
@@ -103,7 +104,7 @@ start-last vs v =
     rw (values-snoc vs v) (among-at (endOf vs) (starts 0 (a ++ (w ∷ []))) (length a)
     (omega (arith, length-starts 0 (a ++ (w ∷ [])), length-append a (w ∷ []))) (start-of a w []))
 
--- ---- what an accepted line is
+-- ---- what an accepted request is
 
 -- there is no reason to refuse
 firstOf-by : {X : Type 0} (a b c d e f : Bool) → firstOf a b c d e f ≡ ok tt

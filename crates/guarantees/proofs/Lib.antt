@@ -2,7 +2,7 @@
 pub mod Files
 -- a token as the walk of check takes it
 pub mod WalkTokens
--- what the walk of check has passed
+-- what the walk of check has gone through
 pub mod WalkValues
 -- the number and the place of what scan refuses
 pub mod Faults
@@ -10,21 +10,21 @@ pub mod Faults
 pub mod Ends
 -- check accepts every well-formed file
 pub mod Accepts
--- and no other
+-- and no others
 pub mod Accepted
 -- FULL, and the table that check leaves
 pub mod Full
 -- what a refusal of check says
 pub mod Refused
--- what the queries promise, of every file
+-- what the queries promise, for every file
 pub mod Queries
 -- a token in a region
 pub mod Tokens
 -- a pointer leads where its target leads
 pub mod Pointers
--- the reader tells a well-formed file's values as the pages do
+-- the reader returns a well-formed file's values as the pages have them
 pub mod ReadsFile
--- following comes to a value that is no pointer
+-- following reaches a value that is not a pointer
 pub mod Hops
 -- depths of a well-formed file
 pub mod Depths
@@ -52,15 +52,15 @@ pub mod RewritesRead
 pub mod Rewrites
 -- what the reference model keeps, call by call
 pub mod Invariant
--- its finished values may stand at the front of a file
+-- a file may begin with its finished values
 pub mod Allowed
 -- each of its references and pointers names a value before
 pub mod Targets
 -- a file that it closed is read back
 pub mod ReadsBack
--- what is told of its parts is what the calls said
+-- the values of its parts are those of the calls
 pub mod CallValues
--- demands 2 and 3 of the writer
+-- demands 2 and 3 for the writer
 pub mod Demands
 -- lists of calls write their bytes
 pub mod Written

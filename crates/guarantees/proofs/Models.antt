@@ -1,7 +1,8 @@
--- The laws of the reference model's values: in the form of a file, joined, and counted.
+-- The laws of the reference model's values: as a file has them, joined, and counted.
 --
--- In order: the items of a part (`target-each`, `pending-form`); parts joined (`forms-append`); values joined (`values-append`, `values-snoc`), as many
--- as there were, and their starts; the bytes of a model at each stage, and with one part more (`bytes-grown`).
+-- In order: the items of a part (`target-each`, `pending-form`); parts joined (`forms-append`); values joined
+-- (`values-append`, `values-snoc`), as many as there were, and their starts; the bytes of a model at each stage, and
+-- with one part more (`bytes-grown`).
 use mathlib.Core.Path.{_≡_, refl, sym, ap, _∙_}
 use mathlib.Core.Bool.{true, false, true≢false}
 use mathlib.Core.List.{List, [], _∷_, _++_, append-assoc, append-nil}

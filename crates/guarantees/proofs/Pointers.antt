@@ -1,7 +1,7 @@
 -- A pointer leads where its target leads, by one hop more, in any region.
 --
--- In order: following with one hop more before it (`followFrom-more`); so following from a pointer (`follow-pointer`), and its body
--- (`body-pointer`).
+-- In order: following with one hop more before it (`followFrom-more`); so following from a pointer (`follow-pointer`),
+-- and its body (`body-pointer`).
 use mathlib.Core.Path.{_≡_, refl, sym, _∙_}
 use mathlib.Core.Bool.{false}
 use mathlib.Core.List.{List}
@@ -23,7 +23,7 @@ abbrev more : Answer Fault Followed → Answer Fault Followed
 more (ok m) = ok (followed (m .place) (m .hops + 1) (m .head))
 more (error e) = error e
 
--- one hop more, of what following tells
+-- one hop more, in the answer of following
 abbrev pub further : Answer Fault (ℕ × ℕ) → Answer Fault (ℕ × ℕ)
 further (ok p) = ok (p .0, p .1 + 1)
 further (error e) = error e

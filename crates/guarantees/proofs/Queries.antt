@@ -1,8 +1,9 @@
--- What the queries promise, of every file.
+-- What the queries promise, for every file.
 --
--- In order: an item number at or past the count is NO_ITEM (`no-item`); of a value that `skip` accepts, item i + 1 starts where skipping item i
--- ends (`item-next`), and the last item ends where the value does (`item-last`); following goes down by each hop (`follow-down`); a body is
--- the text or byte string that reading tells where following comes to (`body-read`).
+-- In order: an item number at or past the count is NO_ITEM (`no-item`); in a value that `skip` accepts, item i + 1
+-- starts where skipping item i ends (`item-next`), and the last item ends where the value does (`item-last`); following
+-- goes down by each hop (`follow-down`); a body is the text or byte string that reading returns at the offset that
+-- following reaches (`body-read`).
 use mathlib.Core.Path.{_≡_, refl, sym, ap, _∙_, subst}
 use Prim.Native.Nat.{ℕ, zero, suc, _+_, _-_, _≤_, _<_}
 use native.Mathlib.Nat.{zero-add, suc-add}
@@ -32,7 +33,7 @@ use Rattle.reader_follow.specs.Follow.{Followed, position, followFrom, followIn
 use Rattle.reader_follow.proofs.Laws.{follow-head-inv, follow-leads, FollowsTo}
 use Rattle.reader_body.specs.Body.{bodyPlaceOn, bodyPlaceIn, bodyPlaceOf}
 
--- of a value that reads without fault and has items, whatever stands behind it
+-- for a value that reads without fault and has items, whatever comes after it
 pub no-item : (file : List ℕ) (at i n : ℕ) (h : Head) → ok n ≡ regionLen (length file) at → ok h ≡ peekIn false (take n file) at
     → immediate (rule (h .kind)) ≡ false → h .items ≤ i → error (fault NO_ITEM at) ≡ itemOf file at i
 unfolding itemIn itemOn
@@ -81,7 +82,7 @@ module _ (s : List ℕ) where
       by-cases (ok h) more = more (h .end)
       by-cases (error e) more = refl
 
-  -- where an item was passed, it started in the region
+  -- an item that was skipped started in the region
   walk-lt : (k q e : ℕ) → ok e ≡ skipItems s (suc k) q → q < length s
   unfolding skipItems bind
   walk-lt k q e w = by-cases (peekIn true s q) refl w
@@ -90,7 +91,7 @@ module _ (s : List ℕ) where
       by-cases (ok h) l e′ = let w = scan-within true s q h (peek-scan true s q h (sym l)) in omega (arith, w .numbers, w .body, w .end)
       by-cases (error f) l e′ = let z : _≡_ {A = ℕ} 0 1 = cc in absurd (omega arith)
 
-  -- what an item's offset tells
+  -- what an item's offset says
   record Found (at i p : ℕ) : Type 0 where
     head : Head
     peeked : ok head ≡ peekIn false s at
@@ -119,7 +120,7 @@ module _ (s : List ℕ) where
   found : (at i p : ℕ) → ok p ≡ itemIn s at i → Found at i p
   found at i p e = subst (Finds at i) (sym e) (finds at i)
 
-  -- of a value that `skip` accepts, item i + 1 starts where skipping item i ends
+  -- in a value that `skip` accepts, item i + 1 starts where skipping item i ends
   pub item-next : (at i p e : ℕ) (h : Head) → ok h ≡ peekIn false s at → ok e ≡ skipIn s at → suc i < h .items → ok p ≡ itemIn s at i
       → itemIn s at (suc i) ≡ skipIn s p
   unfolding skipIn itemIn itemOn startsIn bind
@@ -149,7 +150,7 @@ module _ (s : List ℕ) where
 
 -- ---- following
 
--- the offset told and the pointers met come to no more than the offset asked
+-- the offset reached and the pointers met add up to no more than the offset asked for
 abbrev Down : ℕ → Answer Fault (ℕ × ℕ) → Type 0
 Down at (ok p) = p .0 + p .1 ≤ at
 Down at (error e) = Unit {0}
@@ -175,7 +176,7 @@ follow-down file at place hops e = subst (Down at) (sym e) (follow-downs file at
 
 -- ---- bodies
 
--- the region is that of every offset before
+-- the region is the same for every offset up to this one
 abbrev Opened : ℕ → ℕ → Answer Fault ℕ → Type 0
 Opened len at (ok n) = (p : ℕ) → p ≤ at → ok n ≡ regionLen len p
 Opened len at (error e) = Unit {0}
@@ -190,7 +191,8 @@ opened len at =
 region-before : (len at n p : ℕ) → ok n ≡ regionLen len at → p ≤ at → ok n ≡ regionLen len p
 region-before len at n p e = subst (Opened len at) (sym e) (opened len at) p
 
--- the part of len bytes from `first` on is the text or byte string that reading tells where following from `at` comes to
+-- the part of len bytes from `first` on is the text or byte string that reading returns at the offset that following
+-- from `at` reaches
 pub record Body (file : List ℕ) (at first len : ℕ) : Type 0 where
   pub place : ℕ
   pub hops : ℕ

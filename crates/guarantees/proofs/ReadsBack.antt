@@ -1,8 +1,10 @@
--- A file that the reference model closed is read back: check accepts it, and reading, items and bodies tell the model's values.
+-- A file that the reference model closed is read back: check accepts it, and reading, items and bodies return the
+-- model's values.
 --
--- In order: parts stand as tokens where they are held (`holds-at`), and are told as the model has them (`read-form`); the bytes of a closed
--- model are a well-formed file, and the reader gives back its values (`model-gives-back`); so it is of an accepted close, behind any calls whose
--- arguments are of their widths (`model-reads-back`).
+-- In order: parts are tokens at the offsets where they are held (`holds-at`), and are read as the model has them
+-- (`read-form`); the bytes of a closed model are a well-formed file, and the reader gives back its values
+-- (`model-gives-back`); so it is for an accepted close, after any calls whose arguments have the stated widths
+-- (`model-reads-back`).
 use mathlib.Core.Path.{_≡_, refl, ap, _∙_, subst}
 use mathlib.Core.Bool.{true, false}
 use mathlib.Core.Logic.{_⊎_}

@@ -1,10 +1,11 @@
--- Of a well-formed file, the reader tells its values as the Twine pages do.
+-- For a well-formed file, the reader returns its values as the Twine pages have them.
 --
--- In order: where the tokens of a value stand (`head-token-at`, `item-token-at`); queries are answered in the region; each value is formed, and its
--- tokens fit and have their targets before it. Of a token: it is read as what the pages say (`reads-token`), and its body is told (`reads-body`,
--- `reads-body-of-pointer`, `reads-no-body`). Of a value: it is read (`reads-value`) and ends where its bytes do (`reads-end`); its items stand one
--- after the other (`reads-item`), with none after the last (`reads-none`), and none of a value that is an immediate (`reads-leaf`). An item ends
--- where its own bytes do (`reads-item-end`), and has no items (`reads-item-leaf`).
+-- In order: where the tokens of a value are (`head-token-at`, `item-token-at`); queries are answered in the region;
+-- each value is formed, and its tokens fit and have their targets before it. A token: it is read as what the pages say
+-- (`reads-token`), and so is its body (`reads-body`, `reads-body-of-pointer`, `reads-no-body`). A value: it is read
+-- (`reads-value`) and ends where its bytes do (`reads-end`); its items come one after the other (`reads-item`), with
+-- none after the last (`reads-none`), and none in an immediate (`reads-leaf`). An item ends where its own bytes do
+-- (`reads-item-end`), and has no items (`reads-item-leaf`).
 use mathlib.Core.Path.{_≡_, refl, sym, ap, _∙_, subst}
 use mathlib.Core.Bool.{true, false, _||_}
 use mathlib.Core.Logic.{_⊎_, inl, inr}
@@ -37,7 +38,7 @@ use Rattle.guarantees.specs.Places.{TokenAt}
 use Rattle.guarantees.proofs.Tokens.{drop-body, body-len, value-on-token, peek-emit, walk-emit}
 use Rattle.guarantees.proofs.Pointers.{body-pointer}
 
--- ---- where tokens stand
+-- ---- where tokens are
 
 module _ (vs a : List Value) (v : Value) (b : List Value) (e : vs ≡ a ++ (v ∷ b)) where
   pub head-token-at : TokenAt vs (length a) (length (region a)) (v .head)

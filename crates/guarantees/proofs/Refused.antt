@@ -1,8 +1,9 @@
 -- What a refusal of check says, for each error.
 --
--- In order: a file that is refused at once (`empty-exactly`, `too-long-exactly`); one whose entry is no value's start (`bad-entry-exactly`); every
--- other refusal: all before its place is well formed, and the token that is wanted there is refused (`first-fault`); such a fault is told
--- (`fault-first`), at its place and with a number from TRUNC to FULL (`fault-answer`); so both ways (`fault-exactly`).
+-- In order: a file that is refused at once (`empty-exactly`, `too-long-exactly`); one whose entry is not the start of a
+-- value (`bad-entry-exactly`); every other refusal: all before its place is well formed, and the token that is wanted
+-- there is refused (`first-fault`); such a fault is the answer (`fault-first`), at its place and with a number from
+-- TRUNC to FULL (`fault-answer`); so both ways (`fault-exactly`).
 use mathlib.Core.Path.{_≡_, refl, sym, ap, _∙_, subst}
 use mathlib.Core.Logic.{_↔_}
 use Prim.Native.Nat.{ℕ, zero, suc, _+_, _-_, _≤_, _<_}
@@ -116,7 +117,7 @@ module _ (file : List ℕ) (cap : ℕ) (f : Fault) (w : Whole file) where
   abbrev s : List ℕ
   s = w .region
 
-  -- at the end of some bytes of the region: values, and tokens of an open value
+  -- at the end of some bytes of the region: values, and the tokens of an open value
   faulty-at : (vs : List Value) (ts : List Token) (k : ℕ) (rest front : List ℕ) → front ≡ region vs ++ bytes ts → s ≡ front ++ rest → Values vs
       → length vs ≤ cap → Open cap (length s) vs ts k → (k ≡ 0 → length front < length s)
       → error f ≡ nextToken s cap (starts 0 vs) k (length front) → Faulty file cap (length front) f
@@ -174,13 +175,13 @@ first-fault file cap f b e none much entry = by-failed (fails file cap f e)
     by-failed (walking w q) = faulty file cap f w b q
     by-failed (last w done walked q unnamed) = absurd (entry (numbers q))
 
--- ---- and a fault that stands there is told
+-- ---- and such a fault is the answer
 
 module _ (s : List ℕ) (cap : ℕ) (f : Fault) (vs : List Value) (rest : List ℕ) where
   abbrev at : ℕ
   at = length (region vs)
 
-  -- the walk behind the values comes to the fault
+  -- the walk after the values reaches the fault
   open-fails : (ts : List Token) (k : ℕ) → Open cap (length s) vs ts k → s ≡ region vs ++ (bytes ts ++ rest)
       → (k ≡ 0 → at + length (bytes ts) < length s) → error f ≡ nextToken s cap (starts 0 vs) k (at + length (bytes ts))
       → error f ≡ startsFrom s cap (between at (starts 0 vs))

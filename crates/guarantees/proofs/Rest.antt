@@ -1,4 +1,4 @@
--- Over every list of calls the output behind the bytes written, and the table behind the starts listed, are as they were at first.
+-- Over every list of calls the output after the bytes written, and the table after the starts listed, are as they were at first.
 use mathlib.Core.Path.{_≡_, refl, ap, _∙_}
 use mathlib.Core.Bool.{Bool, true, false}
 use mathlib.Core.Logic.{inl, inr}

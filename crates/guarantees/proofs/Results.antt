@@ -1,7 +1,7 @@
 -- What an accepted call leaves, for any state, output and table.
 --
--- In order: the value that it finishes (`accepted-finishes`); a state that is not bad (`accepted-not-bad`), with room for the items pending and
--- the delta (`accepted-open`, `accepted-room`); what a close leaves (`accepted-close`).
+-- In order: the value that it finishes (`accepted-finishes`); a state that is not bad (`accepted-not-bad`), with room
+-- for the items pending and the delta (`accepted-open`, `accepted-room`); what a close leaves (`accepted-close`).
 use mathlib.Core.Path.{_≡_, refl, sym, ap, _∙_}
 use mathlib.Core.Bool.{Bool, true, false, true≢false}
 use mathlib.Core.List.{List, [], _∷_}
@@ -38,8 +38,8 @@ pub record Finishes (x : ℕ) (s : Writer) (table : List ℕ) (r : Result) : Typ
   pub words : r .table ≡ set table (s .count) x
   pub listed : getD (r .table) (s .count) 0 ≡ x
 
--- what a call that leaves r finishes: a token with items pending behind it, none; the last token of a value, that value; a close, none or the
--- pointer that it adds
+-- what a call that leaves r finishes: a token with items pending after it, none; the last token of a value, that value;
+-- a close, none or the pointer that it adds
 pub record Finishing (s : Writer) (table : List ℕ) (r : Result) : Type 0 where
   pub more : 0 < r .writer .pending → FinishesNone s table r
   pub last : r .writer .pending ≡ 0 → r .writer .closed ≡ false → Finishes (startOf s) s table r
@@ -101,7 +101,7 @@ accepted-finishes c s out table =
 
 -- ---- the state
 
--- an open value, or none where k is 0: k items are pending, and have room, and the delta behind them
+-- an open value, or none if k is 0: k items are pending, with room for them and for the delta after them
 pub record Open (k : ℕ) (s : Writer) (out table : List ℕ) : Type 0 where
   pub good : badState s (length out) (length table) ≡ false
   pub unclosed : s .closed ≡ false
@@ -191,8 +191,8 @@ unfolding early refusalOf refusalOfDelta
 closed-step c s out table g z =
     settled-by s out table (λ r. r ≡ result (error CLOSED) s out table) (λ _ _ _ _ _. rw (g, z)) (λ _ _ _. rw (g, z)) (moveOf c (s .written))
 
--- a close at x that leaves r: by the delta byte where that reaches x, and else by a pointer, which is one more value; each later call is
--- refused with CLOSED, and changes nothing
+-- a close at x that leaves r: by the delta byte if it reaches x, else by a pointer, which is one more value; each later
+-- call is refused with CLOSED, and changes nothing
 pub record Closed (x : ℕ) (s : Writer) (table : List ℕ) (r : Result) : Type 0 where
   pub closed : r .writer .closed ≡ true
   pub none : r .writer .pending ≡ 0

@@ -1,8 +1,9 @@
--- The reference model takes the calls that write a well-formed file's values again, and comes to the file.
+-- The reference model takes the calls that write a well-formed file's values again, and yields the file.
 --
--- In order: calls that lead from one model to another (`Leads`); a token's part is taken (`answered`);
--- where a value ends that got one part more, and where the values end, and start, with one more; the items of a value, a value and values are taken,
--- and the close; a program can make the calls (`calls-given`); the model comes to the file (`model-rewrites`).
+-- In order: calls that lead from one model to another (`Leads`); a token's part is taken (`answered`); where a value
+-- ends that got one part more, and where the values end, and start, with one more; the items of a value, a value and
+-- values are taken, and the close; a program can make the calls (`calls-given`); the model yields the file
+-- (`model-rewrites`).
 use mathlib.Core.Path.{_≡_, refl, sym, ap, _∙_, subst}
 use mathlib.Core.Bool.{Bool, true, false, not, _&&_, and-false}
 use mathlib.Core.List.{List, [], _∷_, _++_, append-nil}
@@ -79,7 +80,7 @@ bytes-body t b = bytes-after (putIf (rule (t .kind) .args) (t .args)) (t .body) 
 first-ok : {a b c d e f : Bool} → a ≡ false → b ≡ false → c ≡ false → d ≡ false → e ≡ false → f ≡ false → firstOf a b c d e f ≡ ok tt
 first-ok a b c d e f = rw (a, b, c, d, e, f)
 
--- t's part at q, behind the bytes of b
+-- t's part at q, after the bytes of b
 answered : (n m : ℕ) (b : Model) (q : ℕ) (t : Token) → length (modelBytes b) ≡ q → Sound t → HasTarget (modelStarts b) q t → isClosed (b .stage) ≡ false
     → (not (immediate (rule (t .kind))) && ltb 0 (pendingAt (b .stage))) ≡ false → (eqb (pendingAt (b .stage)) 0 && leb m (length (b .finished))) ≡ false
     → q + (length (emit t) + pendingIn (grown (b .stage) (partOf q t))) < min n LIMIT → modelAnswer (adds (partOf q t)) b n m ≡ ok tt

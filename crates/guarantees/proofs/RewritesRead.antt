@@ -1,9 +1,9 @@
 -- A token written again by its call.
 --
--- In order: the part of a token (`partOf`), and that its form is the token (`form-part`); the parts of tokens and of values, likewise
--- (`forms-parts`, `values-models`); of sixteen rows, the one of the token's kind (`row-of`): its call asks for its part (`request-call`), and is
--- one that a program can make (`call-given`); what the reader tells of a token, and its body, say which call it is (`rewrites-answers`,
--- `rewrites-read`).
+-- In order: the part of a token (`partOf`), and that its form is the token (`form-part`); the parts of tokens and of
+-- values, likewise (`forms-parts`, `values-models`); the row of the token's kind, out of sixteen (`row-of`): its call
+-- asks for its part (`request-call`), and is one that a program can make (`call-given`); what the reader returns for a
+-- token, and its body, say which call it is (`rewrites-answers`, `rewrites-read`).
 use mathlib.Core.Path.{_≡_, refl, sym, ap, _∙_}
 use mathlib.Core.Bool.{Bool, true, false}
 use mathlib.Core.Logic.{_⊎_, inl, inr}
@@ -39,7 +39,7 @@ use Rattle.guarantees.proofs.ReadsFile.{reads-token, reads-body}
 
 -- ---- the parts of tokens and of values
 
--- what the call of t at q puts down
+-- the part that the call of t at q adds
 unfoldable pub partOf : ℕ → Token → Part
 partOf q t = part (t .kind) (pick (leb 14 (t .kind)) (q - t .n - 1) (t .n)) (t .args) (t .body)
 
@@ -79,7 +79,7 @@ values-models done q (v ∷ vs) b =
 -- ---- the row of a kind
 
 infixr 5 _▸_
--- P holds of each row with its number, the first being i
+-- P holds for each row with its number, the first being i
 data Rows {A : Type 0} (P : ℕ → A → Type 0) : ℕ → List A → Type 0 where
   past : {i : ℕ} → Rows P i []
   _▸_ : {i : ℕ} {x : A} {xs : List A} → P i x → Rows P (suc i) xs → Rows P i (x ∷ xs)
@@ -142,7 +142,7 @@ module _ (q : ℕ) (t : Token) (f : Allowed t) where
   none : (k : ℕ) → rule k .fixed ≡ 0 → rule k .scale ≡ 0 → t .kind ≡ k → t .body ≡ []
   none k fixed scale e = drop-of-length-le (t .body) {i = 0} (omega (arith, rw (fixed, scale) at (sized k e)))
 
-  -- of a kind with one number and no body
+  -- for a kind with one number and no body
   bare : (k : ℕ) → rule k .fixed ≡ 0 → rule k .scale ≡ 0 → rule k .args ≡ false → t .kind ≡ k
       → adds (part k (pick (leb 14 k) (q - t .n - 1) (t .n)) 0 []) ≡ adds (partOf q t)
   bare k fixed scale args e = own k e refl (one k args e) (none k fixed scale e)
@@ -214,7 +214,7 @@ module _ (q : ℕ) (t : Token) (f : Allowed t) where
     pub call-given : Given (callOf q t)
     call-given = row-of Given given-rows
 
--- ---- the call by what the reader tells
+-- ---- the call by what the reader returns
 
 callOfValue-scalar : (a b : Bool) (s : List ℕ)
     → callOfValue (pick a ReadFalse (pick b ReadTrue ReadNull)) s ≡ scalar (pick a False (pick b True Null))
@@ -226,7 +226,7 @@ callOfValue-float : (a : Bool) (n : ℕ) (s : List ℕ) → callOfValue (pick a 
 callOfValue-float true n s = refl
 callOfValue-float false n s = refl
 
--- s is the body of a text or byte string; of other kinds it does not matter
+-- s is the body of a text or byte string; for other kinds it does not matter
 callOfValue-read : (q : ℕ) (t : Token) (s : List ℕ) → ((t .kind ≡ 4) ⊎ (t .kind ≡ 5) → s ≡ t .body) → callOfValue (valueOfToken q t) s ≡ callOf q t
 unfolding valueOfToken callOf
 callOfValue-read q t s body =
@@ -240,7 +240,7 @@ callOfValue-read q t s body =
 pub rewrites-answers : (q : ℕ) (t : Token) → callOfValue (valueOfToken q t) (t .body) ≡ callOf q t
 rewrites-answers q t = callOfValue-read q t (t .body) (λ k. refl)
 
--- of a token of a well-formed file
+-- for a token of a well-formed file
 pub rewrites-read : (file : List ℕ) (vs : List Value) (entry : ℕ) → WellFormed file vs entry → (j q : ℕ) (t : Token) → TokenAt vs j q t
     → bind (readOf file q) (λ v. ok (callOfValue v (bodyOf file q))) ≡ ok (callOf q t)
 unfolding bind

@@ -1,4 +1,5 @@
--- Every reference and pointer in a finished value of the reference model names a finished value before it, by the offset that was handed in.
+-- Every reference and pointer in a finished value of the reference model names a finished value before it, by the
+-- offset that was handed in.
 use mathlib.Core.Path.{ap, _∙_}
 use mathlib.Core.List.{List, _∷_}
 use Prim.Native.Nat.{ℕ, _≤_, _<_}

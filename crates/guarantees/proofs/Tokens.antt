@@ -1,7 +1,7 @@
 -- A token in a region, by the bytes before it and after it.
 --
--- In order: its body; what is shown of it is what the pages say (`value-on-token`); it is looked at (`peek-emit`), and so are items one after
--- the other (`walk-emit`).
+-- In order: its body; the value on its head is what the pages say (`value-on-token`); it is looked at (`peek-emit`),
+-- and so are items one after the other (`walk-emit`).
 use mathlib.Core.Path.{_≡_, refl, sym, ap, _∙_}
 use mathlib.Core.Bool.{Bool, true, false}
 use mathlib.Core.List.{List, [], _∷_, _++_, append-assoc}
@@ -46,7 +46,7 @@ bits-front : (k : ℕ) (b s : List ℕ) → length b ≡ k → load k (b ++ s) �
 unfolding load
 bits-front k b s e = let there : k ≤ length (b ++ s) = omega (arith, length-append b s) in rw (le-leb _ _ there, take-at b s k e)
 
--- ---- what is shown
+-- ---- the value on its head
 
 -- two tables have the same row k
 record Same (k : ℕ) (xs ys : List Value) : Type 0 where
@@ -59,7 +59,7 @@ set-row (x ∷ xs) zero (suc k) y d h = refl
 set-row (x ∷ xs) (suc i) zero y d h = refl
 set-row (x ∷ xs) (suc i) (suc k) y d h = set-row xs i k y d (λ e. h (ap suc e))
 
--- row i, the same in both where it is the row asked for, is taken from the other table
+-- row i, the same in both if it is the row asked for, is taken from the other table
 own : {k : ℕ} {xs ys : List Value} (i : ℕ) → (k ≡ i → getD xs i Null ≡ getD ys i Null) → Same k (set xs i (getD ys i Null)) ys → Same k xs ys
 own {k} {xs} {ys} i h more = record { row = set-row xs i k (getD ys i Null) Null h ∙ more .row }
 
@@ -76,13 +76,13 @@ module _ (p : List ℕ) (t : Token) (s : List ℕ) (f : Allowed t) where
       (pick-cong (eqb (t .n) 0) (λ z. rw (bits-front 4 (t .body) s (omega facts)))
       (λ z. let one : t .n ≡ 0 → ⊥ = eqb-false (t .n) 0 z in rw (bits-front 8 (t .body) s (omega arith))))
 
-  -- of kinds without a body, the items start where the token ends
+  -- for kinds without a body, the items start where the token ends
   bare : (k : ℕ) → rule k .fixed ≡ 0 → rule k .scale ≡ 0 → t .kind ≡ k → head .first ≡ tokenEnd (length p) t
   bare k fixed scale e =
       let sized : length (t .body) ≡ size (rule k) (t .n) = rw e at (f .sized) in
       omega (arith, rw (fixed, scale) at sized)
 
-  -- of kinds without a second number, n counts the items
+  -- for kinds without a second number, n counts the items
   counts : (k : ℕ) → rule k .args ≡ false → rule k .single ≡ 0 → t .kind ≡ k → head .items ≡ rule k .each * t .n
   counts k one single e = let none : t .args ≡ 0 = f .alone (rw e one) in rw (e, single) (omega arith)
 

@@ -1,8 +1,8 @@
 -- A token as the walk of check takes it.
 --
--- In order: what is emitted at an offset is read there; what a token has that the walk takes (`TakenToken`): the walk takes it
--- (`next-taken`), and what it takes is such a token (`taken-next`); the walk behind a token, by the items pending there (`settled`,
--- `walk-taken`).
+-- In order: what is emitted at an offset is read there; what holds for a token that the walk takes (`TakenToken`): the
+-- walk takes it (`next-taken`), and what it takes is such a token (`taken-next`); the walk after a token, by the items
+-- pending there (`settled`, `walk-taken`).
 use mathlib.Core.Path.{_≡_, refl, sym, ap, _∙_}
 use Prim.Native.Nat.{ℕ, zero, suc, _+_, _<_}
 use mathlib.Core.Bool.{Bool, true, false, _&&_, and-comm}
@@ -41,7 +41,8 @@ module _ (s : List ℕ) (at : ℕ) (t : Token) (rest : List ℕ) (same : drop at
 
 -- ---- a token that the walk takes
 
--- a token at the walk's offset, and `rest` behind it: it may stand there, its text is text, its target is a start, and a new value has a word
+-- a token at the walk's offset, and `rest` after it: it fits there, its text is text, its target is a start, and a new
+-- value has a word
 pub record TakenToken (s : List ℕ) (cap : ℕ) (w : Walk) (t : Token) (rest : List ℕ) : Type 0 where
   pub same : drop (w .at) s ≡ emit t ++ rest
   pub fits : Fits (ltb 0 (w .pending)) t rest
@@ -65,7 +66,7 @@ module _ (s : List ℕ) (cap : ℕ) (w : Walk) where
       unless-full true b f = f refl
       unless-full false b f = refl
 
-  -- a head that the walk takes is that of a token that stands there
+  -- a head that the walk takes is that of a token at this offset
   pub record TakenHead (h : Head) : Type 0 where
     pub token : Token
     pub rest : List ℕ
@@ -91,9 +92,9 @@ module _ (s : List ℕ) (cap : ℕ) (w : Walk) where
         head = r .head;
       }
 
--- ---- the walk behind a token
+-- ---- the walk after a token
 
--- the walk at `at` in the value that started at `start`, with so many items pending; behind that value where there is none
+-- the walk at `at` in the value that started at `start`, with that many items pending; after that value if none is
 abbrev pub settled : ℕ → List ℕ → ℕ → ℕ → Walk
 settled start done at zero = between at (done ++ (start ∷ []))
 settled start done at (suc k) = record { at = at; start = start; pending = suc k; done = done }

@@ -1,8 +1,8 @@
--- What the walk of check has passed: values, and an open one as far as it got.
+-- What the walk of check has gone through: values, and an open one as far as it got.
 --
--- In order: tokens and one more; an open value (`Partly`): its head, and one item more; a walk between two values, or in an open one
--- (`WalkedValues`), with a value finished where none of its items is pending; a token that the walk takes keeps it (`after-walked`); between two values
--- the walk has passed values alone (`walked-between`).
+-- In order: tokens and one more; an open value (`Partly`): its head, and one item more; a walk between two values, or
+-- in an open one (`WalkedValues`), with a value finished if none of its items is pending; a token that the walk takes
+-- keeps it (`after-walked`); between two values the walk has gone through values alone (`walked-between`).
 use mathlib.Core.Path.{_≡_, refl, sym, ap, _∙_}
 use Prim.Native.Nat.{ℕ, zero, suc, _+_, _≤_, _<_}
 use mathlib.Core.Bool.{true, not, _&&_}
@@ -45,13 +45,13 @@ pub record Partly (s : List ℕ) (vs : List Value) (t : Token) (is : List Token)
   pub values : Values vs
   pub same : s ≡ region vs ++ (bytes (t ∷ is) ++ rest)
   pub head : Sound t
-  -- the items that the head counts have a byte each behind it
+  -- the items that the head counts have a byte each after it
   pub room : length (region vs) + length (emit t) + counted (rule (t .kind)) (t .n) (t .args) ≤ length s
   pub items : Each Item is
   pub count : length is + k ≡ pending (rule (t .kind)) (t .n) (t .args)
   pub targets : HasTargets (starts 0 vs) (length (region vs)) (t ∷ is)
 
--- what stands behind the front p of s
+-- what comes after the front p of s
 same-after : (s p q r : List ℕ) → s ≡ p ++ q → drop (length p) s ≡ r → s ≡ p ++ r
 same-after s p q r same d = same ∙ ap (λ x. p ++ x) (sym (drop-append-seam p q) ∙ ap (drop (length p)) (sym same) ∙ d)
 

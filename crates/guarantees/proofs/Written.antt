@@ -1,4 +1,5 @@
--- The lists of calls write the bytes that document 01 has for them, by computation of the definition that the writer's contracts cite.
+-- The lists of calls write the bytes that document 01 has for them, by computation of the definition that the writer's
+-- contracts cite.
 use mathlib.Core.Path.{_≡_, refl}
 use mathlib.Core.List.{map}
 use Rattle.prelude.specs.Search.{among}

@@ -26,7 +26,7 @@ pub most-fits : (k : ℕ) → rule k .most < 2 ^ 64
 unfolding rule
 most-fits k = ltb-true _ _ (every-getD (λ r. ltb (r .most) (2 ^ 64)) table k reserved refl refl)
 
--- what code may rely on to reckon with a rule in 64 bits
+-- what code may rely on to compute with a rule in 64 bits
 pub record Row (r : Rule) : Type 0 where
   -- a low nibble in use is within the bound
   pub lows : r .lows ≤ r .most + 1
@@ -35,7 +35,7 @@ pub record Row (r : Rule) : Type 0 where
   pub need : r .fixed + (r .scale + r .each) * min (r .most) (2 ^ 63 - 1) < 2 ^ 64
   -- a body has bytes for each n, or none
   pub fixed : r .fixed ≤ 4 * r .scale
-  -- where a second number counts the items, there is nothing else
+  -- if a second number counts the items, there is nothing else
   pub many : r .args ≡ true → r .scale + r .single + r .each ≡ 0
 
 pub rule-row : (k : ℕ) → Row (rule k)

@@ -1,7 +1,7 @@
 -- `put` and `get`, one after the other.
 --
--- In order: what was put is got back with the rest untouched (`get-put`); what was got is the shortest form, so it is what would be
--- put (`put-get`); in any form, what is got is below `top`, and the rest is an end of the bytes (`get-ends`).
+-- In order: what was put is got back with the rest untouched (`get-put`); what was got is the shortest form, so it is what
+-- would be put (`put-get`); in any form, what is got is below `top`, and the rest is the end of the bytes (`get-ends`).
 use mathlib.Core.Path.{_≡_, ap}
 use Prim.Native.Nat.{ℕ, zero, suc, _+_, _-_, _*_, _/_, _%_, _≤_, _<_}
 use mathlib.Core.List.{List, [], _∷_, _++_}
@@ -28,7 +28,7 @@ get-put (suc k) least n rest l h =
     let less : n / 128 < top k = omega arith in
     rw (le-ltb, le-ltb, get-put k 1 (n / 128) rest more less) (ap (λ m. got m rest) (omega arith)))
 
--- what a number that was got tells of the bytes s and the rest
+-- what a number that was got says about the bytes s and the rest
 pub record Got (k least n : ℕ) (s rest : List ℕ) : Type 0 where
   pub same : s ≡ put k n ++ rest
   pub above : least ≤ n
@@ -59,7 +59,7 @@ put-get (suc k) least n (b ∷ s) rest l h e =
     let high : n / 128 ≡ m = omega arith in
     record { same = rw le-ltb (cc (g .same)); above = omega arith; below = omega (arith, g .below) }))
 
--- what any number that was got tells, in whatever form it stands
+-- what holds for any number that was got, in whatever form
 pub record Ends (k n : ℕ) (s rest : List ℕ) : Type 0 where
   pub below : n < top k
   pub shorter : length rest < length s

@@ -1,8 +1,8 @@
 -- `put` and `get`, one after the other, both ways
 pub mod Laws
--- how many bytes `put` gives
+-- how many bytes `put` yields
 pub mod Sizes
--- how `get` goes, as the code takes it
+-- the steps of `get`, as the code takes them
 pub mod Steps
 -- the definitions on examples
 mod Samples

@@ -11,7 +11,7 @@ reads : map (get 9 0) ((0xe5 ∷ 0x8e ∷ 0x26 ∷ 7 ∷ []) ∷ (0 ∷ 0 ∷ []
 unfolding get guard then
 reads = refl
 
--- no byte, a cut number, a last byte 0, a tenth byte 0, 2 and 80, and the end before the tenth
+-- no byte, an incomplete number, a last byte of 0, a tenth byte of 0, 2 and 80, and the end before the tenth
 refuses : map (get 9 0)
     ([]
     ∷ (255 ∷ 255 ∷ [])

@@ -1,7 +1,7 @@
--- How many bytes `put` gives.
+-- How many bytes `put` yields.
 --
--- In order: by the highest bit, and so by the leading zeros; at most as many as are allowed; no bytes of the same value are fewer
--- (`put-shortest`); `put` byte by byte.
+-- In order: by the highest bit, and so by the leading zeros; at most as many as are allowed; no bytes of the same value
+-- are fewer (`put-shortest`); `put` byte by byte.
 use mathlib.Core.Path.{_≡_, refl}
 use mathlib.Core.List.{List, [], _∷_}
 use Prim.Native.Nat.{ℕ, zero, suc, _+_, _-_, _*_, _/_, _%_, _^_, _<_, _≤_}
@@ -20,7 +20,7 @@ scale i j e = rw e (pow-add 2 7 i)
 pow-lt : (i j : ℕ) → 2 ^ i < 2 ^ j → i < j
 pow-lt i j h = split i j (λ l. l) (λ l. absurd (omega (arith, pow-mono l)))
 
--- of a number whose highest bit is j
+-- for a number whose highest bit is j
 length-put-bit : (k j n : ℕ) → 2 ^ j ≤ n → n < 2 ^ suc j → j < 7 * suc k → length (put k n) ≡ j / 7 + 1
 unfolding put
 length-put-bit zero j n lo hi h = omega arith
@@ -80,7 +80,7 @@ put-suc : (k n : ℕ) → 128 ≤ n → put (suc k) n ≡ (n % 128 + 128) ∷ pu
 unfolding put
 put-suc k n h = rw le-ltb
 
--- what the i-th byte and those after it are, where more than one is left
+-- the i-th byte and those after it, if more than one is left
 pub record More (i n : ℕ) : Type 0 where
   pub bytes : put (9 - i) n ≡ (n % 128 + 128) ∷ put (9 - suc i) (n / 128)
   pub below : n / 128 < top (9 - suc i)

@@ -1,4 +1,4 @@
--- How `get` goes, as the code takes it: by a list that is known by its first element, with the bytes left counted.
+-- The steps of `get`, as the code takes them: on a list known by its first element, with the bytes left counted.
 --
 -- In order: each way through `get_from`; what is read has room for the bits below it.
 use mathlib.Core.Path.{_≡_, refl}
@@ -48,7 +48,7 @@ get-step (suc k) least (b ∷ s) ne nk =
     rw (sub-one (suc k), sub-one (suc (length s)))
     (split b 128 (λ small. rw (lt-ltb b 128 small, measured-guard)) (λ large. rw (le-ltb b 128 large, raised-then)))
 
--- of at most j bytes after the first
+-- with at most j bytes after the first
 pub get-small : (k least : ℕ) (s : List ℕ) (r : GetResult) → answerOf r ≡ measured (get k least s) → (j : ℕ) → k ≤ j → valueOf r < 2 * 128 ^ j
 get-small k least s (Ok n left) e j h =
     measured-ok (get k least s) e (λ rest q l. omega (arith, get-ends k least n s rest q .below, pow-le-pow-right {n = 128} (lit< tt) {i = k} {j = j} h))

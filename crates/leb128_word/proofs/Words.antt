@@ -1,7 +1,7 @@
 -- Numbers read from several bytes at once.
 --
--- In order: the trailing zeros of a number's multiples; what a mark and a group of seven bits are; a number that ends among the bytes
--- looked at, and whose last byte is not 0, is got from their one number (`get-word`).
+-- In order: the trailing zeros of a number's multiples; what a mark and a group of seven bits are; a number that ends
+-- among the bytes looked at, and whose last byte is not 0, is read from them as one number (`get-word`).
 use mathlib.Core.Path.{_≡_, refl, ap, _∙_}
 use mathlib.Core.List.{List, [], _∷_, _++_}
 use Prim.Native.Nat.{ℕ, zero, suc, _+_, _-_, _*_, _/_, _%_, _^_, _≤_, _<_}
@@ -43,7 +43,7 @@ trailing-scale (suc i) k m =
 
 -- ---- a byte, and those after it
 
--- the marks of bytes of which the first is the last of a number, and of bytes of which it is not
+-- the marks of bytes whose first is the last of a number, and of bytes whose first is not
 marks-last : (j b w : ℕ) → b < 128 → marks (suc j) (b + 256 * w) ≡ 2 ^ 7 * (1 + 2 * marks j w)
 unfolding marks
 marks-last j b w h =

@@ -1,8 +1,8 @@
--- Bytes and their number, over any width.
+-- Bytes and their number, for any width.
 --
--- In order: the bytes of a number hold it (`value-little`), and the number that bytes hold has these bytes (`little-from`);
--- how many bytes, and how large a number; `load` gives back a number whose bytes stand in front (`load-little`), and the bytes of
--- what it gives are those in front (`little-load`); `load` as the code computes it.
+-- In order: the bytes of a number hold it (`value-little`), and the number that bytes hold has these bytes
+-- (`little-from`); how many bytes, and how large a number; `load` gives back a number whose bytes are in front
+-- (`load-little`), and the bytes of what it returns are those in front (`little-load`); `load` as the code computes it.
 use mathlib.Core.Path.{_≡_, refl, ap}
 use mathlib.Core.List.{List, [], _∷_, _++_}
 use Prim.Native.Nat.{ℕ, zero, suc, _+_, _*_, _/_, _%_, _^_, _≤_, _<_}

@@ -1,4 +1,4 @@
--- `little` and `value`, one after the other; `bits` of a front
+-- `little` and `fromLittle`, one after the other; `load` from the front of bytes
 pub mod Laws
 -- the definitions on examples
 mod Samples

@@ -1,6 +1,6 @@
 -- `pick`, tests as equations, and the rulesets
 pub mod Tests
--- tables: what all rows have, and rows that stand for others
+-- tables: what all rows pass, and rows that stand for others
 pub mod Tables
 -- readers that answered: what their parts answered
 pub mod Readers
@@ -10,5 +10,5 @@ pub mod Parts
 pub mod Turns
 -- signed numbers
 pub mod Signs
--- words searched in a list
+-- words in a list
 pub mod Searches

@@ -1,7 +1,7 @@
 -- Parts of slices, and stores into them.
 --
--- In order: the part `&s[k..]`; `sets d i p` of `lib.Seq`, the list d with p stored from index i on; `Put`, what a function ensures that
--- stores p at the front of a part with room for it; the way from `Put` to `store`.
+-- In order: the part `&s[k..]`; `sets d i p` of `lib.Seq`, the list d with p stored from index i on; `Put`, what a
+-- function ensures that stores p at the front of a part with room for it; from `Put` to `store`.
 use mathlib.Core.Path.{_≡_, refl, sym, ap, _∙_}
 use mathlib.Core.List.{List, [], _∷_, _++_, append-nil}
 use Prim.Native.Nat.{ℕ, zero, suc, _+_, _-_, _≤_, _<_}
@@ -35,7 +35,7 @@ pub bytes-front : (p s : List ℕ) → Bytes (p ++ s) → Bytes p
 bytes-front [] s b = tt
 bytes-front (x ∷ p) s b = (b .0, bytes-front p s (b .1))
 
--- past a part of the bytes at `at`
+-- past a part of the bytes that begin at `at`
 pub drop-past : (s : List ℕ) (at : ℕ) (p rest : List ℕ) → drop at s ≡ p ++ rest → drop (at + length p) s ≡ rest
 drop-past s at p rest same = sym (drop-drop (length p) at s) ∙ rw same (drop-append-seam p rest)
 
@@ -87,7 +87,7 @@ pub putAt-part : (p d e : List ℕ) (w r : ℕ) → w ≤ length d → Put p (ta
     → PutAt p d w (putMid w (length d - w) d e) (w + r)
 putAt-part p d e w r h put = record { after = ap (λ n. w + n) (put .size); bytes = put-part p d e w r h put }
 
--- p at the front, and then q behind it
+-- p at the front, and then q after it
 pub put-append : (p q d e f : List ℕ) (r s : ℕ) → Put p d e r → PutAt q e r f s → Put (p ++ q) d f s
 put-append p q d e f r s put next = record {
   size = omega (arith, length-append p q, put .size, next .after);

@@ -1,7 +1,7 @@
--- Readers that answered: what their parts answered, in continuation style, so that what comes out is a variable.
+-- Readers that answered: what their parts answered, in continuation style, so that the result is a variable.
 --
--- In order: an error is no value; `guard`, `then`, `orError`; the `do` form's `>>` and `>>=`, and a test that passed; `measured`: under a
--- guard, and what an answer that was told says of the reader's.
+-- In order: an error is not a value; `guard`, `then`, `orError`; the `do` form's `>>` and `>>=`, and a test that
+-- passed; `measured`: under a guard, and what an answer says about the reader's.
 use mathlib.Core.Path.{_≡_, refl, sym, ap}
 use mathlib.Core.Bool.{Bool, true, false}
 use mathlib.Core.List.{List}
@@ -59,7 +59,7 @@ module _ {E A : Type 0} where
       k s (ap (λ (x : A × ℕ). got (x .0) s) (sym p)) (ap (λ (x : A × ℕ). x .1) p)
   measured-ok (bad f) e k = let z : _≡_ {A = ℕ} 0 1 = cc in absurd (omega arith)
 
--- ---- `bind`, by what a call answered
+-- ---- `bind`, by the answer of a call
 
 module _ {E A B : Type 0} (f : A → Answer E B) where
   pub bind-ok : {a : A} {r : Answer E A} {x : Answer E B} → ok a ≡ r → x ≡ f a → x ≡ bind r f

@@ -1,7 +1,7 @@
--- Words searched in a list: the laws of `rank`, `among` and `Rising`.
+-- Words in a list: the laws of `rank`, `among` and `Rising`.
 --
--- In order: the rank, by the words before it and after it; lists that rise; the rank in them; whether a word is among a list: by an index,
--- and by the rank.
+-- In order: the rank, by the words before it and after it; rising lists; the rank in them; whether a word is among a
+-- list: by an index, and by the rank.
 use mathlib.Core.Path.{_≡_, refl, sym, ap, _∙_}
 use mathlib.Core.Bool.{true, false, false≢true, or-comm}
 use mathlib.Core.List.{List, [], _∷_, _++_}
@@ -20,7 +20,7 @@ unfolding rank
 rank-le x [] = omega arith
 rank-le x (y ∷ ys) = let h = rank-le x ys in pick-elim (λ n. n + rank x ys ≤ suc (length ys)) (ltb y x) (λ _. omega arith) (λ _. omega arith)
 
--- it is i where the words before i are less than x and the others are not
+-- it is i if the words before i are less than x and the others are not
 pub rank-is : (x : ℕ) (xs : List ℕ) (i : ℕ) → i ≤ length xs → ((k : ℕ) → k < i → getD xs k 0 < x)
     → ((k : ℕ) → i ≤ k → k < length xs → x ≤ getD xs k 0) → rank x xs ≡ i
 unfolding rank
@@ -32,7 +32,7 @@ rank-is x (y ∷ ys) (suc i) h f g =
     let e = rank-is x ys i (omega arith) (λ k l. f (suc k) (omega arith)) (λ k l m. g (suc k) (omega arith) (omega arith)) in
     rw (lt-ltb y x (f 0 (omega arith))) (omega arith)
 
--- ---- lists that rise
+-- ---- rising lists
 
 rising-tail : (y : ℕ) (ys : List ℕ) → Rising (y ∷ ys) → Rising ys
 rising-tail y ys r i j h g = r (suc i) (suc j) (omega arith) (omega arith)
@@ -52,7 +52,7 @@ pub rising-ge : (xs : List ℕ) → Rising xs → (i : ℕ) → i < length xs �
 rising-ge xs r zero h = omega arith
 rising-ge xs r (suc i) h = omega (arith, rising-ge xs r i (omega arith), r i (suc i) (omega arith) h)
 
--- ---- the rank where a list rises
+-- ---- the rank in a rising list
 
 -- the first is not less than x, so none is
 rising-from : (x y : ℕ) (ys : List ℕ) → Rising (y ∷ ys) → x ≤ y → (k : ℕ) → k < length (y ∷ ys) → x ≤ getD (y ∷ ys) k 0
@@ -79,14 +79,14 @@ rank-above x (y ∷ ys) r (suc k) h g =
     split y x (λ l. rank-above x ys (rising-tail y ys r) k (omega (arith, rank-more x y ys l)) (omega arith))
     (λ l. rising-from x y ys r l (suc k) g)
 
--- what one word tells of the rank
+-- what one word says about the rank
 pub rank-after : (x : ℕ) (xs : List ℕ) → Rising xs → (k : ℕ) → k < length xs → getD xs k 0 < x → k + 1 ≤ rank x xs
 rank-after x xs r k h g = split k (rank x xs) (λ l. omega arith) (λ l. omega (arith, rank-above x xs r k l h))
 
 pub rank-until : (x : ℕ) (xs : List ℕ) → Rising xs → (k : ℕ) → x ≤ getD xs k 0 → rank x xs ≤ k
 rank-until x xs r k g = split k (rank x xs) (λ l. omega (arith, rank-below x xs r k l)) (λ l. l)
 
--- the rank of a word that stands at i
+-- the rank of the word at i
 pub rank-at : (x : ℕ) (xs : List ℕ) → Rising xs → (i : ℕ) → i < length xs → getD xs i 0 ≡ x → rank x xs ≡ i
 rank-at x xs r i h e =
     rank-is x xs i (omega arith) (λ k l. omega (arith, r k i l h))
@@ -103,7 +103,7 @@ among-at x [] i h e = absurd (omega arith)
 among-at x (y ∷ ys) zero h e = rw (eq-eqb x y (sym e))
 among-at x (y ∷ ys) (suc i) h e = rw (among-at x ys i (omega arith) e, or-comm (eqb x y) true)
 
--- where it stands
+-- its index
 pub among-by : (x : ℕ) (xs : List ℕ) → among x xs ≡ true → (i : ℕ) × (i < length xs) × (getD xs i 0 ≡ x)
 unfolding among
 among-by x [] e = absurd (false≢true e)
@@ -111,7 +111,7 @@ among-by x (y ∷ ys) e =
     or-true (eqb x y) (among x ys) e (λ q. (0, omega arith, sym (eqb-true x y q)))
     (λ q. let s = among-by x ys q in (suc (s .0), omega (arith, s .1), s .2))
 
--- it stands nowhere
+-- it is nowhere
 pub among-none : (x : ℕ) (xs : List ℕ) → ((k : ℕ) → k < length xs → getD xs k 0 ≡ x → ⊥) → among x xs ≡ false
 unfolding among
 among-none x [] f = refl

@@ -1,6 +1,7 @@
--- Tables, so that a table's rule is one computed test and no case for each row.
+-- Tables, so that a table's rule is one computed test, without a case for each row.
 --
--- In order: what all rows pass, the row that is looked up passes; rows that stand for others, as a packed row for the row it codes.
+-- In order: what all rows pass, the row that is looked up passes; rows that stand for others, as a packed row does for
+-- the row it encodes.
 use mathlib.Core.Path.{_≡_, refl}
 use mathlib.Core.Bool.{Bool, true, _&&_}
 use mathlib.Core.List.{List, [], _∷_, map}
@@ -13,7 +14,7 @@ abbrev pub every : {A : Type 0} → (A → Bool) → List A → Bool
 every p [] = true
 every p (x ∷ xs) = p x && every p xs
 
--- what all rows of a table pass, and the row for what is past them, each row that is looked up passes
+-- if all rows of a table pass a test, and so does the default past them, each row that is looked up passes it
 pub every-getD : {A : Type 0} (p : A → Bool) (xs : List A) (k : ℕ) (d : A) → every p xs ≡ true → p d ≡ true → p (getD xs k d) ≡ true
 every-getD p [] k d e ed = ed
 every-getD p (x ∷ xs) zero d e ed = and-l (p x) _ e

@@ -1,7 +1,8 @@
 -- Tests as equations, both ways, and `pick`.
 --
--- In order: a property of both arms of a `pick`, and equal arms; one order or the other, inside a term; tests joined by `&&` and `||`; tests
--- that a flag tells; the rulesets. The tests themselves (`lt-ltb`, `ltb-true`, ..) are those of `borrow.Author.Tests`.
+-- In order: a property of both arms of a `pick`, and equal arms; one order or the other, inside a term; tests joined by
+-- `&&` and `||`; tests known by a flag; the rulesets. The tests themselves (`lt-ltb`, `ltb-true`, ..) are those of
+-- `borrow.Author.Tests`.
 use mathlib.Core.Path.{_≡_, refl, sym, _∙_}
 use mathlib.Core.Bool.{Bool, true, false, not, _&&_, _||_, false≢true}
 use Prim.Native.Nat.{ℕ, _≤_, _<_}
@@ -21,7 +22,7 @@ pub pick-cong : {A : Type 0} (t : Bool) {x y x′ y′ : A} → (t ≡ true → 
 pick-cong true f g = f refl
 pick-cong false f g = g refl
 
--- case analysis inside a term, so that a recursive call may stand in a branch
+-- case analysis inside a term, so that a branch may have a recursive call
 pub split : {X : Type 0} (a b : ℕ) → (a < b → X) → (b ≤ a → X) → X
 split a b f g = elim (decLe b a) [ yes h ↦ g h | no h ↦ f (lt-of-not-le h) ]
 
@@ -38,16 +39,16 @@ pub or-true : {X : Type 0} (a b : Bool) → a || b ≡ true → (a ≡ true → 
 or-true true b e f g = f refl
 or-true false b e f g = g e
 
--- a test that a flag tells
+-- a test known by a flag
 pub le-of-flag : (a b : ℕ) {t : Bool} → t ≡ leb a b → t ≡ true → a ≤ b
 le-of-flag a b e h = leb-true a b (sym e ∙ h)
 
--- a test joined by `&&` that failed where the first passed
+-- a test joined by `&&` that failed although its first part passed
 pub and-false : {X : Type 0} (a b : Bool) → a && b ≡ false → (a ≡ false → X) → (b ≡ false → X) → X
 and-false true b e f g = g e
 and-false false b e f g = f refl
 
--- a test `a && not b` that fails, as that b follows from a
+-- a test `a && not b` that fails: b follows from a
 pub unless : (a b : Bool) → (a ≡ true → b ≡ true) → a && not b ≡ false
 unless true b f = rw (f refl)
 unless false b f = refl
@@ -68,5 +69,5 @@ pub ruleset tests = (lt-ltb, le-ltb, le-leb, lt-leb, eq-eqb, ne-eqb)
 -- for `omega`: arithmetic that reads tests
 pub ruleset facts = (arith, ltb-true, ltb-false, leb-true, leb-false, eqb-true)
 
--- for `search`: what `needs` closes, and a return behind plain tests of a contract that picks by them
+-- for `search`: what `needs` closes, and a return after plain tests if the contract picks by them
 pub ruleset ladder = (needs, lt-ltb, le-ltb, le-leb, lt-leb, eq-eqb, ne-eqb)

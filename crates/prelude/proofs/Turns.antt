@@ -1,7 +1,7 @@
 -- The laws of `from`.
 --
--- In order: what every turn keeps gives what holds of the answer (`from-all`); where each turn makes the measure less, a turn that
--- goes on leaves the answer as it is (`from-go`), and one that stops gives it (`from-stop`).
+-- In order: what every turn keeps gives what holds for the answer (`from-all`); if each turn makes the measure less, a
+-- turn that goes on leaves the answer as it is (`from-go`), and one that stops gives it (`from-stop`).
 use mathlib.Core.Path.{_≡_, refl}
 use Prim.Native.Nat.{ℕ, zero, suc, _<_}
 use native.Mathlib.Omega.{arith}

@@ -1,4 +1,4 @@
--- Laws of bodies: the part that is told is in the file; the part, as the code takes it.
+-- Laws of bodies: the part that a place names is in the file; the part, as the code takes it.
 use mathlib.Core.Path.{_≡_, sym, subst}
 use Prim.Native.Nat.{ℕ, _+_, _-_, _≤_}
 use mathlib.Core.Bool.{_||_}
@@ -15,7 +15,7 @@ use Rattle.reader_follow.specs.Follow.{Followed, position, followFrom}
 use Rattle.reader_follow.proofs.Laws.{followed-within}
 use Rattle.reader_body.specs.Body.{bodyPlaceOn, bodyPlaceIn, bodyPlaceOf, bodyOf}
 
--- a part that is told ends within n bytes
+-- a part at such a place ends within n bytes
 abbrev WithinFile : ℕ → Answer Fault (ℕ × ℕ) → Type 0
 WithinFile n (ok p) = p .0 + p .1 ≤ n
 WithinFile n (error e) = Unit {0}

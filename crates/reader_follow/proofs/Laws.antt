@@ -1,4 +1,4 @@
--- Laws of following: a pointer leads where its target leads, another value ends it; where it comes to.
+-- Laws of following: a pointer leads where its target leads, another value ends it; what it reaches.
 use mathlib.Core.Path.{_≡_, refl, sym, subst}
 use Prim.Native.Nat.{ℕ, _+_, _-_, _≤_, _<_}
 use mathlib.Core.Bool.{false}
@@ -44,9 +44,9 @@ module _ (s : List ℕ) where
   unfolding followFrom followTurn
   followFrom-error q hops f e = sym (from-stop (followTurn s) (λ p. p .place) _ turn-falls (position q hops) _ (rw (← e)))
 
--- ---- where following comes to
+-- ---- what following reaches
 
--- a value that following from p came to was looked at, is no pointer, and each hop went down
+-- a value that following from p reached was looked at, is not a pointer, and each hop went down
 pub record FollowedHead (s : List ℕ) (p : Position) (m : Followed) : Type 0 where
   pub peeked : ok (m .head) ≡ peekIn false s (m .place)
   pub other : m .head .kind ≡ 15 → ⊥
@@ -60,7 +60,7 @@ module _ (s : List ℕ) (p : Position) where
   abbrev Down : Position → Type 0
   Down q = q .place + q .hops ≤ p .place + p .hops
 
-  -- a turn that goes on stays down, and one that stops has come there
+  -- a turn that goes on stays down, and one that stops has reached such a value
   abbrev Turns : Turn Position (Answer Fault Followed) → Type 0
   Turns (go q) = Down q
   Turns (stop a) = FollowsTo s p a
@@ -85,6 +85,6 @@ module _ (s : List ℕ) (p : Position) where
 pub follow-head-inv : (s : List ℕ) (p : Position) (m : Followed) → ok m ≡ followFrom s p → FollowedHead s p m
 follow-head-inv s p m e = subst (FollowsTo s p) (sym e) (follow-leads s p)
 
--- the head there is in the region
+-- its head is in the region
 pub followed-within : (s : List ℕ) (p : Position) (m : Followed) → ok m ≡ followFrom s p → Within s (m .place) (m .head)
 followed-within s p m e = scan-within false s (m .place) (m .head) (peek-scan false s (m .place) (m .head) (follow-head-inv s p m e .peeked))

@@ -1,4 +1,4 @@
--- Laws of lookup: bytes held against each other; pairs one after the other.
+-- Laws of lookup: bytes compared; pairs one after the other.
 use mathlib.Core.Path.{_≡_, refl, ap}
 use Prim.Native.Nat.{ℕ, zero, suc, _+_, _-_, _≤_, _<_}
 use mathlib.Core.Bool.{Bool, true, false, _&&_}
@@ -16,7 +16,7 @@ use Rattle.error.specs.Error.{Fault, fault, NO_ITEM}
 use Rattle.reader_lookup.specs.Lookup.{same, pairs}
 use Rattle.reader_lookup.specs.Internal.{orStop, pairOf}
 
--- ---- bytes held against each other
+-- ---- bytes compared
 
 pub same-lengths : (a b : List ℕ) → (length a ≡ length b → ⊥) → false ≡ same a b
 unfolding same

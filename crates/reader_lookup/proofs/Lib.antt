@@ -1,2 +1,2 @@
--- laws of pairs, and of bytes held against each other
+-- laws of pairs, and of bytes compared
 mod Laws

@@ -1,7 +1,7 @@
 -- Laws of a file's region and of the tokens that queries look at.
 --
--- In order: the region, as the code takes it; what is made of the region, and what is made of that in turn; a head that a query looked at
--- was scanned, and its target is at or above 0.
+-- In order: the region, as the code takes it; an answer in the region, and one made from it in turn; a head that a
+-- query looked at was scanned, and its target is not below 0.
 use mathlib.Core.Path.{_≡_, refl, sym, subst}
 use Prim.Native.Nat.{ℕ, _-_, _≤_, _<_}
 use mathlib.Core.Bool.{Bool, false}
@@ -50,12 +50,12 @@ module _ (file : List ℕ) (at : ℕ) where
     unfolding inRegion
     in-region-error e q = bind-error _ q
 
-    -- what was told of the region
+    -- an answer in the region
     pub in-region-same : {a : A} → ok a ≡ inRegion file at k → ok a ≡ k (take (length file - 1) file)
     unfolding inRegion
     in-region-same e = bind-ok-by _ _ e (λ n g q. rw (region-length (length file) at n g) at q)
 
-    -- what is made of it in turn
+    -- an answer made from it in turn
     module _ {B : Type 0} (f : List ℕ → A → Answer Fault B) where
       pub in-region-then : {a : A} {r : Answer Fault B} → ok a ≡ inRegion file at k → r ≡ f (take (length file - 1) file) a
           → r ≡ inRegion file at (λ s. bind (k s) (f s))
@@ -83,7 +83,7 @@ pub peek-scan : (inner : Bool) (s : List ℕ) (q : ℕ) (h : Head) → ok h ≡ 
 unfolding peekIn
 peek-scan inner s q h e = subst (Scans (scanAt inner s q)) (sym e) (scans q (scanAt inner s q))
 
--- a reference or pointer that was looked at has its target at or above 0
+-- the target of a reference or pointer that was looked at is not below 0
 abbrev pub TargetBelow : ℕ → Answer Fault Head → Type 0
 TargetBelow q (ok h) = 14 ≤ h .kind → h .n < q
 TargetBelow q (error e) = Unit {0}
@@ -107,7 +107,7 @@ peek-peeked inner s q h e =
     let w = scan-within inner s q h (peek-scan inner s q h e) in
     record { body = w .body; end = w .end; used = w .used; most = w .most; target = subst (TargetBelow q) (sym e) (peek-target inner s q) }
 
--- the same of a whole file
+-- the same for a whole file
 pub peekOf-peeked : (file : List ℕ) (at : ℕ) (h : Head) → ok h ≡ peekOf file at → Peeked file at h
 peekOf-peeked file at h e =
     let l = peek-peeked false (take (length file - 1) file) at h (in-region-same file at _ e) in

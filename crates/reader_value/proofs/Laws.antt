@@ -1,4 +1,4 @@
--- Laws of what is shown of a head: the row of its kind; its number fits; kinds that are in use.
+-- Laws of the value on a head: the row of its kind; its number fits; kinds that are in use.
 use mathlib.Core.Path.{_≡_}
 use Prim.Native.Nat.{ℕ, _+_, _≤_, _<_}
 use mathlib.Core.List.{List}
@@ -21,6 +21,6 @@ peeked-lt s at h k m lt l e = omega (arith, rw e at (l .most))
 pub used-ne : (k j : ℕ) → rule k .lows ≡ 0 → 0 < rule j .lows → j ≡ k → ⊥
 used-ne k j z u e = omega (arith, rw e at u)
 
--- a number that is at least a, and none of the four from a on
+-- a number that is at least a, and is none of the four from a on
 pub past-four : (k a : ℕ) → a ≤ k → (k ≡ a → ⊥) → (k ≡ a + 1 → ⊥) → (k ≡ a + 2 → ⊥) → (k ≡ a + 3 → ⊥) → a + 4 ≤ k
 past-four k a h e f g i = omega arith

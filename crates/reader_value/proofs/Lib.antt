@@ -1,2 +1,2 @@
--- laws of what is shown of a head
+-- laws of the value on a head
 pub mod Laws

@@ -1,4 +1,4 @@
--- where a scanned token stands
+-- where a scanned token is
 pub mod Places
--- how `scanAt` goes, as the code takes it
+-- the steps of `scanAt`, as the code takes them
 pub mod Steps

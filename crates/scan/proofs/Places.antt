@@ -1,7 +1,8 @@
--- Where a token that was scanned stands.
+-- Where a scanned token is.
 --
--- In order: behind its header and in its region (`scan-within`); what was emitted at an offset is read there (`scanAt-emit`), and what is
--- read at an offset is what would be emitted there, its body the bytes from `first` to `end` (`emit-scanAt`); an item reads as a value too (`scanAt-item`).
+-- In order: after its header and in its region (`scan-within`); what was emitted at an offset is read there
+-- (`scanAt-emit`), and what is read at an offset is what would be emitted there, with the bytes from `first` to `end`
+-- as its body (`emit-scanAt`); an item also reads as a value (`scanAt-item`).
 use mathlib.Core.Path.{_≡_, refl, sym, ap, _∙_}
 use Prim.Native.Nat.{ℕ, suc, _+_, _-_, _≤_, _<_}
 use mathlib.Core.Bool.{Bool, true, false}
@@ -21,7 +22,7 @@ use Rattle.token.proofs.Ends.{Left, scan-left, scan-item, item-pending}
 use Rattle.scan.specs.Answers.{headOf, scanAt}
 use Rattle.scan.specs.declared.Head.{Head}
 
--- a head of the region s, scanned at `at`: where it stands, and that its kind allows its number
+-- a head scanned at `at` of the region s: its offsets, and that its kind allows its number
 pub record Within (s : List ℕ) (at : ℕ) (h : Head) : Type 0 where
   pub numbers : at < h .first
   pub body : h .first ≤ h .end
@@ -80,7 +81,7 @@ headAt at t = record {
   end = at + length (emit t);
 }
 
--- the head of a token at `at`, by what is left behind it
+-- the head of a token at `at`, by the bytes left after it
 head-seen : (at len : ℕ) (t : Token) (rest : List ℕ) → len ≡ at + length (emit t) + length rest → headOf len (got t rest) ≡ ok (headAt at t)
 unfolding headOf
 head-seen at len t rest h =
@@ -94,7 +95,7 @@ scanAt-emit inner p t s f =
     rw (drop-append-seam p (emit t ++ s), scan-emit inner (length p) t s f)
     (head-seen (length p) (length (p ++ (emit t ++ s))) t s (simp length-append (omega arith)))
 
--- what a head that was read at `at` tells
+-- what a head that was read at `at` says
 pub record Read (inner : Bool) (s : List ℕ) (at : ℕ) (h : Head) : Type 0 where
   pub token : Token
   pub rest : List ℕ
@@ -103,7 +104,7 @@ pub record Read (inner : Bool) (s : List ℕ) (at : ℕ) (h : Head) : Type 0 whe
   pub head : h ≡ headAt at token
   pub body : take (h .end - h .first) (drop (h .first) s) ≡ token .body
 
--- the body's bytes, where a token stands
+-- the body's bytes, at a token's offset
 pub body-read : (s rest : List ℕ) (at : ℕ) (t : Token) → drop at s ≡ emit t ++ rest
     → take (headAt at t .end - headAt at t .first) (drop (headAt at t .first) s) ≡ t .body
 body-read s rest at t same =
@@ -128,7 +129,7 @@ emit-scanAt inner s at h b e = by-cases (scan inner at (drop at s)) refl e
 
 -- ---- items
 
--- an item reads as a value too, and has no items itself
+-- an item also reads as a value, and has no items itself
 pub record Item (s : List ℕ) (at : ℕ) (h : Head) : Type 0 where
   pub value : ok h ≡ scanAt false s at
   pub none : h .items ≡ 0

@@ -1,7 +1,7 @@
--- How `scanAt` goes, as the code takes it: by offsets, with the bytes left counted.
+-- The steps of `scanAt`, as the code takes them: by offsets, with the bytes left counted.
 --
--- In order: the bytes left behind a number; `headOf` under a guard, behind a number, of a body; n; what was read so far; the whole; behind n; of
--- an immediate.
+-- In order: the bytes left after a number; `headOf` under a guard, after a number, for a body; n; what was read so far;
+-- the whole; after n; an immediate.
 use mathlib.Core.Path.{_≡_, refl, ap, _∙_}
 use Prim.Native.Nat.{ℕ, suc, _+_, _-_, _*_, _/_, _%_, _≤_, _<_}
 use mathlib.Core.Bool.{Bool, true, false, not, _&&_}
@@ -110,7 +110,7 @@ ruled-row k e = rw e (rule-row k)
 abbrev head : ℕ → ℕ → ℕ → ℕ → ℕ → Head
 head k n items first end = record { kind = k; n = n; items = items; first = first; end = end }
 
--- behind the number n of a token with the header at `at`: what remains makes the whole
+-- after the number n of a token with the header at `at`: what remains yields the whole
 pub record Number (inner : Bool) (s : List ℕ) (at k : ℕ) (r : Rule) (n left : ℕ) : Type 0 where
   pub row : Row r
   pub most : n ≤ r .most
@@ -121,7 +121,7 @@ abbrev pub AfterNumber : Bool → List ℕ → ℕ → Rule → GetResult → Ty
 AfterNumber inner s at r (Ok n left) = Number inner s at (getD s at 0 / 16) r n left
 AfterNumber inner s at r (Err e) = error (fault (numberOf e) at) ≡ scanAt inner s at
 
--- behind the second number a
+-- after the second number a
 pub record Second (inner : Bool) (s : List ℕ) (at k n a left : ℕ) : Type 0 where
   pub short : left ≤ length s
   pub whole : pick (leb a left) (ok (head k n a (length s - left) (length s - left))) (error (fault TRUNC at)) ≡ scanAt inner s at
@@ -187,7 +187,7 @@ module _ (inner : Bool) (s : List ℕ) (at : ℕ) (there : at < length s) where
       pub scan-number : inner && not i ≡ false → (g x : GetResult) → numbers.answerOf g ≡ numbered low (r .most) (drop (at + 1) s) → g ≡ x → AfterNumber inner s at r x
       scan-number h g x e is = after h x (rw is at e)
 
--- ---- behind n
+-- ---- after n
 
 module _ {inner : Bool} {s : List ℕ} {at k : ℕ} {r : Rule} {n left : ℕ} (b : Number inner s at k r n left) where
   -- items that a second number counts

@@ -1,7 +1,7 @@
 -- Words counted by blocks.
 --
--- In order: the rank of a greater word, of a word past all, and behind one more word; what a count tells of the rank; one more block counted,
--- and one more word; a whole table.
+-- In order: the rank of a greater word, of a word past all others, and with one more word; what a count says about the
+-- rank; one more block counted, and one more word; a whole table.
 use mathlib.Core.Path.{_≡_, refl, sym, ap, _∙_}
 use mathlib.Core.List.{List, [], _∷_, _++_}
 use Prim.Native.Nat.{ℕ, zero, suc, _+_, _*_, _/_, _^_, _≤_, _<_}
@@ -31,7 +31,7 @@ unfolding rank
 rank-snoc x y [] h = rw (le-ltb y x h)
 rank-snoc x y (z ∷ t) h = rw (rank-snoc x y t h)
 
--- ---- what a count tells of the rank
+-- ---- what a count says about the rank
 
 module _ (blocks t : List ℕ) (x : ℕ) (up : Rising t) (counted : Counted blocks t) where
   pub low-block : x / 4096 < length blocks → getD blocks (x / 4096) 0 ≤ rank x t
@@ -75,7 +75,7 @@ counted-snoc blocks t x h counted b l = counted b l ∙ sym (rank-snoc (b * BLOC
 
 -- ---- a whole table
 
--- the first i words are counted, in `known` of n blocks: those that begin at most at the last of these words
+-- the first i words are counted, in `known` of n blocks: those that begin at the last of these words or before
 pub record Counting (t blocks : List ℕ) (n known i : ℕ) : Type 0 where
   pub fits : i ≤ length t
   pub long : length blocks ≡ n

@@ -11,7 +11,7 @@ use Rattle.prelude.specs.Search.{rank, Rising}
 use Rattle.prelude.proofs.Tests.{split}
 use Rattle.prelude.proofs.Searches.{rank-after, rank-until}
 
--- what one word tells of the rank
+-- what one word says about the rank
 module _ (x : ℕ) (t : List ℕ) (i : ℕ) (up : Rising t) where
   pub is-past : i < length t → getD t i 0 < x → _≡_ {A = ℕ} 1 (pick (ltb i (rank x t)) 1 0)
   is-past h l = let past = rank-after x t up i h l in rw (lt-ltb i (rank x t) (omega arith))

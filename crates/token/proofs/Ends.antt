@@ -1,7 +1,7 @@
--- What `scan` leaves of the bytes, in any form of the numbers, not the shortest alone.
+-- What `scan` leaves of the bytes, for numbers in any form, not only the shortest.
 --
--- In order: the rest behind a number is an end of the bytes; the body and the rest behind a token are shorter than them; an item reads as
--- a value too, and has no items itself.
+-- In order: the rest after a number is an end of the bytes; the body and the rest after a token are shorter than the
+-- bytes; an item also reads as a value, and has no items itself.
 use mathlib.Core.Path.{_≡_, refl, ap, _∙_}
 use Prim.Native.Nat.{ℕ, suc, _+_, _-_, _/_, _≤_, _<_}
 use mathlib.Core.Bool.{Bool, true, false, true≢false}
@@ -21,7 +21,7 @@ use Rattle.token.specs.Token.{Token}
 use Rattle.token.specs.Scan.{getIf, number, scanKind, scan}
 use Rattle.token.proofs.Laws.{body-by}
 
--- ---- the rest behind a number
+-- ---- the rest after a number
 
 pub record End (s rest : List ℕ) : Type 0 where
   pub short : length rest ≤ length s

@@ -1,7 +1,8 @@
 -- `scan` and `emit`, one after the other: each law is one proof over all kinds.
 --
--- In order: a number that may be there; the body; the bytes of a token; what is emitted is scanned back, whatever follows (`scan-emit`); what is scanned is,
--- in shortest form, what would be emitted (`emit-scan`); a fault is told at the header (`scan-place`).
+-- In order: a number that may be there; the body; the bytes of a token; what is emitted is scanned back, whatever
+-- follows (`scan-emit`); what is scanned is, in shortest form, what would be emitted (`emit-scan`); a fault is placed
+-- at the header (`scan-place`).
 use mathlib.Core.Path.{_≡_, refl, sym, ap, _∙_, subst}
 use Prim.Native.Nat.{ℕ, zero, suc, _+_, _-_, _*_, _/_, _%_, _^_, _≤_, _<_, min, zero-le}
 use mathlib.Core.Bool.{Bool, true, false, not, _&&_, _||_, true≢false}
@@ -67,7 +68,7 @@ low-number n =
     (λ small. let e : min n 15 ≡ n = omega arith in rw e)
     (λ large. let e : min n 15 ≡ 15 = omega arith in rw (e, le-leb 15 n large))
 
--- n is a low nibble and the number v behind it: where it is not 15, no number follows, and v is 0
+-- n is a low nibble plus the number v after it: if the nibble is not 15, no number follows, and v is 0
 record Nibble (low v : ℕ) : Type 0 where
   nibble : min (low + v) 15 ≡ low
   wanted : leb 15 (low + v) ≡ leb 15 low
@@ -136,7 +137,7 @@ scan-emit inner at t s f =
 
 -- ---- what is scanned would be emitted
 
--- what a token that was scanned tells of the bytes s and the rest
+-- what a token that was scanned says about the bytes s and the rest
 pub record Scanned (inner : Bool) (s : List ℕ) (t : Token) (rest : List ℕ) : Type 0 where
   pub same : s ≡ emit t ++ rest
   pub fits : Fits inner t rest
@@ -164,9 +165,9 @@ emit-scan inner at (h ∷ s) t rest b e =
       };
     })))))))))
 
--- ---- where a fault is told
+-- ---- the place of a fault
 
--- a fault of r is told at the place p
+-- a fault of r has the place p
 abbrev Placed : {A : Type 0} → ℕ → Res Fault A → Type 0
 Placed p (got a s) = Unit {0}
 Placed p (bad e) = e .place ≡ p

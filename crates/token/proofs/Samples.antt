@@ -46,8 +46,8 @@ scans : map (λ t. alone (emit t ++ (0x10 ∷ []))) tokens ≡ map (λ t. got t 
 unfolding tokens alone emit putIf put rule scan scanKind number body getIf get guard then orError _>>_ _>>=_
 scans = refl
 
--- no header; a reserved kind and low; a number cut, too long, overlong; n over its bound, of kinds 1 and 12, and over 2 ^ 64 - 1; a body, a
--- count and a pair count over the bytes left
+-- no header; a reserved kind and a reserved low nibble; a number incomplete, too long, overlong; n over its bound, for
+-- kinds 1 and 12, and over 2 ^ 64 - 1; a body, a count and a pair count over the bytes left
 refuses : map alone
     ([]
     ∷ (0x90 ∷ [])

@@ -1,7 +1,8 @@
--- `isText` decides the grammar: it is true of every text (`text-isText`), and what it is true of is a text (`isText-text`).
+-- `isText` decides the grammar: it is true for every text (`text-isText`), and whatever it is true for is a text
+-- (`isText-text`).
 --
--- In order: the first ranges of the forms rise, so that a byte begins one form at most; a text passes, character by character;
--- what passes fills the ranges due, and then is a text.
+-- In order: the first ranges of the forms rise, so that a byte begins at most one form; a text passes, character by
+-- character; what passes fills the ranges due, and then is a text.
 use mathlib.Core.Path.{_≡_, refl, sym, ap, _∙_}
 use mathlib.Core.Bool.{true, false, false≢true}
 use mathlib.Core.List.{List, [], _∷_, _++_, List·Memᴰ, List·Memᴰ·head, List·Memᴰ·tail}

@@ -1,6 +1,6 @@
 -- `isText` decides the grammar
 pub mod Laws
--- how the test goes on, as the code takes it
+-- the steps of the test, as the code takes them
 mod Steps
 -- `isText` on examples
 mod Samples

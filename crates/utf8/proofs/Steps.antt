@@ -1,4 +1,4 @@
--- How the test goes on, as the code takes it.
+-- The steps of the test, as the code takes them.
 --
 -- In order: a first byte, row by row of the table; a byte at a state; the bytes from an index on.
 use mathlib.Core.Path.{_≡_, refl, sym, _∙_}

@@ -1,8 +1,8 @@
 -- Paths and depths (document 01: "descent").
 --
--- In order: the greatest depth of some values; the depths as one pass reckons them; the targets of a value are starts of values before it; so
--- paths go back (`leads-earlier`, `path-inside`, `acyclic`), and the depth reckoned is that of the longest path (`depth-is`), from 1 to one more
--- than the value's number (`depth-pos`, `depth-le`).
+-- In order: the greatest depth of some values; the depths as one pass computes them; the targets of a value are starts
+-- of values before it; so paths go back (`leads-earlier`, `path-inside`, `acyclic`), and the computed depth is that of
+-- the longest path (`depth-is`), from 1 to one more than the value's number (`depth-pos`, `depth-le`).
 use mathlib.Core.Path.{_≡_, refl, sym, ap, _∙_}
 use mathlib.Core.Logic.{_⊎_, inl, inr}
 use mathlib.Core.Bool.{true, false≢true, or-comm}
@@ -22,7 +22,7 @@ use Rattle.values.specs.Paths.{targetsOf, Leads, Path, end, step, Depth,
 use Rattle.values.proofs.Members.{each-imp, each-among, among-take}
 use Rattle.values.proofs.Laws.{length-starts, rising-starts, targets-of-has-targets}
 
--- ---- the greatest depth of the values that f numbers
+-- ---- the greatest depth of the values with the numbers that f gives
 
 module _ (f : ℕ → ℕ) where
   deepest-ge : (ds : List ℕ) (x : ℕ) (xs : List ℕ) → among x xs ≡ true → getD ds (f x) 0 ≤ deepest ds (map f xs)
@@ -40,7 +40,7 @@ module _ (f : ℕ → ℕ) where
       (λ l. elim (deepest-by ds xs) [ inl z ↦ inl (omega arith) | inr b ↦ inr (b .0, rw (b .1, or-comm (eqb (b .0) y) true), omega arith) ])
       (λ l. inr (y, rw (eq-eqb y y refl), omega arith))
 
-  -- it turns on the depths of those alone
+  -- it depends on the depths of those alone
   deepest-same : (n : ℕ) (ds es xs : List ℕ) → Each (λ x. f x < n) xs → ((j : ℕ) → j < n → getD ds j 0 ≡ getD es j 0)
       → deepest ds (map f xs) ≡ deepest es (map f xs)
   unfolding deepest
@@ -64,7 +64,7 @@ module _ (ss : List ℕ) where
       let d : List ℕ = suc (deepest ds (map (λ x. rank x ss) os)) ∷ [] in
       depthsFrom-keeps (ds ++ d) more i (omega (arith, length-append ds d)) ∙ List·getD-append ds d 0 i h
 
-  -- where the targets of a value are before it
+  -- if the targets of a value are before it
   depthsFrom-at : (ds : List ℕ) (more : List (List ℕ)) (k : ℕ) → k < length more → Each (λ x. rank x ss < length ds + k) (getD more k [])
       → getD (depthsFrom ss ds more) (length ds + k) 0 ≡ suc (deepest (depthsFrom ss ds more) (map (λ x. rank x ss) (getD more k [])))
   unfolding depthsFrom

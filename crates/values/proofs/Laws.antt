@@ -1,8 +1,8 @@
 -- The laws of values: their bytes, where they start, what each value and item has, and the targets.
 --
--- In order: the bytes of tokens and of values joined; the starts: of values joined, by number, rising, within the region; a value by its place: its
--- bytes, its start, and that the values after it start where it has ended; an item has no items, and heads and items may stand where they stand;
--- references and pointers of values joined, and their targets.
+-- In order: the bytes of tokens and of values joined; the starts: of values joined, by number, rising, within the
+-- region; a value by its place: its bytes, its start, and that the values after it start where it has ended; an item
+-- has no items, and heads and items fit where they are; references and pointers of values joined, and their targets.
 use mathlib.Core.Path.{_≡_, refl, ap}
 use mathlib.Core.Logic.{_↔_}
 use mathlib.Core.Bool.{true, false}
@@ -130,7 +130,7 @@ value-at (v ∷ vs) (suc i) h =
     let p = value-at vs i (omega arith) in
     record { before = v ∷ p .before; value = p .value; after = p .after; same = ap (λ l. v ∷ l) (p .same); number = ap suc (p .number) }
 
--- ---- heads and items may stand where they stand
+-- ---- heads and items fit where they are
 
 pub immediate-counts : (t : Token) → Item t
     → (counted (rule (t .kind)) (t .n) (t .args) ≡ 0) × (pending (rule (t .kind)) (t .n) (t .args) ≡ 0)

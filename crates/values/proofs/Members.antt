@@ -1,7 +1,7 @@
 -- Members of lists: `Each` and `among`.
 --
--- In order: `Each` of lists joined, and of what follows; what each has, one that is among them has; one that is among a list is among a longer one;
--- the index of one that is among the first of a list that rises.
+-- In order: `Each` of lists joined, and of what follows from it; what holds for each holds for one that is among them;
+-- what is among a list is among a longer one; the index of what is among the first of a rising list.
 use mathlib.Core.Path.{_≡_, sym, _∙_}
 use mathlib.Core.Logic.{_↔_}
 use mathlib.Core.Bool.{true, false≢true, or-comm}

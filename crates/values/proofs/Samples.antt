@@ -76,7 +76,7 @@ formed =
     }
     & tt
 
--- a token that is no reference or pointer
+-- a token that is neither a reference nor a pointer
 none : {X : Type 0} (k : ℕ) → k < 14 → 14 ≤ k → X
 none k h l = absurd (omega arith)
 
@@ -117,7 +117,7 @@ unfolding region bytes emit putIf rule among
 to-itself vs entry w =
     no-reading (value (token 6 1 0 []) (pointer 0 ∷ []) ∷ []) 0x01 (pointing 0 (omega arith) & tt) (λ b. false≢true (b .0 .1 .0 (omega arith) .1)) vs entry w
 
--- an array that points below 0, behind a value that starts at 0
+-- an array that points below 0, after a value that starts at 0
 below-file : (vs : List Value) (entry : ℕ) → WellFormed (0x01 ∷ 0x61 ∷ 0xf5 ∷ 0x01 ∷ []) vs entry → ⊥
 unfolding region bytes emit putIf rule among
 below-file vs entry w =

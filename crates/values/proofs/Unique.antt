@@ -1,7 +1,8 @@
 -- A file has at most one reading.
 --
--- In order: equal bytes begin with the same token, since what is emitted is scanned back (`first-same`); items, as many on both sides, with any bytes
--- after them (`items-same`); values (`values-same`); the delta byte (`last-same`); files (`one-reading`).
+-- In order: equal bytes begin with the same token, since what is emitted is scanned back (`first-same`); items, as many
+-- on both sides, with any bytes after them (`items-same`); values (`values-same`); the delta byte (`last-same`); files
+-- (`one-reading`).
 use mathlib.Core.Path.{_≡_, refl, sym, ap, _∙_}
 use mathlib.Core.Bool.{Bool, true, false}
 use mathlib.Core.List.{List, [], _∷_, _++_, append-assoc}

@@ -11,7 +11,7 @@ use Rattle.checker.proofs.Checks.{listed-fits, listed-rising, check-err
 use Rattle.checker.proofs.check_in.Statement.{statement}
 use Rattle.checker.proofs.check_in.Tie as tie
 
--- the place behind the walk
+-- the place after the walk
 abbrev walked : tie.After-count → tie.After-list-starts
 walked k = k .before .before .before .before
 

@@ -1,4 +1,4 @@
--- `checker_item::scan_item` meets its contract: an immediate without fault by the laws of `scanAt`, and all else by `scan`.
+-- `checker_item::scan_item` meets its contract: an immediate without a fault by the laws of `scanAt`, all else by `scan`.
 use mathlib.Core.Path.{_≡_, sym, _∙_}
 use mathlib.Core.Bool.{true}
 use Prim.Native.Nat.{ℕ, _+_, _*_, _%_, _^_, _≤_, _<_}
@@ -26,7 +26,7 @@ start c = ruled c .before .before .before .before
 abbrev rule : tie.Else2 → Rule
 rule c = ruled c .rule-of .result
 
--- the low nibble is in use, and the kind is an immediate's
+-- the low nibble is in use, and the kind is that of an immediate
 used : (c : tie.Else2) → let a = start c .args in getD (a .region .now) (a .at) 0 % 16 < rule c .lows
 used c = ltb-true _ _ (and-l _ (c .before .before .is-immediate .result) (not-false _ (c .if2 .left)))
 
@@ -36,7 +36,7 @@ flat c = let a = start c .args in and-r (ltb (getD (a .region .now) (a .at) 0 % 
 none : (c : tie.Else2) → None (rule c)
 none c = immediate-none (rule c) (sym (c .before .before .is-immediate .ensures) ∙ flat c)
 
--- ---- behind n
+-- ---- after n
 
 abbrev head : tie.After-known-told → tie.Else2
 head w = w .before .before .before .before .before
@@ -57,7 +57,7 @@ number w =
 left-lt : (w : tie.After-known-told) → left w < 2 ^ 63
 left-lt w = omega (arith, number w .short, start (head w) .good .0 .1)
 
--- what has room in the bytes left
+-- what fits into the bytes left
 abbrev after : tie.Else4 → tie.After-known-told
 after c = c .before .before .before .before
 

@@ -1,4 +1,4 @@
--- `checker_value::check_items` meets its contract. The invariant: what remains comes to the same as all of the items.
+-- `checker_value::check_items` meets its contract. The invariant: the items left yield the same as all of the items.
 use mathlib.Core.Path.{_≡_, refl, _∙_}
 use mathlib.Core.List.{List}
 use Prim.Native.Nat.{ℕ, _≤_}

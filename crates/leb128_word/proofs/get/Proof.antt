@@ -1,4 +1,4 @@
--- `leb128_word::get` meets its contract: one byte, two, and all others as `get_wide` reads them.
+-- `leb128_word::get` meets its contract: one byte, two, and all others by `get_wide`.
 use borrow.Author.Needs.{needs}
 use Rattle.leb128_word.proofs.Short.{get-one, get-two}
 use Rattle.leb128_word.proofs.get.Statement.{statement}

@@ -1,4 +1,4 @@
--- `leb128_word::get_wide` meets its contract: several bytes at once, and all others as `leb128::get` reads them.
+-- `leb128_word::get_wide` meets its contract: several bytes at once, and all others by `leb128::get`.
 use native.Mathlib.Omega.{arith}
 use borrow.Author.Needs.{needs}
 use Prim.Native.Nat.{_+_}

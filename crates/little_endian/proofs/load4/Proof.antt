@@ -1,4 +1,4 @@
--- `little_endian::load4` meets its contract: a slice that is too short, and the four bytes of another.
+-- `little_endian::load4` meets its contract: a slice that is too short, and four bytes.
 use native.Mathlib.Omega.{arith}
 use borrow.Author.Needs.{needs}
 use Rattle.little_endian.proofs.Laws.{load-short, load-listed}

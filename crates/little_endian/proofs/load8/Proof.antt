@@ -1,4 +1,4 @@
--- `little_endian::load8` meets its contract: a slice that is too short, and the eight bytes of another, four and four.
+-- `little_endian::load8` meets its contract: a slice that is too short, and eight bytes, four and four.
 use mathlib.Core.Path.{_≡_}
 use mathlib.Core.List.{List, [], _∷_}
 use Prim.Native.Nat.{ℕ, _+_, _*_, _^_}
@@ -9,7 +9,7 @@ use Rattle.little_endian.proofs.Laws.{load-short, load-listed}
 use Rattle.little_endian.proofs.load8.Statement.{statement}
 use Rattle.little_endian.proofs.load8.Tie as tie
 
--- four bytes, and then those that hold t
+-- four bytes, followed by those that hold t
 value-four : (a b c d : ℕ) (s : List ℕ) {r t : ℕ} → r ≡ fromLittle (a ∷ b ∷ c ∷ d ∷ []) → t ≡ fromLittle s
     → r + 2 ^ 32 * t ≡ fromLittle (a ∷ b ∷ c ∷ d ∷ s)
 unfolding fromLittle

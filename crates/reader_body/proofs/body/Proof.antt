@@ -1,4 +1,4 @@
--- `reader_body::body` meets its contract: the part that was told is in the file.
+-- `reader_body::body` meets its contract: the part that `body_place` names is in the file.
 use native.Mathlib.Omega.{arith}
 use borrow.Author.Needs.{needs}
 use Rattle.reader_body.proofs.Laws.{body-within, body-part, body-none}

@@ -1,4 +1,4 @@
--- `reader_body::body_place` meets its contract: the body of where following comes to.
+-- `reader_body::body_place` meets its contract: the body of the value that following reaches.
 use borrow.Author.Needs.{needs}
 use Rattle.reader_region.proofs.Laws.{in-region-same, in-region-then, in-region-failed}
 use Rattle.reader_follow.proofs.Laws.{followed-within}

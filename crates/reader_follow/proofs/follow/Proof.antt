@@ -1,4 +1,4 @@
--- `reader_follow::follow` meets its contract: the offset and the hops of where following comes to.
+-- `reader_follow::follow` meets its contract: offset and hops of what following reaches.
 use mathlib.Core.Path.{refl}
 use borrow.Author.Needs.{needs}
 use Rattle.reader_region.proofs.Laws.{in-region-then, in-region-failed}

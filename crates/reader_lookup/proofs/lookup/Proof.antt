@@ -1,4 +1,4 @@
--- `reader_lookup::lookup` meets its contract: what is made of the head, in the region.
+-- `reader_lookup::lookup` meets its contract: by the head, in the region.
 use borrow.Author.Needs.{needs}
 use Rattle.reader_region.proofs.Laws.{in-region-then, in-region-failed}
 use Rattle.reader_lookup.specs.Lookup.{lookupIn}

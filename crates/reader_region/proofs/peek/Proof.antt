@@ -1,4 +1,4 @@
--- `reader_region::peek` meets its contract: what it makes of the region.
+-- `reader_region::peek` meets its contract, in the region.
 use borrow.Author.Needs.{needs}
 use Rattle.reader_region.proofs.Laws.{length-region, in-region-ok, in-region-error}
 use Rattle.reader_region.proofs.peek.Statement.{statement}

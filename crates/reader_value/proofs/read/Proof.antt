@@ -1,4 +1,4 @@
--- `reader_value::read` meets its contract: what is shown of the head, in the region.
+-- `reader_value::read` meets its contract: the value on the head, in the region.
 use mathlib.Core.Path.{ap}
 use borrow.Author.Needs.{needs}
 use Rattle.prelude.specs.Answer.{ok}

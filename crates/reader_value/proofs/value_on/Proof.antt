@@ -1,4 +1,4 @@
--- `reader_value::value_on` meets its contract: a row of `rows` for each kind; numbers fit since the kind bounds them.
+-- `reader_value::value_on` meets its contract: a row of `valueRows` for each kind; numbers fit since the kind bounds them.
 use mathlib.Core.Path.{refl}
 use Prim.Native.Nat.{_^_}
 use native.Mathlib.Omega.{arith}

@@ -60,7 +60,7 @@ second c x is =
 abbrev alone : tie.After-has-room → tie.Else4
 alone c = c .before .before .before .before
 
--- what has room in the bytes left
+-- what fits into the bytes left
 room : (c : tie.Else7) → let w = alone (c .before) .before in let r = rule (read w) in size r (n w) + r .each * n w ≤ left w
 room c = le-of-flag _ (left (alone (c .before) .before)) (c .before .has-room .ensures) (not-false _ (c .if7 .left))
 

@@ -1,4 +1,4 @@
--- `scan_number::has_room` meets its contract: where n counts anything it is at most the bytes left, so nothing wraps.
+-- `scan_number::has_room` meets its contract: if n counts anything, it is at most the bytes left, so nothing wraps.
 use mathlib.Core.Path.{_≡_, refl}
 use mathlib.Core.Bool.{true, false, _&&_}
 use Prim.Native.Nat.{ℕ, _+_, _-_, _*_, _^_, _≤_, _<_, min}
@@ -35,7 +35,7 @@ module _ (r : Rule) (n left : ℕ) where
   room-need : leb need left ≡ leb (size r n + r .each * n) left
   room-need = rw need-is
 
-  -- where n counts anything, it is at most left
+  -- if n counts anything, it is at most `left`
   need-lt : Row r → n ≤ r .most → left < 2 ^ 63 → ltb 0 unit && ltb left n ≡ false → r .fixed + unit * n < 2 ^ 64
   need-lt row h l e =
       and-false (ltb 0 unit) (ltb left n) e

@@ -1,4 +1,4 @@
--- `scan_number::number` meets its contract: the low nibble alone, and with a number behind it.
+-- `scan_number::number` meets its contract: the low nibble alone, and with a number after it.
 use mathlib.Core.Path.{_≡_}
 use mathlib.Core.List.{List}
 use Prim.Native.Nat.{ℕ, _+_, _-_, _≤_, _<_}

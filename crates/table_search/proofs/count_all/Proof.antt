@@ -1,4 +1,4 @@
--- `table_search::count_all` meets its contract. The invariant: the words counted, and those still to count, come to the rank.
+-- `table_search::count_all` meets its contract. The invariant: the words counted and those still to count add up to the rank.
 use mathlib.Core.Path.{_≡_}
 use Prim.Native.Nat.{_+_, _-_}
 use lib.ListN.{length}

@@ -1,4 +1,4 @@
--- `twine_check::refusal` is safe: a name has its place in its ten bytes.
+-- `twine_check::refusal` is safe: a name fits into its ten bytes.
 use mathlib.Core.Path.{sym}
 use borrow.Author.Needs.{needs}
 use lib.Seq.{length-take-le}

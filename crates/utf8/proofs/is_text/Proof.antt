@@ -26,7 +26,7 @@ is-text-spec =
     (λ c. search needs)
     (λ c. search needs)
     (λ c κs. search needs)
-    -- a byte that cannot stand there
+    -- a byte that is not allowed there
     (λ c. search (text-bad, arith))
     (λ c. search needs)
     (λ c. search needs)

@@ -1,4 +1,4 @@
--- `utf8::next` meets its contract: a first byte, a byte that is due, a byte that cannot stand there.
+-- `utf8::next` meets its contract: a first byte, a byte that is due, a byte that is not allowed there.
 use native.Mathlib.Omega.{arith}
 use borrow.Author.Needs.{needs}
 use Rattle.utf8.proofs.Steps.{next-first, next-continuation, next-bad}

@@ -19,7 +19,7 @@ Inv-loop2 t x lo₀ size₀ lo size = (lo + size ≤ length t) × (1 ≤ size)
 abbrev μ-loop2 : tie.MeasureT-loop2
 μ-loop2 t x lo₀ size₀ lo size = size
 
--- as far as three quarters
+-- up to three quarters
 quarters-le : (q a b c : ℕ) → a ≤ 1 → b ≤ 1 → c ≤ 1 → q * (a + b + c) ≤ 3 * q
 quarters-le q a b c h i j = omega (arith, mul-le-mul {n₁ = q} {m₁ = a + b + c} {n₂ = q} {m₂ = 3} (omega arith) (omega arith))
 
