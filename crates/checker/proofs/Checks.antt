@@ -48,7 +48,8 @@ entered t count fits (Err f) (error g) reported = record { reported = cc; fits =
 pub listed-fits : (r : lists.ListResult) (t : List ℕ) (count : ℕ) → r ≡ lists-are.Ok count → Listed r t → count ≤ length t
 listed-fits r t count is l = rw is at l
 
-pub listed-rising : (r : lists.ListResult) (s t : List ℕ) (cap count : ℕ) → r ≡ lists-are.Ok count → listAnswer r t ≡ startsFrom s cap (between 0 []) → Rising (take count t)
+pub listed-rising : (r : lists.ListResult) (s t : List ℕ) (cap count : ℕ) → r ≡ lists-are.Ok count
+    → listAnswer r t ≡ startsFrom s cap (between 0 []) → Rising (take count t)
 listed-rising r s t cap count is reported = come s cap (take count t) (rw is at reported) .0
 
 module _ (file t : List ℕ) (cap : ℕ) (some : length file ≡ 0 → ⊥) (short : length file ≤ LIMIT) (r : lists.ListResult)
@@ -73,11 +74,13 @@ pub zeros-after : (t : List ℕ) (count : ℕ) → count ≤ length t
 zeros-after t count h =
     rw (length-part count t, drop-of-length-le (drop count t) {i = length t - count} (rw length-drop (omega arith)), append-nil, length-take-le count t h)
 
-pub check-left : (file t : List ℕ) (cap : ℕ) → length t ≡ cap → (q : CheckResult) → checkInAnswer q t ≡ checkIn file cap → (n : ℕ) → n ≡ keptWords q → keptWords q ≤ length t
+pub check-left : (file t : List ℕ) (cap : ℕ) → length t ≡ cap → (q : CheckResult)
+    → checkInAnswer q t ≡ checkIn file cap → (n : ℕ) → n ≡ keptWords q → keptWords q ≤ length t
     → (z : List ℕ) → z ≡ replicate (length (take (length t - n) (drop n t))) 0 → checked (checkAnswer q) (putMid n (length t - n) t z) ≡ checkOf file cap
 unfolding checkOf
 check-left file t cap long q reported n is fits z e = rw (e, is, zeros-after t (keptWords q) fits, ← reported, ← long) (by-cases q fits)
   where
-    by-cases : (q : CheckResult) → keptWords q ≤ length t → checked (checkAnswer q) (filled (length t) (take (keptWords q) t)) ≡ listed (length t) (checkInAnswer q t)
+    by-cases : (q : CheckResult) → keptWords q ≤ length t
+        → checked (checkAnswer q) (filled (length t) (take (keptWords q) t)) ≡ listed (length t) (checkInAnswer q t)
     by-cases (Ok count entry) fits = rw (length-take-le count t fits)
     by-cases (Err f) fits = rw sub-zero

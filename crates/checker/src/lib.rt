@@ -43,7 +43,8 @@ fn entry_at(starts: &[u32], p: usize, d: u8) -> CheckResult
 
 // Lists the starts of a file's values in the first words of the table, and finds its entry.
 fn check_in(file: &[u8], starts: &mut [u32]) -> CheckResult
-    ensures { λ r. ⌜ (checkInAnswer r (now (starts .exit)) ≡ checkIn (now (file .entry)) (length (now (starts .entry)))) × (keptWords r ≤ length (now (starts .exit))) ⌝ }
+    ensures { λ r. ⌜ (checkInAnswer r (now (starts .exit)) ≡ checkIn (now (file .entry)) (length (now (starts .entry))))
+        × (keptWords r ≤ length (now (starts .exit))) ⌝ }
 {
     let len = file.len();
     if len == 0 {

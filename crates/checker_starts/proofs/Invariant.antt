@@ -38,7 +38,8 @@ pub record Indexed (s t blocks : List ℕ) (at count : ℕ) : Type 0 where
 pub indexed-start : (s t blocks : List ℕ) → length s < length blocks * BLOCK → getD blocks 0 0 ≡ 0 → Indexed s t blocks 0 0
 indexed-start s t blocks h e = record { long = h; counted = counted-first blocks e }
 
-pub known-fits : (s t : List ℕ) (cap at count : ℕ) → TableInvariant s t cap at count → (blocks : List ℕ) → Indexed s t blocks at count → at / BLOCK + 1 ≤ length blocks
+pub known-fits : (s t : List ℕ) (cap at count : ℕ) → TableInvariant s t cap at count → (blocks : List ℕ)
+    → Indexed s t blocks at count → at / BLOCK + 1 ≤ length blocks
 known-fits s t cap at count a blocks i = omega (arith, a .going .inside, i .long)
 
 pub indexed-on : (s t u blocks after : List ℕ) (at end count n : ℕ) → Indexed s t blocks at count → length after ≡ length blocks

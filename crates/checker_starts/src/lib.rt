@@ -20,7 +20,8 @@ pub enum ListResult {
 // Lists the starts of a region's values in the first words of the table, and counts them by blocks of the region.
 fn walk(region: &[u8], starts: &mut [u32], blocks: &mut [u32]) -> ListResult
     requires { ⌜ (length (now region) ≤ LIMIT) × (length (now region) < length (now blocks) * BLOCK) × (getD (now blocks) 0 0 ≡ 0) ⌝ }
-    ensures { λ r. ⌜ (listAnswer r (now (starts .exit)) ≡ startsFrom (now (region .entry)) (length (now (starts .entry))) (between 0 [])) × (Listed r (now (starts .exit))) ⌝ }
+    ensures { λ r. ⌜ (listAnswer r (now (starts .exit)) ≡ startsFrom (now (region .entry)) (length (now (starts .entry))) (between 0 []))
+        × (Listed r (now (starts .exit))) ⌝ }
 {
     let mut at: usize = 0;
     let mut count: usize = 0;
@@ -53,7 +54,8 @@ fn walk(region: &[u8], starts: &mut [u32], blocks: &mut [u32]) -> ListResult
 // file, clearing the large array would take longer than the walk.
 pub fn list_starts(region: &[u8], starts: &mut [u32]) -> ListResult
     requires { ⌜ length (now region) < LIMIT ⌝ }
-    ensures { λ r. ⌜ (listAnswer r (now (starts .exit)) ≡ startsFrom (now (region .entry)) (length (now (starts .entry))) (between 0 [])) × (Listed r (now (starts .exit))) ⌝ }
+    ensures { λ r. ⌜ (listAnswer r (now (starts .exit)) ≡ startsFrom (now (region .entry)) (length (now (starts .entry))) (between 0 []))
+        × (Listed r (now (starts .exit))) ⌝ }
 {
     if region.len() < table::LONG {
         let mut few = [0u32; table::FEW];

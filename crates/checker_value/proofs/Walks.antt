@@ -86,7 +86,8 @@ invariant-begun s cap = record {
 }
 
 -- a list below m, with one more word below m
-pub below-snoc : (xs : List ℕ) (x m : ℕ) → ((k : ℕ) → k < length xs → getD xs k 0 < m) → x < m → (k : ℕ) → k < length (xs ++ (x ∷ [])) → getD (xs ++ (x ∷ [])) k 0 < m
+pub below-snoc : (xs : List ℕ) (x m : ℕ) → ((k : ℕ) → k < length xs → getD xs k 0 < m) → x < m → (k : ℕ)
+    → k < length (xs ++ (x ∷ [])) → getD (xs ++ (x ∷ [])) k 0 < m
 below-snoc xs x m h l k b =
     split k (length xs)
     (λ lt. rw (List·getD-append xs (x ∷ []) 0 k lt) (h k lt))

@@ -14,8 +14,10 @@ ghost use Rattle.depths.specs.Depths.{deepened, depthsOf};
 
 // Computes the depths of all values into the first words of the table, with the blocks as an index of their starts.
 fn depths_to_by(region: &[u8], starts: &[u32], blocks: &mut [u32], depths: &mut [u32])
-    requires { ⌜ (length (now starts) ≤ length (now depths)) × (length (now region) ≤ LIMIT) × (Starts (now region) (now starts)) × (Below (length (now blocks) * BLOCK) (now starts)) ⌝ }
-    ensures { λ _. ⌜ take (length (now (starts .entry))) (now (depths .exit)) ≡ depthsTo (now (region .entry)) (now (starts .entry)) (length (now (starts .entry))) ⌝ }
+    requires { ⌜ (length (now starts) ≤ length (now depths)) × (length (now region) ≤ LIMIT)
+        × (Starts (now region) (now starts)) × (Below (length (now blocks) * BLOCK) (now starts)) ⌝ }
+    ensures { λ _. ⌜ take (length (now (starts .entry))) (now (depths .exit))
+        ≡ depthsTo (now (region .entry)) (now (starts .entry)) (length (now (starts .entry))) ⌝ }
 {
     let known = table::index(starts, blocks);
     let mut i: usize = 0;
@@ -29,7 +31,8 @@ fn depths_to_by(region: &[u8], starts: &[u32], blocks: &mut [u32], depths: &mut 
 // `checker_starts::list_starts`.
 fn depths_to(region: &[u8], starts: &[u32], depths: &mut [u32])
     requires { ⌜ (length (now starts) ≤ length (now depths)) × (length (now region) ≤ LIMIT) × (Starts (now region) (now starts)) ⌝ }
-    ensures { λ _. ⌜ take (length (now (starts .entry))) (now (depths .exit)) ≡ depthsTo (now (region .entry)) (now (starts .entry)) (length (now (starts .entry))) ⌝ }
+    ensures { λ _. ⌜ take (length (now (starts .entry))) (now (depths .exit))
+        ≡ depthsTo (now (region .entry)) (now (starts .entry)) (length (now (starts .entry))) ⌝ }
 {
     if region.len() < table::LONG {
         let mut few = [0u32; table::FEW];
@@ -46,7 +49,8 @@ fn depths_to(region: &[u8], starts: &[u32], depths: &mut [u32])
 // errors come first; then FULL, if the second table has fewer words than the file has values, at the start of the first
 // value without a word.
 pub fn depths(file: &[u8], starts: &mut [u32], depths: &mut [u32]) -> CheckResult
-    ensures { λ r. ⌜ deepened (checkAnswer r) (now (starts .exit)) (now (depths .exit)) ≡ depthsOf (now (file .entry)) (length (now (starts .entry))) (length (now (depths .entry))) ⌝ }
+    ensures { λ r. ⌜ deepened (checkAnswer r) (now (starts .exit)) (now (depths .exit))
+        ≡ depthsOf (now (file .entry)) (length (now (starts .entry))) (length (now (depths .entry))) ⌝ }
 {
     match checker::check(file, starts) {
         CheckResult::Ok { count, entry } => {

@@ -78,7 +78,8 @@ fn end_of(len: usize, starts: &[u32], i: usize) -> usize
 
 // The depth of value number i; the first i words of the table hold the depths of the values before it.
 pub fn depth_at(region: &[u8], starts: &[u32], blocks: &[u32], depths: &[u32], i: usize) -> u32
-    requires { ⌜ (i < length (now starts)) × (i ≤ length (now depths)) × (length (now region) ≤ LIMIT) × (Starts (now region) (now starts)) × (Counted (now blocks) (now starts)) × (take i (now depths) ≡ depthsTo (now region) (now starts) i) ⌝ }
+    requires { ⌜ (i < length (now starts)) × (i ≤ length (now depths)) × (length (now region) ≤ LIMIT) × (Starts (now region) (now starts))
+        × (Counted (now blocks) (now starts)) × (take i (now depths) ≡ depthsTo (now region) (now starts) i) ⌝ }
     ensures { λ r. ⌜ r ≡ depthAt (now (region .entry)) (now (starts .entry)) (take i (now (depths .entry))) i ⌝ }
 {
     let start = starts[i] as usize;

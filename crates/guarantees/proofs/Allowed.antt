@@ -43,7 +43,10 @@ allowed-request (ends e) a = search arith
 
 pub allowed-given : (c : Call) → Given c → Clear (addedBy (requestOf c)) → AllowedPart (addedBy (requestOf c))
 unfolding formOf
-allowed-given c g clear = record { allowed = allowed-request (requestOf c) (rw (move-request c 0) at (allowed-move c 0 g (omega arith))); text = λ four. isText-text _ (clear four) }
+allowed-given c g clear = record {
+  allowed = allowed-request (requestOf c) (rw (move-request c 0) at (allowed-move c 0 g (omega arith)));
+  text = λ four. isText-text _ (clear four);
+}
 
 pub invariant-given : (cs : List Call) → Each Given cs → (n m : ℕ) → ModelInvariant AllowedPart (modelRun cs emptyModel n m .model)
 invariant-given cs g n m = invariant-run AllowedPart cs (each-imp Given _ allowed-given cs g) n m

@@ -41,7 +41,8 @@ module _ (s : Writer) (out table : List ℕ) (P : Result → Type 0) where
   unfolding closeAt
   close-by x near far =
       pick-elim (λ r. r .answer ≡ ok tt → P r) (leb (s .written - x - 1) 255)
-      (λ b e. settled-ok (refusalOfDelta x s out table) (writeDelta (s .written - x - 1) s out table) e (λ j. near (leb-true _ _ b) (delta-inv x s out table j)))
+      (λ b e. settled-ok (refusalOfDelta x s out table) (writeDelta (s .written - x - 1) s out table) e
+      (λ j. near (leb-true _ _ b) (delta-inv x s out table j)))
       (λ b e. settled-ok (refusalOf true (pointerTo x s) x s out table) (writePointerDelta (pointerTo x s) s out table) e (λ j.
       far (leb-false _ _ b) (refusalOf-inv _ _ _ _ _ _ j)))
 

@@ -68,7 +68,8 @@ module _ (cs more : List Call) (e : ℕ) (out table : List ℕ) where
     answered =
         let a = modelRun cs emptyModel n m .answers in
         sym (getD-at a (modelAnswer (ends e) b n m) _ (error 0) (length cs) (length-answers cs emptyModel n m))
-        ∙ ap (λ l. getD l (length cs) (error 0)) (sym (history all out table .0 ∙ ap (λ (k : ModelRan). k .answers) (modelRun-append cs (close e ∷ more) emptyModel n m)))
+        ∙ ap (λ l. getD l (length cs) (error 0))
+        (sym (history all out table .0 ∙ ap (λ (k : ModelRan). k .answers) (modelRun-append cs (close e ∷ more) emptyModel n m)))
         ∙ accepted
 
     ended : modelRun all emptyModel n m .model ≡ modelAfter (ends e) b
@@ -85,4 +86,5 @@ module _ (cs more : List Call) (e : ℕ) (out table : List ℕ) where
     closed-after =
         let a = modelRun cs emptyModel n m .answers in
         let same = history all out table .0 ∙ ap (λ (k : ModelRan). k .answers) (modelRun-append cs (close e ∷ more) emptyModel n m) in
-        rw (same, answered, ← length-answers cs emptyModel n m, drop-append-add a (ok tt ∷ modelRun more (modelAfter (ends e) b) n m .answers) 1) (ended-answers e b n m more)
+        rw (same, answered, ← length-answers cs emptyModel n m, drop-append-add a (ok tt ∷ modelRun more (modelAfter (ends e) b) n m .answers) 1)
+        (ended-answers e b n m more)

@@ -101,7 +101,8 @@ module _ (ss ds : List ℕ) where
         by-cases true f = scanAt-item (p ++ (emit t ++ rest)) (length p) (headAt (length p) t) (sym (scanAt-emit true p t rest f)) .value
 
     -- the items of a value
-    items-deep : (done p : List ℕ) (ts : List Token) (rest : List ℕ) (deep : ℕ) → Each Item ts → HasTargets done (length p) ts → end ≡ length p + length (bytes ts)
+    items-deep : (done p : List ℕ) (ts : List Token) (rest : List ℕ) (deep : ℕ) → Each Item ts
+        → HasTargets done (length p) ts → end ≡ length p + length (bytes ts)
         → deepestFrom (p ++ (bytes ts ++ rest)) ss ds end (depthState (length p) deep) ≡ max deep (deepest ds (map (λ x. rank x ss) (targets (length p) ts)))
     unfolding bytes targets deepest
     items-deep done p [] rest deep is a e = sym (deepest-end (p ++ rest) ss ds end (length p) deep _ refl (omega arith)) ∙ omega arith
@@ -133,7 +134,8 @@ module _ (ss ds : List ℕ) where
 
 module _ (vs : List Value) where
   -- the depth of the value after the values a
-  depth-value : (a : List Value) (v : Value) (b : List Value) (ds : List ℕ) → vs ≡ a ++ (v ∷ b) → Formed v → HasTargets (starts 0 a) (length (region a)) (tokens v)
+  depth-value : (a : List Value) (v : Value) (b : List Value) (ds : List ℕ) → vs ≡ a ++ (v ∷ b)
+      → Formed v → HasTargets (starts 0 a) (length (region a)) (tokens v)
       → depthAt (region vs) (starts 0 vs) ds (length a) ≡ suc (deepest ds (map (λ x. rank x (starts 0 vs)) (targets (length (region a)) (tokens v))))
   unfolding depthAt
   depth-value a v b ds e f targeted =
@@ -143,7 +145,8 @@ module _ (vs : List Value) where
       rw (last, first, all) (ap suc (value-deep (starts 0 vs) ds _ (starts 0 a) (region a) v (region b) f targeted refl))
 
   depths-from : (a b : List Value) → vs ≡ a ++ b → Each Formed b → TargetsEarlier (starts 0 a) (length (region a)) b
-      → depthsFrom (starts 0 vs) (depthsTo (region vs) (starts 0 vs) (length a)) (targetsOf (length (region a)) b) ≡ depthsTo (region vs) (starts 0 vs) (length a + length b)
+      → depthsFrom (starts 0 vs) (depthsTo (region vs) (starts 0 vs) (length a)) (targetsOf (length (region a)) b)
+      ≡ depthsTo (region vs) (starts 0 vs) (length a + length b)
   unfolding depthsFrom targetsOf depthsTo
   depths-from a [] e f k = rw add-zero
   depths-from a (v ∷ b) e f k =

@@ -112,7 +112,14 @@ module _ (s : Writer) (out table : List ℕ) (b : Model) (f : Follows s out tabl
       refusalOf (opens t) t (pick (leb 14 (p .kind)) (p .number) 0) s out table ≡ modelAnswer (adds p) b (length out) (length table)
   unfolding refusalOf early formOf
   part-same p =
-      rw (f .good, f .agree .closed, f .agree .pending, target-same s out table b f (leb 14 (p .kind)) (p .number), count-same s out table b f, f .agree .written)
+      rw (
+        f .good,
+        f .agree .closed,
+        f .agree .pending,
+        target-same s out table b f (leb 14 (p .kind)) (p .number),
+        count-same s out table b f,
+        f .agree .written,
+      )
       (pick-cong (isClosed (b .stage)) (λ _. refl) (λ c. rw (due-same s (b .finished) (b .stage) (length (modelBytes b)) p (f .begun) c)))
 
   -- a close by the delta byte
@@ -128,7 +135,15 @@ module _ (s : Writer) (out table : List ℕ) (b : Model) (f : Follows s out tabl
   unfolding refusalOf early formOf rule
   far-same e h =
       let back : 255 < backTo e b = omega (arith, f .agree .written) in
-      rw (f .good, f .agree .closed, f .agree .pending, listed-same s out table b f e, count-same s out table b f, f .agree .written, lt-ltb 255 (backTo e b) back)
+      rw (
+        f .good,
+        f .agree .closed,
+        f .agree .pending,
+        listed-same s out table b f e,
+        count-same s out table b f,
+        f .agree .written,
+        lt-ltb 255 (backTo e b) back,
+      )
       (pick-cong (isClosed (b .stage)) (λ _. refl) (λ _. pick-cong (ltb 0 (pendingAt (b .stage))) (λ _. refl) (λ n.
       let none : pendingAt (b .stage) ≡ 0 = omega (arith, ltb-false 0 (pendingAt (b .stage)) n) in
       let t = token 15 (backTo e b) 0 [] in
@@ -142,8 +157,10 @@ take-sets d p w h =
     rw (sets-eq p d w h) (take-at (take w d ++ p) _ (w + length p) (omega (arith, length-append (take w d) p, length-take-le w d (omega arith))))
 
 -- the start is listed if the value is finished
-module _ (vs : List ModelValue) (g : Stage) (v : ModelValue) (table : List ℕ) (n : ℕ) (word : n < length table) (same : take n table ≡ modelStarts (model vs g)) where
-  starts-listed : (x : Bool) → take (pick x (n + 1) n) (pick x (set table n (endOf vs)) table) ≡ modelStarts (pick x (model (vs ++ (v ∷ [])) between) (model vs (within v)))
+module _ (vs : List ModelValue) (g : Stage) (v : ModelValue) (table : List ℕ) (n : ℕ) (word : n < length table)
+    (same : take n table ≡ modelStarts (model vs g)) where
+  starts-listed : (x : Bool) → take (pick x (n + 1) n) (pick x (set table n (endOf vs)) table)
+      ≡ modelStarts (pick x (model (vs ++ (v ∷ [])) between) (model vs (within v)))
   unfolding modelStarts
   starts-listed true =
       let e : n + 1 ≡ suc n = omega arith in
@@ -153,7 +170,13 @@ module _ (vs : List ModelValue) (g : Stage) (v : ModelValue) (table : List ℕ) 
   count-listed : (x : Bool) → pick x (n + 1) n ≡ length (modelStarts (pick x (model (vs ++ (v ∷ [])) between) (model vs (within v))))
   unfolding modelStarts
   count-listed true =
-      omega (arith, ap length (starts-snoc vs v), length-append (modelStarts (model vs between)) (endOf vs ∷ []), ap length same, length-take-le n table (omega arith))
+      omega (
+        arith,
+        ap length (starts-snoc vs v),
+        length-append (modelStarts (model vs between)) (endOf vs ∷ []),
+        ap length same,
+        length-take-le n table (omega arith),
+      )
   count-listed false = omega (arith, ap length same, length-take-le n table (omega arith))
 
 pending-settled : (k : ℕ) (vs : List ModelValue) (v : ModelValue) → k ≡ pendingIn v → k ≡ pendingAt (settle vs v .stage)
@@ -237,13 +260,15 @@ module _ (s : Writer) (out table : List ℕ) (vs : List ModelValue) (f : Follows
   abbrev closing : Part
   closing = part 15 e 0 []
 
-  far-follows : (a : Accepted true (formOf (s .written) closing) e s out table) → let t = formOf (s .written) closing in let r = writePointerDelta t s out table in
+  far-follows : (a : Accepted true (formOf (s .written) closing) e s out table)
+      → let t = formOf (s .written) closing in let r = writePointerDelta t s out table in
       Follows (r .writer) (r .out) (r .table) (model (vs ++ (modelValue closing [] ∷ [])) (closed (length (emit t) - 1)))
   unfolding writePointerDelta write rule
   far-follows a =
       let t = formOf (s .written) closing in
       let r = write t s out table in
-      let one : settle vs (modelValue closing []) ≡ model (vs ++ (modelValue closing [] ∷ [])) between = rw (eq-eqb (pendingIn (modelValue closing [])) 0 (omega arith)) in
+      let one : settle vs (modelValue closing []) ≡ model (vs ++ (modelValue closing [] ∷ [])) between =
+      rw (eq-eqb (pendingIn (modelValue closing [])) 0 (omega arith)) in
       delta-follows (length (emit t) - 1) (r .writer) (r .out) (r .table) (vs ++ (modelValue closing [] ∷ []))
       (subst (Follows (r .writer) (r .out) (r .table)) one (write-follows s out table vs between f refl closing true e a))
       (rw (length-sets out (s .written) (emit t)) (room-after true t e s out table a))

@@ -145,7 +145,8 @@ ends-inv e b n m q =
     let far = ltb 255 (backTo e b) in
     let wide = ltb (modelRoom b n) (length (emit (formOf (length (modelBytes b)) (part 15 e 0 [])))) in
     let end = leb (min n LIMIT) (length (modelBytes b)) in
-    firstOf-by (isClosed (b .stage)) (ltb 0 (pendingAt (b .stage))) false (not (among e (modelStarts b))) (far && leb m (length (b .finished))) (pick far wide end) q
+    firstOf-by (isClosed (b .stage)) (ltb 0 (pendingAt (b .stage))) false (not (among e (modelStarts b)))
+    (far && leb m (length (b .finished))) (pick far wide end) q
     (λ unclosed none text names full room. record {
       unclosed = unclosed;
       none = omega facts;
@@ -243,7 +244,8 @@ module _ (P : Part → Type 0) (b : Model) (n m : ℕ) (k : ModelInvariant P b) 
 
 -- ---- lists of calls
 
-invariant-kept : (P : Part → Type 0) (v : Verdict) (b next : Model) → (v ≡ ok tt → ModelInvariant P next) → ModelInvariant P b → ModelInvariant P (unlessRefused v b next)
+invariant-kept : (P : Part → Type 0) (v : Verdict) (b next : Model) → (v ≡ ok tt → ModelInvariant P next)
+    → ModelInvariant P b → ModelInvariant P (unlessRefused v b next)
 invariant-kept P (ok u) b next f k = f refl
 invariant-kept P (error e) b next f k = k
 

@@ -78,7 +78,8 @@ pub values-snoc : (vs : List ModelValue) (v : ModelValue) → valuesAt 0 (vs ++ 
 unfolding valuesAt
 values-snoc vs v = rw (values-append 0 vs (v ∷ []), zero-add)
 
-pub region-snoc : (vs : List ModelValue) (v : ModelValue) → region (valuesAt 0 (vs ++ (v ∷ []))) ≡ region (valuesAt 0 vs) ++ bytes (tokens (valueAt (endOf vs) v))
+pub region-snoc : (vs : List ModelValue) (v : ModelValue) → region (valuesAt 0 (vs ++ (v ∷ [])))
+    ≡ region (valuesAt 0 vs) ++ bytes (tokens (valueAt (endOf vs) v))
 unfolding region
 region-snoc vs v =
     rw (values-snoc vs v, region-append (valuesAt 0 vs) (valueAt (endOf vs) v ∷ []), append-nil (bytes (tokens (valueAt (endOf vs) v))))

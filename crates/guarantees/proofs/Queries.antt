@@ -106,7 +106,8 @@ module _ (s : List ℕ) where
   unfolding itemIn itemOn startsIn bind
   finds at i = by-head (peekIn false s at) refl
     where
-      by-walk : (h : Head) → ok h ≡ peekIn false s at → immediate (rule (h .kind)) ≡ false → (a : Answer Fault ℕ) → a ≡ skipItems s i (h .end) → Finds at i (bind a (startsIn (length s)))
+      by-walk : (h : Head) → ok h ≡ peekIn false s at → immediate (rule (h .kind)) ≡ false → (a : Answer Fault ℕ)
+          → a ≡ skipItems s i (h .end) → Finds at i (bind a (startsIn (length s)))
       by-walk h e k (ok p) w =
           pick-elim (Finds at i) (ltb p (length s)) (λ t. record { head = h; peeked = e; holds = k; walked = w }) (λ t. tt)
       by-walk h e k (error f) w = tt
@@ -214,7 +215,8 @@ module _ (file : List ℕ) (at n : ℕ) (opened : ok n ≡ regionLen (length fil
       let h = m .head in
       let here = region-before (length file) at n (m .place) opened (omega (arith, r .down)) in
       let follows : ok (m .place, m .hops) ≡ followOf file at = in-region-ok file at (λ s. followIn s at) n opened (bind-ok _ e refl) in
-      let reads : ok (valueOn region (m .place) h) ≡ readOf file (m .place) = in-region-ok file (m .place) (λ s. readIn s (m .place)) n here (bind-ok _ (r .peeked) refl) in
+      let reads : ok (valueOn region (m .place) h) ≡ readOf file (m .place) = in-region-ok file (m .place) (λ s. readIn s (m .place)) n here
+      (bind-ok _ (r .peeked) refl) in
       pick-elim (Bodied file at) (eqb (h .kind) 4 || eqb (h .kind) 5)
       (λ t. record {
         place = m .place;

@@ -159,12 +159,14 @@ module _ (b : Model) (d entry : ℕ) (k : ModelInvariant AllowedPart b) (c : b .
 -- ---- an accepted close
 
 pub model-reads-back : (cs : List Call) → Each Given cs → (n m e : ℕ)
-    → let b = modelRun cs emptyModel n m .model in modelAnswer (ends e) b n m ≡ ok tt → ReadsBack b e (modelAfter (ends e) b) (modelBytes (modelAfter (ends e) b))
+    → let b = modelRun cs emptyModel n m .model in modelAnswer (ends e) b n m ≡ ok tt
+    → ReadsBack b e (modelAfter (ends e) b) (modelBytes (modelAfter (ends e) b))
 model-reads-back cs g n m e q =
     let b = modelRun cs emptyModel n m .model in
     let k = invariant-given cs g n m in
     let allowed = allowed-given (close e) tt (λ four. absurd (omega arith)) in
     record {
       near = λ h. let c = closes-near AllowedPart b n m k e q h in rw (le-ltb 255 (backTo e b) h) (refl, model-gives-back _ _ _ (c .kept) refl (c .named));
-      far = λ h. let c = closes-far AllowedPart b n m k e q allowed h in rw (lt-ltb 255 (backTo e b) h) (refl, model-gives-back _ _ _ (c .kept) refl (c .named));
+      far = λ h. let c = closes-far AllowedPart b n m k e q allowed h in rw (lt-ltb 255 (backTo e b) h)
+          (refl, model-gives-back _ _ _ (c .kept) refl (c .named));
     }

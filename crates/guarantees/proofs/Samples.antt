@@ -19,6 +19,10 @@ use Rattle.depths_value.specs.Depth as deep
 use Rattle.depths.specs.Depths.{depthsOf}
 use Rattle.guarantees.specs.Samples.{Query, SampleAnswer, sampleAnswer, samples}
 
-pub the-samples : map (λ (x : (List ℕ) × Query × SampleAnswer). sampleAnswer (x .0) (x .1)) samples ≡ map (λ (x : (List ℕ) × Query × SampleAnswer). x .2) samples
-unfolding sampleAnswer bind guard then orError _>>_ _>>=_ run from among rank get rule getIf number body scanKind scan headOf scanAt lead next textFrom regionLen inRegion peekIn skipItems valueOn readIn startsIn itemOn itemIn walks.hasTarget walks.tokenFault walks.nextToken walks.walkAfter walks.walkTurn walks.startsFrom check.entryAt check.checkIn check.checkOf deep.depthTurn deep.deepestFrom deep.depthAt deep.depthsTo depthsOf
+pub the-samples : map (λ (x : (List ℕ) × Query × SampleAnswer). sampleAnswer (x .0) (x .1)) samples
+    ≡ map (λ (x : (List ℕ) × Query × SampleAnswer). x .2) samples
+unfolding sampleAnswer bind guard then orError _>>_ _>>=_ run from among rank get rule getIf number body scanKind scan
+    headOf scanAt lead next textFrom regionLen inRegion peekIn skipItems valueOn readIn startsIn itemOn itemIn
+    walks.hasTarget walks.tokenFault walks.nextToken walks.walkAfter walks.walkTurn walks.startsFrom check.entryAt
+    check.checkIn check.checkOf deep.depthTurn deep.deepestFrom deep.depthAt deep.depthsTo depthsOf
 the-samples = refl

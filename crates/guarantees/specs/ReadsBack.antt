@@ -66,7 +66,8 @@ pub record GivesBack (file : List ℕ) (vs : List ModelValue) (entry : ℕ) : Ty
   -- where a value ends; where its items start, that there are no more, and that an immediate has none
   pub skip : (a : List ModelValue) (v : ModelValue) (b : List ModelValue) → vs ≡ a ++ (v ∷ b)
       → skipOf file (endOf a) ≡ ok (endOf a + length (bytes (tokens (valueAt (endOf a) v))))
-  pub item : (a : List ModelValue) (v : ModelValue) (b : List ModelValue) → vs ≡ a ++ (v ∷ b) → (is : List Part) (p : Part) (js : List Part) → v .items ≡ is ++ (p ∷ js)
+  pub item : (a : List ModelValue) (v : ModelValue) (b : List ModelValue) → vs ≡ a ++ (v ∷ b)
+      → (is : List Part) (p : Part) (js : List Part) → v .items ≡ is ++ (p ∷ js)
       → itemOf file (endOf a) (length is) ≡ ok (endOf a + length (bytes (formsOf (endOf a) (v .head ∷ is))))
   pub none : (a : List ModelValue) (v : ModelValue) (b : List ModelValue) → vs ≡ a ++ (v ∷ b) → immediate (rule (v .head .kind)) ≡ false
       → (i : ℕ) → length (v .items) ≤ i → itemOf file (endOf a) i ≡ error (fault NO_ITEM (endOf a))

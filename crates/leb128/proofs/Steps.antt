@@ -40,7 +40,8 @@ get-tenth zero least (b ∷ s) ne e = rw (measured-guard, measured-guard, sub-on
 get-tenth (suc k) least (b ∷ s) ne e = absurd (omega arith)
 
 pub get-step : (k least : ℕ) (s : List ℕ) → (length s ≡ 0 → ⊥) → (k ≡ 0 → ⊥)
-    → measured (get k least s) ≡ pick (ltb (getD s 0 0) 128) (last least (getD s 0 0) (length s - 1)) (raised (getD s 0 0 % 128) 128 (measured (get (k - 1) 1 (drop 1 s))))
+    → measured (get k least s) ≡ pick (ltb (getD s 0 0) 128) (last least (getD s 0 0) (length s - 1))
+    (raised (getD s 0 0 % 128) 128 (measured (get (k - 1) 1 (drop 1 s))))
 unfolding get measured last
 get-step k least [] ne nk = absurd (ne refl)
 get-step zero least (b ∷ s) ne nk = absurd (nk refl)

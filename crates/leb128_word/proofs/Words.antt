@@ -39,7 +39,15 @@ trailing-double k m =
 trailing-scale : (i k m : ℕ) → trailingZeros (i + k) (2 ^ i * m) ≡ i + trailingZeros k m
 trailing-scale zero k m = let same : 1 * m ≡ m = omega arith in rw (same, zero-add k, zero-add (trailingZeros k m))
 trailing-scale (suc i) k m =
-    rw (pow-suc 2 i, mul-comm (2 ^ i) 2, mul-assoc 2 (2 ^ i) m, suc-add i k, trailing-double (i + k) (2 ^ i * m), trailing-scale i k m, suc-add i (trailingZeros k m))
+    rw (
+      pow-suc 2 i,
+      mul-comm (2 ^ i) 2,
+      mul-assoc 2 (2 ^ i) m,
+      suc-add i k,
+      trailing-double (i + k) (2 ^ i * m),
+      trailing-scale i k m,
+      suc-add i (trailingZeros k m),
+    )
 
 -- ---- a byte, and those after it
 
@@ -84,14 +92,24 @@ get-word over (suc k) least (b ∷ p) rest bytes fits l t e h nz =
     split b 128
     (λ small.
     let width : 8 * suc (length p) + over ≡ 7 + suc (8 * length p + over) = omega arith in
-    let seven : t ≡ 7 = e ∙ rw (width, marks-last (length p) b (fromLittle p) small, trailing-scale 7 (suc (8 * length p + over)) (1 + 2 * marks (length p) (fromLittle p)), trailing-odd (8 * length p + over) (marks (length p) (fromLittle p))) in
+    let seven : t ≡ 7 = e ∙ rw (
+      width,
+      marks-last (length p) b (fromLittle p) small,
+      trailing-scale 7 (suc (8 * length p + over))
+          (1 + 2 * marks (length p) (fromLittle p)),
+      trailing-odd (8 * length p + over) (marks (length p) (fromLittle p)),
+    ) in
     let own : (b + 256 * fromLittle p) % 256 ≡ b = omega arith in
     let some : 1 ≤ b = omega (arith, rw seven at nz) in
     rw (seven, own, sevens-last (length p) b small, lt-ltb b 128 small, le-leb least b (omega arith)))
     (λ large.
     let t' = trailingZeros (8 * length p + over) (marks (length p) (fromLittle p)) in
     let width : 8 * suc (length p) + over ≡ 8 + (8 * length p + over) = omega arith in
-    let eight : t ≡ 8 + t' = e ∙ rw (width, marks-more (length p) b (fromLittle p) large (bytes .0), trailing-scale 8 (8 * length p + over) (marks (length p) (fromLittle p))) in
+    let eight : t ≡ 8 + t' = e ∙ rw (
+      width,
+      marks-more (length p) b (fromLittle p) large (bytes .0),
+      trailing-scale 8 (8 * length p + over) (marks (length p) (fromLittle p)),
+    ) in
     let unit : 2 ^ (8 + t' + 1) ≡ 2 ^ (t' + 1) * 256 = ap (λ x. 2 ^ x) (omega arith) ∙ pow-add 2 (t' + 1) 8 in
     let after : (b + 256 * fromLittle p) / 256 ≡ fromLittle p = omega arith in
     let first : (b + 256 * fromLittle p) % 256 ≡ b = omega arith in

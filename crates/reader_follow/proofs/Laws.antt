@@ -79,7 +79,8 @@ module _ (s : List ℕ) (p : Position) where
   pub follow-leads : FollowsTo s p (followFrom s p)
   unfolding followFrom
   follow-leads =
-      from-all (followTurn s) (error (fault 0 0)) Down (FollowsTo s p) (λ q q′ d e. subst Turns e (turn-turns q d)) (λ q a d e. subst Turns e (turn-turns q d)) tt
+      from-all (followTurn s) (error (fault 0 0)) Down (FollowsTo s p) (λ q q′ d e. subst Turns e (turn-turns q d))
+      (λ q a d e. subst Turns e (turn-turns q d)) tt
       (λ q. q .place) p (omega arith)
 
 pub follow-head-inv : (s : List ℕ) (p : Position) (m : Followed) → ok m ≡ followFrom s p → FollowedHead s p m

@@ -89,7 +89,8 @@ head-seen at len t rest h =
     let end : len - length rest ≡ at + length (emit t) = omega arith in
     λ i. ok (record { kind = t .kind; n = t .n; items = pending (rule (t .kind)) (t .n) (t .args); first = first i; end = end i })
 
-pub scanAt-emit : (inner : Bool) (p : List ℕ) (t : Token) (s : List ℕ) → Fits inner t s → scanAt inner (p ++ (emit t ++ s)) (length p) ≡ ok (headAt (length p) t)
+pub scanAt-emit : (inner : Bool) (p : List ℕ) (t : Token) (s : List ℕ) → Fits inner t s
+    → scanAt inner (p ++ (emit t ++ s)) (length p) ≡ ok (headAt (length p) t)
 unfolding scanAt
 scanAt-emit inner p t s f =
     rw (drop-append-seam p (emit t ++ s), scan-emit inner (length p) t s f)

@@ -184,7 +184,8 @@ module _ (inner : Bool) (s : List ℕ) (at : ℕ) (there : at < length s) where
       })
       after h (Err f) e = rw (← scan-numbered h, ← e)
 
-      pub scan-number : inner && not i ≡ false → (g x : GetResult) → numbers.answerOf g ≡ numbered low (r .most) (drop (at + 1) s) → g ≡ x → AfterNumber inner s at r x
+      pub scan-number : inner && not i ≡ false → (g x : GetResult) → numbers.answerOf g ≡ numbered low (r .most) (drop (at + 1) s)
+          → g ≡ x → AfterNumber inner s at r x
       scan-number h g x e is = after h x (rw is at e)
 
 -- ---- after n

@@ -33,7 +33,8 @@ pub fn zero(t: &mut [u32])
 
 // Counts the words of a table for the blocks from `next` to `last`; all of them come before block `next`.
 pub fn count_blocks(t: &[u32], blocks: &mut [u32], next: usize, last: usize)
-    requires { ⌜ (next ≤ last + 1) × (last < length (now blocks)) × (length (now t) < 2 ^ 32) × (Below (next * BLOCK) (now t)) × (Counted (take next (now blocks)) (now t)) ⌝ }
+    requires { ⌜ (next ≤ last + 1) × (last < length (now blocks)) × (length (now t) < 2 ^ 32)
+        × (Below (next * BLOCK) (now t)) × (Counted (take next (now blocks)) (now t)) ⌝ }
     ensures { λ _. ⌜ Counted (take (last + 1) (now (blocks .exit))) (now (t .entry)) ⌝ }
 {
     let mut b = next;

@@ -41,8 +41,10 @@ module _ (r n lo size : ℕ) (b : Between r n lo size) where
       (λ q. split (lo + 3 * (size / 4)) r
       (λ s. rw (ei, ej, ek, lt-ltb _ _ p, lt-ltb _ _ q, lt-ltb _ _ s) (record { low = omega arith; high = omega arith; fits = omega arith }))
       (λ s. rw (ei, ej, ek, lt-ltb _ _ p, lt-ltb _ _ q, le-ltb _ _ s) (record { low = omega arith; high = omega arith; fits = omega arith })))
-      (λ q. rw (ei, ej, ek, lt-ltb _ _ p, le-ltb _ _ q, le-ltb (lo + 3 * (size / 4)) r (omega arith)) (record { low = omega arith; high = omega arith; fits = omega arith })))
-      (λ p. rw (ei, ej, ek, le-ltb _ _ p, le-ltb (lo + 2 * (size / 4)) r (omega arith), le-ltb (lo + 3 * (size / 4)) r (omega arith)) (record { low = omega arith; high = omega arith; fits = omega arith }))
+      (λ q. rw (ei, ej, ek, lt-ltb _ _ p, le-ltb _ _ q, le-ltb (lo + 3 * (size / 4)) r (omega arith))
+      (record { low = omega arith; high = omega arith; fits = omega arith })))
+      (λ p. rw (ei, ej, ek, le-ltb _ _ p, le-ltb (lo + 2 * (size / 4)) r (omega arith), le-ltb (lo + 3 * (size / 4)) r (omega arith))
+      (record { low = omega arith; high = omega arith; fits = omega arith }))
 
 -- ---- words counted one by one
 

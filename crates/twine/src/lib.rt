@@ -54,7 +54,8 @@ pub extern "C" fn twine_depths(
     depths: &mut [u32],
     out: &mut [u64; 2],
 ) -> u32
-    ensures { λ r. ⌜ depthsReply (reply r (now (out .exit))) (now (starts .exit)) (now (depths .exit)) ≡ depthsC (now (file .entry)) (length (now (starts .entry))) (length (now (depths .entry))) ⌝ }
+    ensures { λ r. ⌜ depthsReply (reply r (now (out .exit))) (now (starts .exit)) (now (depths .exit))
+        ≡ depthsC (now (file .entry)) (length (now (starts .entry))) (length (now (depths .entry))) ⌝ }
 {
     abi_answer::answer_entry(depths::depths(file, starts, depths), out)
 }
@@ -125,7 +126,8 @@ pub extern "C" fn twine_write_bool(
     out: &mut [u8],
     starts: &mut [u32],
 ) -> u32
-    ensures { λ r. ⌜ called r (now (state .exit)) (now (out .exit)) (now (starts .exit)) ≡ stepC (Call.scalar (truth value)) (now (state .entry)) (now (out .entry)) (now (starts .entry)) ⌝ }
+    ensures { λ r. ⌜ called r (now (state .exit)) (now (out .exit)) (now (starts .exit))
+        ≡ stepC (Call.scalar (truth value)) (now (state .entry)) (now (out .entry)) (now (starts .entry)) ⌝ }
 {
     abi_writer::settle(
         abi_writer::writer_of(state).scalar(abi_writer::truth(value), out, starts),
@@ -135,7 +137,8 @@ pub extern "C" fn twine_write_bool(
 
 #[no_mangle]
 pub extern "C" fn twine_write_null(state: &mut [u64; 5], out: &mut [u8], starts: &mut [u32]) -> u32
-    ensures { λ r. ⌜ called r (now (state .exit)) (now (out .exit)) (now (starts .exit)) ≡ stepC (Call.scalar Scalar.Null) (now (state .entry)) (now (out .entry)) (now (starts .entry)) ⌝ }
+    ensures { λ r. ⌜ called r (now (state .exit)) (now (out .exit)) (now (starts .exit))
+        ≡ stepC (Call.scalar Scalar.Null) (now (state .entry)) (now (out .entry)) (now (starts .entry)) ⌝ }
 {
     abi_writer::settle(
         abi_writer::writer_of(state).scalar(Scalar::Null, out, starts),
@@ -150,7 +153,8 @@ pub extern "C" fn twine_write_integer(
     out: &mut [u8],
     starts: &mut [u32],
 ) -> u32
-    ensures { λ r. ⌜ called r (now (state .exit)) (now (out .exit)) (now (starts .exit)) ≡ stepC (Call.integer value) (now (state .entry)) (now (out .entry)) (now (starts .entry)) ⌝ }
+    ensures { λ r. ⌜ called r (now (state .exit)) (now (out .exit)) (now (starts .exit))
+        ≡ stepC (Call.integer value) (now (state .entry)) (now (out .entry)) (now (starts .entry)) ⌝ }
 {
     abi_writer::settle(
         abi_writer::writer_of(state).integer(value, out, starts),
@@ -165,7 +169,8 @@ pub extern "C" fn twine_write_float32(
     out: &mut [u8],
     starts: &mut [u32],
 ) -> u32
-    ensures { λ r. ⌜ called r (now (state .exit)) (now (out .exit)) (now (starts .exit)) ≡ stepC (Call.float32 bits) (now (state .entry)) (now (out .entry)) (now (starts .entry)) ⌝ }
+    ensures { λ r. ⌜ called r (now (state .exit)) (now (out .exit)) (now (starts .exit))
+        ≡ stepC (Call.float32 bits) (now (state .entry)) (now (out .entry)) (now (starts .entry)) ⌝ }
 {
     abi_writer::settle(
         abi_writer::writer_of(state).float32(bits, out, starts),
@@ -180,7 +185,8 @@ pub extern "C" fn twine_write_float64(
     out: &mut [u8],
     starts: &mut [u32],
 ) -> u32
-    ensures { λ r. ⌜ called r (now (state .exit)) (now (out .exit)) (now (starts .exit)) ≡ stepC (Call.float64 bits) (now (state .entry)) (now (out .entry)) (now (starts .entry)) ⌝ }
+    ensures { λ r. ⌜ called r (now (state .exit)) (now (out .exit)) (now (starts .exit))
+        ≡ stepC (Call.float64 bits) (now (state .entry)) (now (out .entry)) (now (starts .entry)) ⌝ }
 {
     abi_writer::settle(
         abi_writer::writer_of(state).float64(bits, out, starts),
@@ -195,7 +201,8 @@ pub extern "C" fn twine_write_text(
     out: &mut [u8],
     starts: &mut [u32],
 ) -> u32
-    ensures { λ r. ⌜ called r (now (state .exit)) (now (out .exit)) (now (starts .exit)) ≡ stepC (Call.text (now (text .entry))) (now (state .entry)) (now (out .entry)) (now (starts .entry)) ⌝ }
+    ensures { λ r. ⌜ called r (now (state .exit)) (now (out .exit)) (now (starts .exit))
+        ≡ stepC (Call.text (now (text .entry))) (now (state .entry)) (now (out .entry)) (now (starts .entry)) ⌝ }
 {
     abi_writer::settle(abi_writer::writer_of(state).text(text, out, starts), state)
 }
@@ -207,7 +214,8 @@ pub extern "C" fn twine_write_bytes(
     out: &mut [u8],
     starts: &mut [u32],
 ) -> u32
-    ensures { λ r. ⌜ called r (now (state .exit)) (now (out .exit)) (now (starts .exit)) ≡ stepC (Call.bytes (now (bytes .entry))) (now (state .entry)) (now (out .entry)) (now (starts .entry)) ⌝ }
+    ensures { λ r. ⌜ called r (now (state .exit)) (now (out .exit)) (now (starts .exit))
+        ≡ stepC (Call.bytes (now (bytes .entry))) (now (state .entry)) (now (out .entry)) (now (starts .entry)) ⌝ }
 {
     abi_writer::settle(
         abi_writer::writer_of(state).bytes(bytes, out, starts),
@@ -222,7 +230,8 @@ pub extern "C" fn twine_write_variant(
     out: &mut [u8],
     starts: &mut [u32],
 ) -> u32
-    ensures { λ r. ⌜ called r (now (state .exit)) (now (out .exit)) (now (starts .exit)) ≡ stepC (Call.variant index) (now (state .entry)) (now (out .entry)) (now (starts .entry)) ⌝ }
+    ensures { λ r. ⌜ called r (now (state .exit)) (now (out .exit)) (now (starts .exit))
+        ≡ stepC (Call.variant index) (now (state .entry)) (now (out .entry)) (now (starts .entry)) ⌝ }
 {
     abi_writer::settle(
         abi_writer::writer_of(state).variant(index, out, starts),
@@ -237,7 +246,8 @@ pub extern "C" fn twine_write_reference(
     out: &mut [u8],
     starts: &mut [u32],
 ) -> u32
-    ensures { λ r. ⌜ called r (now (state .exit)) (now (out .exit)) (now (starts .exit)) ≡ stepC (Call.reference at) (now (state .entry)) (now (out .entry)) (now (starts .entry)) ⌝ }
+    ensures { λ r. ⌜ called r (now (state .exit)) (now (out .exit)) (now (starts .exit))
+        ≡ stepC (Call.reference at) (now (state .entry)) (now (out .entry)) (now (starts .entry)) ⌝ }
 {
     abi_writer::settle(
         abi_writer::writer_of(state).reference(at, out, starts),
@@ -252,7 +262,8 @@ pub extern "C" fn twine_write_pointer(
     out: &mut [u8],
     starts: &mut [u32],
 ) -> u32
-    ensures { λ r. ⌜ called r (now (state .exit)) (now (out .exit)) (now (starts .exit)) ≡ stepC (Call.pointer at) (now (state .entry)) (now (out .entry)) (now (starts .entry)) ⌝ }
+    ensures { λ r. ⌜ called r (now (state .exit)) (now (out .exit)) (now (starts .exit))
+        ≡ stepC (Call.pointer at) (now (state .entry)) (now (out .entry)) (now (starts .entry)) ⌝ }
 {
     abi_writer::settle(abi_writer::writer_of(state).pointer(at, out, starts), state)
 }
@@ -264,7 +275,8 @@ pub extern "C" fn twine_open_array(
     out: &mut [u8],
     starts: &mut [u32],
 ) -> u32
-    ensures { λ r. ⌜ called r (now (state .exit)) (now (out .exit)) (now (starts .exit)) ≡ stepC (Call.openArray items) (now (state .entry)) (now (out .entry)) (now (starts .entry)) ⌝ }
+    ensures { λ r. ⌜ called r (now (state .exit)) (now (out .exit)) (now (starts .exit))
+        ≡ stepC (Call.openArray items) (now (state .entry)) (now (out .entry)) (now (starts .entry)) ⌝ }
 {
     abi_writer::settle(
         abi_writer::writer_of(state).open_array(items, out, starts),
@@ -279,7 +291,8 @@ pub extern "C" fn twine_open_map(
     out: &mut [u8],
     starts: &mut [u32],
 ) -> u32
-    ensures { λ r. ⌜ called r (now (state .exit)) (now (out .exit)) (now (starts .exit)) ≡ stepC (Call.openMap pairs) (now (state .entry)) (now (out .entry)) (now (starts .entry)) ⌝ }
+    ensures { λ r. ⌜ called r (now (state .exit)) (now (out .exit)) (now (starts .exit))
+        ≡ stepC (Call.openMap pairs) (now (state .entry)) (now (out .entry)) (now (starts .entry)) ⌝ }
 {
     abi_writer::settle(
         abi_writer::writer_of(state).open_map(pairs, out, starts),
@@ -294,7 +307,8 @@ pub extern "C" fn twine_open_tag(
     out: &mut [u8],
     starts: &mut [u32],
 ) -> u32
-    ensures { λ r. ⌜ called r (now (state .exit)) (now (out .exit)) (now (starts .exit)) ≡ stepC (Call.openTag tag) (now (state .entry)) (now (out .entry)) (now (starts .entry)) ⌝ }
+    ensures { λ r. ⌜ called r (now (state .exit)) (now (out .exit)) (now (starts .exit))
+        ≡ stepC (Call.openTag tag) (now (state .entry)) (now (out .entry)) (now (starts .entry)) ⌝ }
 {
     abi_writer::settle(
         abi_writer::writer_of(state).open_tag(tag, out, starts),
@@ -309,7 +323,8 @@ pub extern "C" fn twine_open_variant1(
     out: &mut [u8],
     starts: &mut [u32],
 ) -> u32
-    ensures { λ r. ⌜ called r (now (state .exit)) (now (out .exit)) (now (starts .exit)) ≡ stepC (Call.openVariant1 index) (now (state .entry)) (now (out .entry)) (now (starts .entry)) ⌝ }
+    ensures { λ r. ⌜ called r (now (state .exit)) (now (out .exit)) (now (starts .exit))
+        ≡ stepC (Call.openVariant1 index) (now (state .entry)) (now (out .entry)) (now (starts .entry)) ⌝ }
 {
     abi_writer::settle(
         abi_writer::writer_of(state).open_variant1(index, out, starts),
@@ -325,7 +340,8 @@ pub extern "C" fn twine_open_variantn(
     out: &mut [u8],
     starts: &mut [u32],
 ) -> u32
-    ensures { λ r. ⌜ called r (now (state .exit)) (now (out .exit)) (now (starts .exit)) ≡ stepC (Call.openVariantN index items) (now (state .entry)) (now (out .entry)) (now (starts .entry)) ⌝ }
+    ensures { λ r. ⌜ called r (now (state .exit)) (now (out .exit)) (now (starts .exit))
+        ≡ stepC (Call.openVariantN index items) (now (state .entry)) (now (out .entry)) (now (starts .entry)) ⌝ }
 {
     abi_writer::settle(
         abi_writer::writer_of(state).open_variant_n(index, items, out, starts),
@@ -340,7 +356,8 @@ pub extern "C" fn twine_close(
     out: &mut [u8],
     starts: &mut [u32],
 ) -> u32
-    ensures { λ r. ⌜ called r (now (state .exit)) (now (out .exit)) (now (starts .exit)) ≡ stepC (Call.close at) (now (state .entry)) (now (out .entry)) (now (starts .entry)) ⌝ }
+    ensures { λ r. ⌜ called r (now (state .exit)) (now (out .exit)) (now (starts .exit))
+        ≡ stepC (Call.close at) (now (state .entry)) (now (out .entry)) (now (starts .entry)) ⌝ }
 {
     abi_writer::settle(abi_writer::writer_of(state).close(at, out, starts), state)
 }

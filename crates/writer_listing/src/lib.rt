@@ -84,7 +84,8 @@ pub fn is_among(t: &[u32], x: u32) -> bool
 // Lists a start in word number `count` if no item is left pending, and returns how many are listed.
 pub fn list_start(left: u64, start: usize, count: usize, starts: &mut [u32]) -> usize
     requires { ⌜ (start < 2 ^ 32) × (count < length (now starts)) ⌝ }
-    ensures { λ r. ⌜ (r ≡ pick (eqb left 0) (count + 1) count) × (now (starts .exit) ≡ pick (eqb left 0) (set (now (starts .entry)) count start) (now (starts .entry))) ⌝ }
+    ensures { λ r. ⌜ (r ≡ pick (eqb left 0) (count + 1) count)
+        × (now (starts .exit) ≡ pick (eqb left 0) (set (now (starts .entry)) count start) (now (starts .entry))) ⌝ }
 {
     if left == 0 {
         starts[count] = start as u32;

@@ -39,7 +39,8 @@ check-in-spec =
     (λ c. let k = c .before .before .before .before in
     let w = walked k .before .before .before .before in
     let a = w .before .before .before .args in
-    let e = check-walk (a .file .now) _ (length (a .starts .now)) (w .if1 .left) (omega arith) _ (walked k .list-starts .ensures .0) _ (k .count .given .1) (fits k) (c .entry-at .result) (c .entry-at .ensures) in
+    let e = check-walk (a .file .now) _ (length (a .starts .now)) (w .if1 .left)
+    (omega arith) _ (walked k .list-starts .ensures .0) _ (k .count .given .1) (fits k) (c .entry-at .result) (c .entry-at .ensures) in
     (e .reported, e .fits))
     (λ c. search needs)
     (λ c. let k = c .before in

@@ -44,7 +44,8 @@ check-items-spec =
     let b = g .before in
     let h = b .before .before in
     let s = h .before .before in
-    let e = token-bad-target _ _ _ _ _ (s .scan-item .ensures) _ (h .h .given .1) _ (b .is-bad-text .ensures) (g .if1 .left) _ (c .before .is-bad-target .ensures) (c .if2 .taken) in
+    let e = token-bad-target _ _ _ _ _ (s .scan-item .ensures) _ (h .h .given .1) _ (b .is-bad-text .ensures)
+    (g .if1 .left) _ (c .before .is-bad-target .ensures) (c .if2 .taken) in
     (λ cap start. item-error _ _ _ _ (s .before .loop-test .taken) cap start _ e ∙ s .before .before .loop .inv .0 cap start, tt))
     (λ c. search needs)
     (λ c. search needs)
@@ -53,7 +54,8 @@ check-items-spec =
     let h = b .before .before in
     let s = h .before .before in
     let i = s .before .before .loop .inv in
-    let e = token-taken _ _ _ _ _ (s .scan-item .ensures) _ (h .h .given .1) _ (b .is-bad-text .ensures) (g .if1 .left) _ (c .before .is-bad-target .ensures) (c .if2 .left) in
+    let e = token-taken _ _ _ _ _ (s .scan-item .ensures) _ (h .h .given .1) _ (b .is-bad-text .ensures)
+    (g .if1 .left) _ (c .before .is-bad-target .ensures) (c .if2 .left) in
     let w = scan-within _ _ _ _ (rw (h .h .given .1) at (s .scan-item .ensures)) in
     (λ cap start. item-on _ _ _ _ (s .before .loop-test .taken) cap start _ e ∙ i .0 cap start, omega (arith, i .1, w .numbers, w .body), w .end))
     (λ c. search needs)

@@ -24,7 +24,8 @@ check-value-spec =
     let h = b .before .before in
     let s = h .before .before in
     let f = s .before .before .before .before in
-    let e = token-bad-target _ _ _ _ _ (s .scan .ensures) _ (h .h .given .1) _ (b .is-bad-text .ensures) (g .if1 .left) _ (c .before .is-bad-target .ensures) (c .if2 .taken) in
+    let e = token-bad-target _ _ _ _ _ (s .scan .ensures) _ (h .h .given .1) _ (b .is-bad-text .ensures)
+    (g .if1 .left) _ (c .before .is-bad-target .ensures) (c .if2 .taken) in
     (λ cap word. value-error _ _ _ (f .pre .2) cap word _ e, tt))
     (λ c κs. let h = c .before .before .before .before .before in
     let w = scan-within _ _ _ _ (rw (h .h .given .1) at (h .before .before .scan .ensures)) in
@@ -36,7 +37,8 @@ check-value-spec =
     let h = b .before .before in
     let s = h .before .before in
     let f = s .before .before .before .before in
-    let e = token-taken _ _ _ _ _ (s .scan .ensures) _ (h .h .given .1) _ (b .is-bad-text .ensures) (g .if1 .left) _ (t .before .is-bad-target .ensures) (t .if2 .left) in
+    let e = token-taken _ _ _ _ _ (s .scan .ensures) _ (h .h .given .1) _ (b .is-bad-text .ensures)
+    (g .if1 .left) _ (t .before .is-bad-target .ensures) (t .if2 .left) in
     let w = scan-within _ _ _ _ (rw (h .h .given .1) at (s .scan .ensures)) in
     let p = c .check-items .ensures in
     (λ cap word. value-on _ _ _ (f .pre .2) cap word _ e (p .0 cap _), ends-after (c .check-items .result) _ _ _ w (p .1)))

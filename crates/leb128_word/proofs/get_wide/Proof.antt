@@ -29,4 +29,5 @@ get-wide-spec =
     (λ c. search needs)
     (λ c.
     let a = c .before .before .before .before .before .before in
-    get-at-once _ (a .shared-slice-known .given) (omega arith) (c .before .before .before .before .load8 .ensures) (c .before .before .before .marks .ensures) (omega arith) (omega arith) (c .sevens .ensures)))
+    get-at-once _ (a .shared-slice-known .given) (omega arith) (c .before .before .before .before .load8 .ensures)
+    (c .before .before .before .marks .ensures) (omega arith) (omega arith) (c .sevens .ensures)))

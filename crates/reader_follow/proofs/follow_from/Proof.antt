@@ -35,4 +35,5 @@ follow-from-spec =
       omega (arith, pointer-lt _ _ _ _ (rw (t .h .given .1) at (t .before .before .peek-in .ensures)) (c .if1 .left)),
     ))
     (λ c. search needs)
-    (λ c. let t = c .before in followFrom-error _ _ _ _ (rw (t .e .given .1) at (t .before .before .peek-in .ensures)) ∙ t .before .before .before .loop .inv .0))
+    (λ c. let t = c .before in followFrom-error _ _ _ _ (rw (t .e .given .1) at (t .before .before .peek-in .ensures))
+    ∙ t .before .before .before .loop .inv .0))

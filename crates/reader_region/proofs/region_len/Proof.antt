@@ -6,4 +6,5 @@ use Rattle.reader_region.proofs.region_len.Tie as tie
 
 pub region-len-spec : {M : Type 1} → statement M
 unfolding regionLen
-region-len-spec = tie.close (tie.spec (λ c. search ladder) (λ c. search ladder) (λ c. search ladder) (λ c. search ladder) (λ c. search ladder) (λ c. search ladder))
+region-len-spec = tie.close (tie.spec (λ c. search ladder) (λ c. search ladder) (λ c. search ladder)
+    (λ c. search ladder) (λ c. search ladder) (λ c. search ladder))

@@ -29,14 +29,16 @@ module _ (low most : ℕ) (s : List ℕ) where
     unfolding numbered getIf
     numbered-by = let same : low ≡ 15 = omega arith in rw (same, rw is at e)
 
-  module _ (h : 15 ≤ low) (l : low < 16) (fits : low ≤ most) (g : GetResult) {v left : ℕ} (e : numbers.answerOf g ≡ measured (get 9 0 s)) (is : g ≡ Ok v left) where
+  module _ (h : 15 ≤ low) (l : low < 16) (fits : low ≤ most) (g : GetResult) {v left : ℕ}
+      (e : numbers.answerOf g ≡ measured (get 9 0 s)) (is : g ≡ Ok v left) where
     numbered-over : most - 15 < v → error RANGE ≡ numbered low most s
     numbered-over o = rw (← numbered-by h l g (Ok v left) e is, lt-leb (15 + v) most (omega arith))
 
     numbered-in : v ≤ most - 15 → ok (15 + v, left) ≡ numbered low most s
     numbered-in i = rw (← numbered-by h l g (Ok v left) e is, le-leb (15 + v) most (omega arith))
 
-  numbered-error : 15 ≤ low → low < 16 → (g : GetResult) {f : ErrorKind} → numbers.answerOf g ≡ measured (get 9 0 s) → g ≡ Err f → error (numberOf f) ≡ numbered low most s
+  numbered-error : 15 ≤ low → low < 16 → (g : GetResult) {f : ErrorKind} → numbers.answerOf g ≡ measured (get 9 0 s)
+      → g ≡ Err f → error (numberOf f) ≡ numbered low most s
   numbered-error h l g {f} e is = numbered-by h l g (Err f) e is
 
 pub number-spec : {M : Type 1} → statement M
