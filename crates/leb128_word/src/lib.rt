@@ -43,8 +43,9 @@ fn sevens(w: u64) -> u64
     sevens4(w) + 0x1000_0000 * sevens4(w / 256 / 256 / 256 / 256)
 }
 
-// Reads the number at the front of s. One of up to seven bytes without a fault is read eight bytes at once, with no
-// branch on its length. For numbers that are rare or long: `get` is inlined into its callers, this one is called.
+// Reads the number at the front of s. One of up to seven bytes without a fault is read eight bytes at once, so that
+// nothing depends on a prediction of its length. For numbers that are rare or long: `get` is inlined into its callers,
+// this one is called.
 pub fn get_wide(s: &[u8]) -> GetResult
     ensures { λ r. ⌜ answerOf r ≡ measured (get 9 0 (now (s .entry))) ⌝ }
 {

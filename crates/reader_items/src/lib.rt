@@ -28,7 +28,7 @@ fn skip_items(region: &[u8], at: usize, items: u64) -> OffsetResult
     OffsetResult::Ok(q)
 }
 
-// Where the value at `at` ends. Looks at its items, but at neither text bytes nor targets beyond 0.
+// Where the value at `at` ends. Its items are looked at, but not text bytes; a target only has to be 0 or more.
 pub fn skip(file: &[u8], at: usize) -> OffsetResult
     ensures { λ r. ⌜ offsetAnswer r ≡ skipOf (now (file .entry)) at ⌝ }
 {

@@ -4,10 +4,10 @@
 --   targetsOf at vs        for each of the values vs, the first at `at`: the targets of the references and pointers
 --                          that it is or holds
 --   Leads vs i j           value number i is or holds a reference or pointer to the start of value number j
---   Path vs i l            a path from value number i; l are the values on it, i first
+--   Path vs i l            a path from value number i; l are the numbers of the values on it, i first
 --   Depth vs i d           d is the depth of value number i: a path from it has d values, and none has more
 --   Falling l              each is less than those before it, so none occurs twice
---   deepest ds js          the greatest depth of the values with numbers js; 0 if there are none
+--   deepest ds js          the greatest depth of the values with numbers js, by the depths ds; 0 if there are none
 --   depthsFrom ss ds tss   the depths ds of the first values, and those of the values after them, whose targets are
 --                          tss; ss are the starts of all values
 --   depthsOfValues vs      the depths, from left to right, each one more than the greatest depth of the value's targets

@@ -6,9 +6,9 @@
 --   region vs           the bytes of values, back to back
 --   starts at vs        the offsets where values start, the first at `at`: running sums of their sizes
 --   Each P xs           P holds for each of xs
---   Sound t             t's kind allows it, and a text is text
+--   Sound t             t's kind allows it, and the body of a text is text
 --   Item t              t is sound and an immediate
---   Formed v            the head is sound, the items are items, and as many as the head says
+--   Formed v            the head is sound, each item is an `Item`, and there are as many as the head says
 --   HasTarget done q t  if t is a reference or pointer, with its header at q, its target q - n - 1 is not below 0 and
 --                       is one of `done`
 --   HasTargets done q ts
