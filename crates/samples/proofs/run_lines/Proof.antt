@@ -1,9 +1,9 @@
--- `samples::lines` is safe and ends: each line ends behind its start.
+-- `samples::run_lines` is safe and ends: each line ends after its start.
 use Prim.Native.Nat.{suc, _-_, _≤_}
 use lib.ListN.{length}
 use borrow.Author.Needs.{needs}
-use Rattle.samples.proofs.lines.Statement.{statement}
-use Rattle.samples.proofs.lines.Tie as tie
+use Rattle.samples.proofs.run_lines.Statement.{statement}
+use Rattle.samples.proofs.run_lines.Tie as tie
 
 abbrev Inv-loop : tie.InvT-loop
 Inv-loop s at₀ at = at ≤ suc (length s)
@@ -11,8 +11,8 @@ Inv-loop s at₀ at = at ≤ suc (length s)
 abbrev μ-loop : tie.MeasureT-loop
 μ-loop s at₀ at = suc (length s) - at
 
-pub lines-spec : {M : Type 1} → statement M
-lines-spec =
+pub run-lines-spec : {M : Type 1} → statement M
+run-lines-spec =
     tie.close
     (tie.spec
     Inv-loop

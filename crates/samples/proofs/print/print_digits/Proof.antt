@@ -1,9 +1,9 @@
--- `samples::hex` is safe and ends.
+-- `samples::print::print_digits` is safe and ends.
 use Prim.Native.Nat.{_-_, _≤_}
 use lib.ListN.{length}
 use borrow.Author.Needs.{needs}
-use Rattle.samples.proofs.hex.Statement.{statement}
-use Rattle.samples.proofs.hex.Tie as tie
+use Rattle.samples.proofs.print.print_digits.Statement.{statement}
+use Rattle.samples.proofs.print.print_digits.Tie as tie
 
 abbrev Inv-loop : tie.InvT-loop
 Inv-loop part i₀ i = i ≤ length part
@@ -11,8 +11,8 @@ Inv-loop part i₀ i = i ≤ length part
 abbrev μ-loop : tie.MeasureT-loop
 μ-loop part i₀ i = length part - i
 
-pub hex-spec : {M : Type 1} → statement M
-hex-spec =
+pub print-digits-spec : {M : Type 1} → statement M
+print-digits-spec =
     tie.close
     (tie.spec
     Inv-loop

@@ -1,24 +1,22 @@
--- `samples::same` is safe and ends.
-use mathlib.Core.Path.{_≡_}
+-- `samples::calls::is_junk_words` is safe and ends.
 use Prim.Native.Nat.{_-_, _≤_}
 use lib.ListN.{length}
 use borrow.Author.Needs.{needs}
-use Rattle.samples.proofs.same.Statement.{statement}
-use Rattle.samples.proofs.same.Tie as tie
+use Rattle.samples.proofs.calls.is_junk_words.Statement.{statement}
+use Rattle.samples.proofs.calls.is_junk_words.Tie as tie
 
 abbrev Inv-loop : tie.InvT-loop
-Inv-loop a b i₀ i = (i ≤ length a) × (length a ≡ length b)
+Inv-loop part at i₀ i = at ≤ i
 
 abbrev μ-loop : tie.MeasureT-loop
-μ-loop a b i₀ i = length a - i
+μ-loop part at i₀ i = length part - i
 
-pub same-spec : {M : Type 1} → statement M
-same-spec =
+pub is-junk-words-spec : {M : Type 1} → statement M
+is-junk-words-spec =
     tie.close
     (tie.spec
     Inv-loop
     μ-loop
-    (λ c. search needs)
     (λ c. search needs)
     (λ c. search needs)
     (λ c. search needs)

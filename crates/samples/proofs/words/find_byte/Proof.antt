@@ -1,9 +1,9 @@
--- `samples::find` is safe, ends, and answers an offset of s.
+-- `samples::words::find_byte` is safe, ends, and returns an offset of s.
 use Prim.Native.Nat.{_-_, _≤_}
 use lib.ListN.{length}
 use borrow.Author.Needs.{needs}
-use Rattle.samples.proofs.find.Statement.{statement}
-use Rattle.samples.proofs.find.Tie as tie
+use Rattle.samples.proofs.words.find_byte.Statement.{statement}
+use Rattle.samples.proofs.words.find_byte.Tie as tie
 
 abbrev Inv-loop : tie.InvT-loop
 Inv-loop s at b i₀ i = (at ≤ i) × (i ≤ length s)
@@ -11,8 +11,8 @@ Inv-loop s at b i₀ i = (at ≤ i) × (i ≤ length s)
 abbrev μ-loop : tie.MeasureT-loop
 μ-loop s at b i₀ i = length s - i
 
-pub find-spec : {M : Type 1} → statement M
-find-spec =
+pub find-byte-spec : {M : Type 1} → statement M
+find-byte-spec =
     tie.close
     (tie.spec
     Inv-loop

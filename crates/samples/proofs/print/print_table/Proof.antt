@@ -1,18 +1,18 @@
--- `samples::is_junk` is safe and ends.
+-- `samples::print::print_table` is safe and ends.
 use Prim.Native.Nat.{_-_, _≤_}
 use lib.ListN.{length}
 use borrow.Author.Needs.{needs}
-use Rattle.samples.proofs.is_junk.Statement.{statement}
-use Rattle.samples.proofs.is_junk.Tie as tie
+use Rattle.samples.proofs.print.print_table.Statement.{statement}
+use Rattle.samples.proofs.print.print_table.Tie as tie
 
 abbrev Inv-loop : tie.InvT-loop
-Inv-loop part at i₀ i = at ≤ i
+Inv-loop t i₀ i = i ≤ length t
 
 abbrev μ-loop : tie.MeasureT-loop
-μ-loop part at i₀ i = length part - i
+μ-loop t i₀ i = length t - i
 
-pub is-junk-spec : {M : Type 1} → statement M
-is-junk-spec =
+pub print-table-spec : {M : Type 1} → statement M
+print-table-spec =
     tie.close
     (tie.spec
     Inv-loop
@@ -20,7 +20,7 @@ is-junk-spec =
     (λ c. search needs)
     (λ c. search needs)
     (λ c. search needs)
-    (λ c. search needs)
+    (λ c κs. search needs)
     (λ c. search needs)
     (λ c. search needs)
     (λ c. search needs)

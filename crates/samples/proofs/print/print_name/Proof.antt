@@ -1,13 +1,13 @@
--- `samples::name` is safe: a name has its place in its ten bytes.
+-- `samples::print::print_name` is safe: a name has its place in its ten bytes.
 use mathlib.Core.Path.{sym}
 use borrow.Author.Needs.{needs}
 use lib.Seq.{length-take-le}
 use Rattle.error.proofs.Laws.{name-within}
-use Rattle.samples.proofs.name.Statement.{statement}
-use Rattle.samples.proofs.name.Tie as tie
+use Rattle.samples.proofs.print.print_name.Statement.{statement}
+use Rattle.samples.proofs.print.print_name.Tie as tie
 
-pub name-spec : {M : Type 1} → statement M
-name-spec =
+pub print-name-spec : {M : Type 1} → statement M
+print-name-spec =
     tie.close
     (tie.spec
     (λ c κs. search needs)
