@@ -28,10 +28,10 @@ use Rattle.checker.specs.Check.{entryAt, checkIn, filled, checked, liste
 use Rattle.checker.specs.Answers.{checkAnswer}
 use Rattle.checker.specs.Internal.{checkInAnswer, keptWords}
 
--- q, with the starts in the first words of t, is the answer a
-pub record Entered (q : CheckResult) (t : List ℕ) (a : Answer Fault ((List ℕ) × ℕ)) : Type 0 where
-  pub reported : checkInAnswer q t ≡ a
-  pub fits : keptWords q ≤ length t
+-- starts in the first words of t, and the entry after them
+record Entered (q : CheckResult) (t : List ℕ) (a : Answer Fault ((List ℕ) × ℕ)) : Type 0 where
+  reported : checkInAnswer q t ≡ a
+  fits : keptWords q ≤ length t
 
 entered : (t : List ℕ) (count : ℕ) → count ≤ length t → (q : CheckResult) (a : Answer Fault ℕ) → checkAnswer q ≡ bind a (λ e. ok (length (take count t), e))
     → Entered q t (bind a (λ e. ok (take count t, e)))
@@ -58,13 +58,17 @@ module _ (file t : List ℕ) (cap : ℕ) (some : length file ≡ 0 → ⊥) (sho
   unfolding checkIn
   check-error f is = rw (ne-eqb _ _ some, le-ltb _ _ short) (bind-error _ (rw is at reported))
 
-  pub check-walk : (count : ℕ) → r ≡ lists-are.Ok count → count ≤ length t → (q : CheckResult)
-      → checkAnswer q ≡ bind (entryAt (length file - 1) (getD file (length file - 1) 0) (take count t)) (λ e. ok (length (take count t), e))
-      → Entered q t (checkIn file cap)
-  unfolding checkIn
-  check-walk count is fits q e =
-      let a = entered t count fits q (entryAt (length file - 1) (getD file (length file - 1) 0) (take count t)) e in
-      record { reported = rw (ne-eqb _ _ some, le-ltb _ _ short) (bind-ok _ (rw is at reported) (a .reported)); fits = a .fits }
+  module _ (count : ℕ) (is : r ≡ lists-are.Ok count) (l : Listed r t) (q : CheckResult)
+      (e : checkAnswer q ≡ bind (entryAt (length file - 1) (getD file (length file - 1) 0) (take count t)) (λ e. ok (length (take count t), e))) where
+    with-entry : Entered q t (bind (entryAt (length file - 1) (getD file (length file - 1) 0) (take count t)) (λ e. ok (take count t, e)))
+    with-entry = entered t count (listed-fits r t count is l) q (entryAt (length file - 1) (getD file (length file - 1) 0) (take count t)) e
+
+    pub check-walk : checkInAnswer q t ≡ checkIn file cap
+    unfolding checkIn
+    check-walk = rw (ne-eqb _ _ some, le-ltb _ _ short) (bind-ok _ (rw is at reported) (with-entry .reported))
+
+    pub kept-fits : keptWords q ≤ length t
+    kept-fits = with-entry .fits
 
 -- ---- the table that is left
 
