@@ -7,8 +7,9 @@ use Prim.Native.Nat.{ℕ}
 use lib.Dec.{eqb}
 use Rattle.prelude.specs.Pick.{pick}
 use Rattle.prelude.specs.Answer.{ok, error}
-use Rattle.writer.specs.Step.{Call, Verdict, Result, step}
-use Rattle.writer.specs.declared.Writer.{Writer}
+use Rattle.writer_refusal.specs.Refusal.{Verdict}
+use Rattle.writer_refusal.specs.declared.State.{State}
+use Rattle.writer.specs.Step.{Call, Result, step}
 use Rattle.writer.proofs.Refused.{refused-same}
 use Rattle.abi_writer.specs.Calls.{writerOf, wordsOf, called, calledBy, stepC}
 
@@ -16,7 +17,7 @@ flag-back : (b : Bool) → not (eqb (pick b 1 0) 0) ≡ b
 flag-back true = refl
 flag-back false = refl
 
-pub writerOf-wordsOf : (w : Writer) → writerOf (wordsOf w) ≡ w
+pub writerOf-wordsOf : (w : State) → writerOf (wordsOf w) ≡ w
 writerOf-wordsOf w = λ i. record { written = w .written; count = w .count; pending = w .pending; start = w .start; closed = flag-back (w .closed) i }
 
 -- the number of an answer, 0 if the call is accepted
@@ -24,7 +25,7 @@ abbrev pub numberC : Verdict → ℕ
 numberC (ok u) = 0
 numberC (error f) = f
 
-module _ (c : Call) (w : Writer) (out table : List ℕ) where
+module _ (c : Call) (w : State) (out table : List ℕ) where
   abbrev next : Result
   next = step c w out table
 

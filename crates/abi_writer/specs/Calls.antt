@@ -1,8 +1,8 @@
 -- The writer's calls in C. The state is five words in the caller's memory, which may hold anything.
 --
---   writerOf state            the writer that the words stand for: written, count, pending, start, and closed if the
+--   writerOf state            the writer's state that the words stand for: written, count, pending, start, and closed if the
 --                             fifth is not 0
---   wordsOf w                 the words of a writer; the fifth is 1 if it is closed, else 0
+--   wordsOf w                 the words of a writer's state; the fifth is 1 if it is closed, else 0
 --   truth b                   the scalar for a bool
 --   Called, called n state out table
 --                             the number that a call returns, and what state, output and table hold after it
@@ -20,15 +20,16 @@ use lib.ListN.{getD}
 use Rattle.prelude.specs.Pick.{pick}
 use Rattle.prelude.specs.Answer.{ok, error}
 use Rattle.error.specs.Error.{numberOf}
-use Rattle.writer.specs.Step.{Call, Verdict, Result, step}
-use Rattle.writer.specs.declared.Writer.{Writer}
+use Rattle.writer_refusal.specs.Refusal.{Verdict}
+use Rattle.writer_refusal.specs.declared.State.{State}
+use Rattle.writer.specs.Step.{Call, Result, step}
 use Rattle.writer.specs.declared.Scalar.{Scalar}
 use Rattle.writer.specs.declared.Scalar.the-variants.{False, True}
 use Rattle.writer.specs.declared.WriteAnswer.{WriteAnswer}
 use Rattle.writer.specs.declared.WriteAnswer.the-variants.{Ok, Err}
 use Rattle.abi_error.specs.Reply.{Reply, reply}
 
-abbrev pub writerOf : List ℕ → Writer
+abbrev pub writerOf : List ℕ → State
 writerOf state = record {
   written = getD state 0 0;
   count = getD state 1 0;
@@ -37,7 +38,7 @@ writerOf state = record {
   closed = not (eqb (getD state 4 0) 0);
 }
 
-abbrev pub wordsOf : Writer → List ℕ
+abbrev pub wordsOf : State → List ℕ
 wordsOf w = w .written ∷ w .count ∷ w .pending ∷ w .start ∷ pick (w .closed) 1 0 ∷ []
 
 abbrev pub truth : Bool → Scalar
@@ -62,6 +63,6 @@ calledBy (error f) r state out table = called f state out table
 unfoldable pub stepC : Call → List ℕ → List ℕ → List ℕ → Called
 stepC c state out table = let r = step c (writerOf state) out table in calledBy (r .answer) r state out table
 
-abbrev pub settleC : WriteAnswer → Writer → List ℕ → Reply
+abbrev pub settleC : WriteAnswer → State → List ℕ → Reply
 settleC Ok w state = reply 0 (wordsOf w)
 settleC (Err e) w state = reply (numberOf e) state

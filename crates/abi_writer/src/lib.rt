@@ -3,6 +3,7 @@ use writer::Scalar;
 use writer::WriteAnswer;
 use writer::WriteResult;
 use writer::Writer;
+use writer_refusal::State;
 ghost use mathlib.Core.Path.{_≡_};
 ghost use Rattle.prelude.specs.Pick.{pick};
 ghost use Rattle.abi_error.specs.Reply.{reply};
@@ -19,14 +20,16 @@ pub fn begin(state: &mut [u64; 5]) -> u32
 
 // The writer that the five words stand for.
 pub fn writer_of(state: &[u64; 5]) -> Writer
-    ensures { λ r. ⌜ r ≡ writerOf (now (state .entry)) ⌝ }
+    ensures { λ r. ⌜ r .state ≡ writerOf (now (state .entry)) ⌝ }
 {
     Writer {
-        written: state[0] as usize,
-        count: state[1] as usize,
-        pending: state[2],
-        start: state[3] as usize,
-        closed: state[4] != 0,
+        state: State {
+            written: state[0] as usize,
+            count: state[1] as usize,
+            pending: state[2],
+            start: state[3] as usize,
+            closed: state[4] != 0,
+        },
     }
 }
 
@@ -42,10 +45,10 @@ fn flag(b: bool) -> u64
 
 // Stores the next state; a refused call leaves the words as they were.
 pub fn settle(r: WriteResult, state: &mut [u64; 5]) -> u32
-    ensures { λ n. ⌜ reply n (now (state .exit)) ≡ settleC (r .answer) (r .writer) (now (state .entry)) ⌝ }
+    ensures { λ n. ⌜ reply n (now (state .exit)) ≡ settleC (r .answer) (r .writer .state) (now (state .entry)) ⌝ }
 {
     let answer = r.answer;
-    let w = r.writer;
+    let w = r.writer.state;
     match answer {
         WriteAnswer::Ok => {
             *state = [

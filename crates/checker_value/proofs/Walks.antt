@@ -23,6 +23,7 @@ use Rattle.error.specs.Error as errors
 use Rattle.error.specs.Error.{Fault, fault, BAD_TEXT, BAD_TARGET, FULL}
 use Rattle.error.specs.declared.Error.{Error}
 use Rattle.utf8.specs.Text.{isText}
+use Rattle.kind.specs.Kind.{due}
 use Rattle.scan.specs.Answers as scans
 use Rattle.scan.specs.Answers.{scanAt, bodyOn}
 use Rattle.scan.specs.declared.ScanResult.{ScanResult}
@@ -31,7 +32,7 @@ use Rattle.scan.specs.declared.Head.{Head}
 use Rattle.scan.proofs.Places.{Within, scan-within}
 use Rattle.checker_value.specs.declared.ValueResult.{ValueResult}
 use Rattle.checker_value.specs.declared.ValueResult.the-variants as results-are
-use Rattle.checker_value.specs.Walk.{hasTarget, tokenFault, Walk, between, nextToken, due, walkAfter, walkTurned, walkTurn, startsFrom}
+use Rattle.checker_value.specs.Walk.{hasTarget, tokenFault, Walk, between, nextToken, walkAfter, walkTurned, walkTurn, startsFrom}
 use Rattle.checker_value.specs.Internal.{inValue, Ends}
 
 -- ---- a token that the walk takes

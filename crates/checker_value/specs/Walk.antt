@@ -10,7 +10,6 @@
 --   nextToken s cap done pending at
 --                      the token at `at`, with that many items pending and a table of cap words: FULL for a new value,
 --                      then the token's own faults in their order
---   due pending items  the items pending after a token: its own if it begins a value, else one less than before
 --   walkAfter w h      the walk after a token with head h: a value's start is listed once none of its items is pending
 --   walkTurned w a     the turn at w, if `nextToken` answered a
 --   walkTurn s cap w   one turn: at the region's end between two values, the starts; else a token
@@ -27,6 +26,7 @@ use Rattle.prelude.specs.Loop.{Turn, go, stop, from}
 use Rattle.prelude.specs.Search.{among}
 use Rattle.error.specs.Error.{Fault, fault, BAD_TEXT, BAD_TARGET, FULL}
 use Rattle.utf8.specs.Text.{isText}
+use Rattle.kind.specs.Kind.{due}
 use Rattle.scan.specs.Answers.{scanAt, bodyOn}
 use Rattle.scan.specs.declared.Head.{Head}
 
@@ -56,9 +56,6 @@ unfoldable pub nextToken : List ℕ → ℕ → List ℕ → ℕ → ℕ → Ans
 nextToken s cap done pending at =
     pick (eqb pending 0 && leb cap (length done)) (error (fault FULL at))
     (bind (scanAt (ltb 0 pending) s at) (tokenFault s done at))
-
-abbrev pub due : ℕ → ℕ → ℕ
-due pending items = pick (eqb pending 0) items (pending - 1)
 
 unfoldable pub walkAfter : Walk → Head → Walk
 walkAfter w h =

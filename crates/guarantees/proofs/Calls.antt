@@ -15,15 +15,16 @@ use Rattle.prelude.specs.Pick.{pick}
 use Rattle.prelude.specs.Answer.{ok, error}
 use Rattle.prelude.proofs.Tests.{pick-elim}
 use Rattle.token.specs.Token.{Token, token, emit}
-use Rattle.writer.specs.Step.{Call, Move, puts, closes, moveOf, opens, limit, pendingOf, due, Verdict, refusalOf, refusalOfDelta, Result, result, startOf, write, writeDelta, writePointerDelta, settled, putToken, closeAt, move, step}
-use Rattle.writer.specs.declared.Writer.{Writer}
-use Rattle.writer.proofs.Accepted.{Accepted, refusalOf-inv, room-after, emit-pos}
-use Rattle.writer.proofs.Closes.{Near, delta-inv}
+use Rattle.kind.specs.Kind.{due}
+use Rattle.writer_refusal.specs.Refusal.{limit, Verdict}
+use Rattle.writer_refusal.specs.declared.State.{State}
+use Rattle.writer.specs.Step.{Call, Move, puts, closes, moveOf, opens, pendingOf, tokenRefusal, deltaRefusal, Result, result, startOf, write, writeDelta, writePointerDelta, settled, putToken, closeAt, move, step}
+use Rattle.writer.proofs.Accepted.{Accepted, token-inv, room-after, emit-pos, Near, delta-inv, delta-fits}
 use Rattle.writer.proofs.Refused.{pointerTo}
 
 -- ---- what an accepted call does
 
-module _ (s : Writer) (out table : List ℕ) (P : Result → Type 0) where
+module _ (s : State) (out table : List ℕ) (P : Result → Type 0) where
   settled-ok : (v : Verdict) (r : Result) → settled v s out table r .answer ≡ ok tt → (v ≡ ok tt → P r) → P (settled v s out table r)
   settled-ok (ok tt) r e k = k refl
   settled-ok (error f) r e k = let z : _≡_ {A = ℕ} 0 1 = cc in absurd (omega arith)
@@ -32,7 +33,7 @@ module _ (s : Writer) (out table : List ℕ) (P : Result → Type 0) where
   pub put-by : (t : Token) (target : ℕ) → (Accepted (opens t) t target s out table → P (write t s out table))
       → putToken t target s out table .answer ≡ ok tt → P (putToken t target s out table)
   unfolding putToken
-  put-by t target f e = settled-ok (refusalOf (opens t) t target s out table) (write t s out table) e (λ j. f (refusalOf-inv _ _ _ _ _ _ j))
+  put-by t target f e = settled-ok (tokenRefusal (opens t) t target s out table) (write t s out table) e (λ j. f (token-inv _ _ _ _ _ _ j))
 
   -- an accepted close, by the delta byte or by a pointer
   pub close-by : (x : ℕ) → (s .written - x - 1 ≤ 255 → Near x s out table → P (writeDelta (s .written - x - 1) s out table))
@@ -41,10 +42,9 @@ module _ (s : Writer) (out table : List ℕ) (P : Result → Type 0) where
   unfolding closeAt
   close-by x near far =
       pick-elim (λ r. r .answer ≡ ok tt → P r) (leb (s .written - x - 1) 255)
-      (λ b e. settled-ok (refusalOfDelta x s out table) (writeDelta (s .written - x - 1) s out table) e
-      (λ j. near (leb-true _ _ b) (delta-inv x s out table j)))
-      (λ b e. settled-ok (refusalOf true (pointerTo x s) x s out table) (writePointerDelta (pointerTo x s) s out table) e (λ j.
-      far (leb-false _ _ b) (refusalOf-inv _ _ _ _ _ _ j)))
+      (λ b e. settled-ok (deltaRefusal x s out table) (writeDelta (s .written - x - 1) s out table) e (λ j. near (leb-true _ _ b) (delta-inv x s out table j)))
+      (λ b e. settled-ok (tokenRefusal true (pointerTo x s) x s out table) (writePointerDelta (pointerTo x s) s out table) e (λ j.
+      far (leb-false _ _ b) (token-inv _ _ _ _ _ _ j)))
 
   -- an accepted call
   module _ (token-put : (t : Token) (target : ℕ) → Accepted (opens t) t target s out table → P (write t s out table))
@@ -61,7 +61,7 @@ module _ (s : Writer) (out table : List ℕ) (P : Result → Type 0) where
 
 -- a call that leaves r: more bytes are written, within the output and LIMIT; lengths stay; in the output only the bytes
 -- from the old to the new `written` change, in the table only the word at the old count
-pub record Only (s : Writer) (out table : List ℕ) (r : Result) : Type 0 where
+pub record Only (s : State) (out table : List ℕ) (r : Result) : Type 0 where
   pub grows : s .written < r .writer .written
   pub within : r .writer .written ≤ limit (length out)
   pub bytes : length (r .out) ≡ length out
@@ -86,7 +86,7 @@ module _ (b : Bool) (t : List ℕ) (i x : ℕ) where
   pick-set-other : (k : ℕ) → (k ≡ i → ⊥) → getD (pick b (set t i x) t) k 0 ≡ getD t k 0
   pick-set-other k h = pick-elim (λ l. getD l k 0 ≡ getD t k 0) b (λ _. getD-set-other t i k x 0 h) (λ _. refl)
 
-module _ (s : Writer) (out table : List ℕ) where
+module _ (s : State) (out table : List ℕ) where
   write-only : (t : Token) → s .written + length (emit t) ≤ limit (length out) → Only s out table (write t s out table)
   unfolding write
   write-only t h = record {
@@ -120,7 +120,7 @@ drop-later m n l k h e =
     ap (λ j. drop j l) q ∙ sym (drop-drop (m - n) n l) ∙ ap (drop (m - n)) e ∙ drop-drop (m - n) n k ∙ ap (λ j. drop j k) (sym q)
 
 -- one call and then another that leaves the table as it is
-then-only : (s : Writer) (out table : List ℕ) (r q : Result) → Only s out table r → Only (r .writer) (r .out) (r .table) q → q .table ≡ r .table
+then-only : (s : State) (out table : List ℕ) (r q : Result) → Only s out table r → Only (r .writer) (r .out) (r .table) q → q .table ≡ r .table
     → Only s out table q
 then-only s out table r q one two same =
     let w = s .written in
@@ -136,7 +136,7 @@ then-only s out table r q one two same =
     }
 
 -- a pointer, and the delta byte after it
-writePointerDelta-only : (s : Writer) (out table : List ℕ) (t : Token) → s .written + length (emit t) < limit (length out)
+writePointerDelta-only : (s : State) (out table : List ℕ) (t : Token) → s .written + length (emit t) < limit (length out)
     → Only s out table (writePointerDelta t s out table)
 unfolding writePointerDelta write writeDelta
 writePointerDelta-only s out table t h =
@@ -145,10 +145,10 @@ writePointerDelta-only s out table t h =
     then-only s out table r _ one (delta-only (r .writer) (r .out) (r .table) (length (emit t) - 1) (omega (arith, one .bytes))) refl
 
 -- an accepted call changes only the bytes from the old to the new `written`, and the one word
-pub accepted-only : (c : Call) (s : Writer) (out table : List ℕ) → step c s out table .answer ≡ ok tt → Only s out table (step c s out table)
+pub accepted-only : (c : Call) (s : State) (out table : List ℕ) → step c s out table .answer ≡ ok tt → Only s out table (step c s out table)
 accepted-only c s out table =
     accepted-by s out table (Only s out table)
     (λ t x a. write-only s out table t (omega (arith, room-after _ t x s out table a)))
-    (λ e n. delta-only s out table _ (n .byte))
+    (λ e n. delta-only s out table _ (delta-fits e s out table n))
     (λ e a. writePointerDelta-only s out table (pointerTo e s) (room-after _ (pointerTo e s) e s out table a))
     c

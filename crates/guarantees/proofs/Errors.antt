@@ -4,7 +4,7 @@
 -- (`error-known`), so neither RESERVED nor RANGE (`never-reserved`), since with arguments of the stated widths a call
 -- puts a token that its kind allows (`given-allowed`).
 use mathlib.Core.Path.{_≡_, refl, subst}
-use mathlib.Core.Bool.{Bool, true, false, not, _&&_, true≢false, false≢true}
+use mathlib.Core.Bool.{Bool, true, false, _&&_, true≢false, false≢true}
 use mathlib.Core.List.{List, [], _∷_}
 use Prim.Native.Nat.{ℕ, _-_, _^_, _≤_, _<_, min}
 use native.Mathlib.Omega.{arith}
@@ -15,16 +15,16 @@ use Rattle.prelude.specs.Pick.{pick}
 use Rattle.prelude.specs.Answer.{ok, error}
 use Rattle.prelude.specs.Search.{among}
 use Rattle.error.specs.Error.{RESERVED, RANGE, BAD_STATE, CLOSED, OWED, BAD_TEXT, BAD_TARGET, FULL, NO_ROOM}
-use Rattle.utf8.specs.Text.{isText}
 use Rattle.little_endian.proofs.Laws.{length-little}
 use Rattle.kind.specs.Kind.{rule, size}
 use Rattle.token.specs.Token.{Token, token, Allowed}
-use Rattle.writer.specs.Step.{Call, scalar, integer, float32, float64, text, bytes, variant, reference, pointer, openArray, openMap, openTag, openVariant1, openVariantN, close, Move, puts, closes, moveOf, fresh, badState, isListed, limit, room, Verdict, early, refusalOf, refusalOfDelta, Result, settled, step}
-use Rattle.writer.specs.Internal.{bytesNeeded}
+use Rattle.writer_refusal.specs.Refusal.{badState, Verdict, refusalOf}
+use Rattle.writer_refusal.specs.declared.State.{State}
+use Rattle.writer_refusal.specs.declared.CallFlags.{CallFlags}
+use Rattle.writer_refusal.proofs.Refusals.{not-bad}
+use Rattle.writer.specs.Step.{Call, scalar, integer, float32, float64, text, bytes, variant, reference, pointer, openArray, openMap, openTag, openVariant1, openVariantN, close, Move, puts, closes, moveOf, fresh, tokenRefusal, deltaRefusal, Result, settled, step}
 use Rattle.writer.specs.Given.{Given}
-use Rattle.writer.specs.declared.Writer.{Writer}
 use Rattle.writer.specs.declared.Scalar.the-variants.{False, True, Null}
-use Rattle.writer.proofs.Accepted.{not-bad}
 use Rattle.writer.proofs.Refused.{pointerTo, settled-by}
 
 -- with an output and a table of any lengths
@@ -52,40 +52,32 @@ known : (b : Bool) (f : ℕ) (v : Verdict) → among f errors ≡ true → Known
 known true f v h k = h
 known false f v h k = k
 
-known-early : (alone : Bool) (s : Writer) (n m : ℕ) (v : Verdict) → Known v → Known (early alone s n m v)
-unfolding early among
-known-early alone s n m v k = known (badState s n m) _ _ refl (known (s .closed) _ _ refl (known (alone && ltb 0 (s .pending)) _ _ refl k))
-
-known-refusal : (alone : Bool) (t : Token) (target : ℕ) (s : Writer) (out table : List ℕ) → Known (refusalOf alone t target s out table)
+known-refusal : (q : CallFlags) (short : Bool) (s : State) (n m : ℕ) → Known (refusalOf q short s n m)
 unfolding refusalOf among
-known-refusal alone t target s out table =
-    known-early alone s _ _ _
-    (known (eqb (t .kind) 4 && not (isText (t .body))) _ _ refl
-    (known (leb 14 (t .kind) && not (isListed s table target)) _ _ refl
-    (known (eqb (s .pending) 0 && leb (length table) (s .count)) _ _ refl
-    (known (ltb (room s (length out)) (bytesNeeded t s)) NO_ROOM (ok tt) refl tt))))
+known-refusal q short s n m =
+    known (badState s n m) _ _ refl
+    (known (s .closed) _ _ refl
+    (known (q .alone && ltb 0 (s .pending)) _ _ refl
+    (known (q .text) _ _ refl
+    (known (q .target) _ _ refl
+    (known (q .adds && eqb (s .pending) 0 && leb m (s .count)) _ _ refl
+    (known short NO_ROOM (ok tt) refl tt))))))
 
-known-delta : (e : ℕ) (s : Writer) (out table : List ℕ) → Known (refusalOfDelta e s out table)
-unfolding refusalOfDelta among
-known-delta e s out table =
-    known-early true s _ _ _
-    (known (not (isListed s table e)) _ _ refl
-    (known (leb (limit (length out)) (s .written)) NO_ROOM (ok tt) refl tt))
-
-known-settled : (s : Writer) (out table : List ℕ) (v : Verdict) (r : Result) → r .answer ≡ ok tt → Known v → Known (settled v s out table r .answer)
+known-settled : (s : State) (out table : List ℕ) (v : Verdict) (r : Result) → r .answer ≡ ok tt → Known v → Known (settled v s out table r .answer)
 known-settled s out table (ok u) r e k = rw e tt
 known-settled s out table (error f) r e k = k
 
 -- a refused call answers one of the seven
-pub error-known : (c : Call) (s : Writer) (out table : List ℕ) (f : ℕ) → step c s out table .answer ≡ error f → among f errors ≡ true
+pub error-known : (c : Call) (s : State) (out table : List ℕ) (f : ℕ) → step c s out table .answer ≡ error f → among f errors ≡ true
+unfolding tokenRefusal deltaRefusal
 error-known c s out table f e =
     subst Known e
     (settled-by s out table (λ r. Known (r .answer))
-    (λ alone t target r a. known-settled s out table (refusalOf alone t target s out table) r a (known-refusal alone t target s out table))
-    (λ x r a. known-settled s out table (refusalOfDelta x s out table) r a (known-delta x s out table))
+    (λ alone t target r a. known-settled s out table (tokenRefusal alone t target s out table) r a (known-refusal _ _ s _ _))
+    (λ x r a. known-settled s out table (deltaRefusal x s out table) r a (known-refusal _ _ s _ _))
     (moveOf c (s .written)))
 
-pub never-reserved : (c : Call) (s : Writer) (out table : List ℕ) → (step c s out table .answer ≡ error RESERVED → ⊥)
+pub never-reserved : (c : Call) (s : State) (out table : List ℕ) → (step c s out table .answer ≡ error RESERVED → ⊥)
     × (step c s out table .answer ≡ error RANGE → ⊥)
 unfolding among
 never-reserved c s out table =
@@ -132,5 +124,5 @@ pub given-allowed : (c : Call) (w : ℕ) (t : Token) (target : ℕ) → Given c 
 given-allowed c w t target g h e = subst AllowedMove e (allowed-move c w g h)
 
 -- and so does a close that adds a pointer
-pub pointer-allowed : (x : ℕ) (s : Writer) → s .written < 2 ^ 64 → Allowed (pointerTo x s)
+pub pointer-allowed : (x : ℕ) (s : State) → s .written < 2 ^ 64 → Allowed (pointerTo x s)
 pointer-allowed x s h = allowed-move (pointer x) (s .written) tt h

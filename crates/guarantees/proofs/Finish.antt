@@ -9,17 +9,18 @@ use Prim.Native.Nat.{ℕ, suc, _+_, _≤_, _<_}
 use native.Mathlib.Omega.{arith}
 use lib.Dec.{eqb}
 use lib.ListN.{length}
-use borrow.Author.Tests.{eqb-true, leb-true, ne-eqb}
+use borrow.Author.Tests.{eqb-true, leb-true, le-ltb, ne-eqb}
 use Rattle.prelude.specs.Answer.{ok}
 use Rattle.prelude.proofs.Tests.{unless}
-use Rattle.kind.specs.Kind.{rule}
+use Rattle.kind.specs.Kind.{rule, due}
 use Rattle.utf8.specs.Text.{isText}
 use Rattle.token.specs.Token.{Token, token, putIf, emit}
-use Rattle.writer.specs.Step.{Call, scalar, scalarOf, puts, moveOf, opens, isListed, room, pendingOf, due, Result, result, startOf, write, putToken, step}
-use Rattle.writer.specs.declared.Writer.{Writer}
+use Rattle.writer_refusal.specs.Refusal.{isListed, room}
+use Rattle.writer_refusal.specs.declared.State.{State}
+use Rattle.writer.specs.Step.{Call, scalar, scalarOf, puts, moveOf, opens, pendingOf, bytesNeeded, Result, result, startOf, write, putToken, step}
 use Rattle.writer.specs.declared.Scalar.{Scalar}
 use Rattle.writer.specs.declared.Scalar.the-variants.{False, True, Null}
-use Rattle.writer.proofs.Accepted.{new-start, Accepted, refusalOf-ok}
+use Rattle.writer.proofs.Accepted.{new-start, Accepted, token-ok}
 use Rattle.values.specs.Values.{Each}
 use Rattle.guarantees.specs.History.{runs}
 use Rattle.guarantees.specs.Rewrites.{AllOk}
@@ -30,14 +31,14 @@ use Rattle.guarantees.proofs.Results.{FinishesNone, Finishes, write-mor
 
 -- t may be the next item, with k more to come: an immediate, whose text is text, whose target is listed, and which has
 -- room with a byte for each of the k
-pub record Item (k : ℕ) (t : Token) (target : ℕ) (s : Writer) (out table : List ℕ) : Type 0 where
+pub record Item (k : ℕ) (t : Token) (target : ℕ) (s : State) (out table : List ℕ) : Type 0 where
   pub immediate : opens t ≡ false
   pub text : t .kind ≡ 4 → isText (t .body) ≡ true
   pub aim : 14 ≤ t .kind → isListed s table target ≡ true
   pub fits : length (emit t) + k ≤ room s (length out)
 
 -- an item of n bytes was taken, and k are left: the value stays open, with its start, or is finished, and its start is listed
-pub record TookItem (k n : ℕ) (s : Writer) (table : List ℕ) (r : Result) : Type 0 where
+pub record TookItem (k n : ℕ) (s : State) (table : List ℕ) (r : Result) : Type 0 where
   pub answer : r .answer ≡ ok tt
   pub written : r .writer .written ≡ s .written + n
   pub start : r .writer .start ≡ s .start
@@ -45,7 +46,7 @@ pub record TookItem (k n : ℕ) (s : Writer) (table : List ℕ) (r : Result) : T
   pub more : 0 < k → FinishesNone s table r
   pub last : k ≡ 0 → Finishes (s .start) s table r
 
-module _ (k : ℕ) (s : Writer) (out table : List ℕ) (o : Open (suc k) s out table) where
+module _ (k : ℕ) (s : State) (out table : List ℕ) (o : Open (suc k) s out table) where
   some : eqb (s .pending) 0 ≡ false
   some = ne-eqb (s .pending) 0 (λ e. omega (arith, o .items))
 
@@ -57,15 +58,19 @@ module _ (k : ℕ) (s : Writer) (out table : List ℕ) (o : Open (suc k) s out t
 
   item-accepted : (t : Token) (target : ℕ) → Item k t target s out table → Accepted (opens t) t target s out table
   item-accepted t target i = record {
-    passed = record { good = o .good; unclosed = o .unclosed; alike = rw (i .immediate) };
-    text = unless _ _ (λ e. i .text (eqb-true _ _ e));
-    aim = unless _ _ (λ e. i .aim (leb-true _ _ e));
-    word = rw some;
-    fits = rw (due-is (pendingOf t)) (i .fits);
+    granted = record {
+      good = o .good;
+      unclosed = o .unclosed;
+      alike = rw (i .immediate);
+      text = unless _ _ (λ e. i .text (eqb-true _ _ e));
+      target = unless _ _ (λ e. i .aim (leb-true _ _ e));
+      word = rw some;
+      fits = le-ltb (room s (length out)) (bytesNeeded t s) (rw (due-is (pendingOf t)) (i .fits));
+    };
   }
 
 -- an open value takes any immediate that has room
-pub item-taken : (k : ℕ) (c : Call) (t : Token) (target : ℕ) (s : Writer) (out table : List ℕ) → Open (suc k) s out table
+pub item-taken : (k : ℕ) (c : Call) (t : Token) (target : ℕ) (s : State) (out table : List ℕ) → Open (suc k) s out table
     → moveOf c (s .written) ≡ puts t target → Item k t target s out table → TookItem k (length (emit t)) s table (step c s out table)
 unfolding putToken write
 item-taken k c t target s out table o e i =
@@ -73,7 +78,7 @@ item-taken k c t target s out table o e i =
     let a = item-accepted k s out table o t target i in
     let left = due-is k s out table o (pendingOf t) in
     let start = start-is k s out table o in
-    rw (e, refusalOf-ok (opens t) t target s out table a) (record {
+    rw (e, token-ok (opens t) t target s out table a) (record {
       answer = refl;
       written = refl;
       start = start;
@@ -109,7 +114,7 @@ scalar-one x = record {
     one True = refl
     one Null = refl
 
-one-taken : (k : ℕ) (c : Call) (s : Writer) (out table : List ℕ) → Open (suc k) s out table → OneByte c → TookItem k 1 s table (step c s out table)
+one-taken : (k : ℕ) (c : Call) (s : State) (out table : List ℕ) → Open (suc k) s out table → OneByte c → TookItem k 1 s table (step c s out table)
 one-taken k c s out table o b =
     subst (λ n. TookItem k n s table (step c s out table)) (b .byte)
     (item-taken k c (b .item) 0 s out table o (b .always (s .written)) (record {
@@ -120,7 +125,7 @@ one-taken k c s out table o b =
     }))
 
 -- an open value that stays open is finished later
-finishes-then : (x : ℕ) (s : Writer) (table : List ℕ) (r q : Result) → FinishesNone s table r → r .writer .start ≡ x
+finishes-then : (x : ℕ) (s : State) (table : List ℕ) (r q : Result) → FinishesNone s table r → r .writer .start ≡ x
     → Finishes (r .writer .start) (r .writer) (r .table) q → Finishes x s table q
 finishes-then x s table r q n e f = record {
   none = f .none;
@@ -134,13 +139,13 @@ abbrev left : List Call → Result → Result
 left cs r = let q = runs cs (r .writer) (r .out) (r .table) in result (ok tt) (q .writer) (q .out) (q .table)
 
 -- the calls cs after r are all accepted; the value that starts at x is then finished, with w bytes written
-pub record FinishedBy (cs : List Call) (x w : ℕ) (s : Writer) (table : List ℕ) (r : Result) : Type 0 where
+pub record FinishedBy (cs : List Call) (x w : ℕ) (s : State) (table : List ℕ) (r : Result) : Type 0 where
   pub accepted : AllOk (runs cs (r .writer) (r .out) (r .table) .answers)
   pub finishes : Finishes x s table (left cs r)
   pub written : left cs r .writer .written ≡ w
 
 -- a value is finished by what a call leaves, and not by its answer
-finishes-left : (x : ℕ) (s : Writer) (table : List ℕ) (r : Result) → Finishes x s table r → Finishes x s table (left [] r)
+finishes-left : (x : ℕ) (s : State) (table : List ℕ) (r : Result) → Finishes x s table r → Finishes x s table (left [] r)
 unfolding runs
 finishes-left x s table r f = record { none = f .none; count = f .count; words = f .words; listed = f .listed }
 
@@ -161,14 +166,14 @@ finishable (c ∷ d ∷ cs) r h o b =
       written = omega (arith, f .written, t .written);
     }
 
-opened : (t : Token) (target : ℕ) (s : Writer) (out table : List ℕ) → Accepted true t target s out table
+opened : (t : Token) (target : ℕ) (s : State) (out table : List ℕ) → Accepted true t target s out table
     → (cs : List Call) → length cs ≡ write t s out table .writer .pending → Each OneByte cs
     → FinishedBy cs (s .written) (s .written + length (emit t) + length cs) s table (write t s out table)
 unfolding write runs
 opened t target s out table a [] l b = record {
   accepted = tt;
   finishes = finishes-left _ s table (write t s out table)
-      (subst (λ x. Finishes x s table (write t s out table)) (new-start s _ _ (a .passed)) (write-last true t target s out table a (sym l)));
+      (subst (λ x. Finishes x s table (write t s out table)) (new-start s (a .granted .alike)) (write-last true t target s out table a (sym l)));
   written = omega arith;
 }
 opened t target s out table a (c ∷ cs) l b =
@@ -177,12 +182,12 @@ opened t target s out table a (c ∷ cs) l b =
     let f = finishable (c ∷ cs) r (omega arith) o b in
     record {
       accepted = f .accepted;
-      finishes = finishes-then _ _ _ _ _ (write-more true t target s out table a (omega arith)) (new-start s _ _ (a .passed)) (f .finishes);
+      finishes = finishes-then _ _ _ _ _ (write-more true t target s out table a (omega arith)) (new-start s (a .granted .alike)) (f .finishes);
       written = f .written;
     }
 
 -- so is a value from its opening t on; its start, which is then listed, is where the opening was written
-pub opening-finishable : (c : Call) (t : Token) (target : ℕ) (s : Writer) (out table : List ℕ) → moveOf c (s .written) ≡ puts t target
+pub opening-finishable : (c : Call) (t : Token) (target : ℕ) (s : State) (out table : List ℕ) → moveOf c (s .written) ≡ puts t target
     → opens t ≡ true → step c s out table .answer ≡ ok tt
     → (cs : List Call) → length cs ≡ step c s out table .writer .pending → Each OneByte cs
     → FinishedBy cs (s .written) (s .written + length (emit t) + length cs) s table (step c s out table)

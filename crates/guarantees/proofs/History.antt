@@ -17,14 +17,15 @@ use Rattle.prelude.specs.Pick.{pick}
 use Rattle.prelude.specs.Answer.{ok, error}
 use Rattle.prelude.specs.Search.{among}
 use Rattle.prelude.proofs.Tests.{pick-elim, pick-cong, split, and-implied}
-use Rattle.kind.specs.Kind.{rule, pending}
+use Rattle.kind.specs.Kind.{rule, pending, due}
 use Rattle.token.specs.Token.{token, emit}
 use Rattle.values.specs.Values.{bytes, region, starts}
-use Rattle.writer.specs.Step.{Call, scalar, integer, float32, float64, text, bytes as byteString, variant, reference, pointer, openArray, openMap, openTag, openVariant1, openVariantN, close, Move, puts, closes, moveOf, fresh, opens, badState, isListed, limit, pendingOf, due, early, refusalOf, refusalOfDelta, Verdict, Result, startOf, write, writeDelta, writePointerDelta, settled, putToken, closeAt, move, step}
-use Rattle.writer.specs.declared.Writer.{Writer}
+use Rattle.writer_refusal.specs.Refusal.{badState, isListed, limit, Verdict, refusalOf}
+use Rattle.writer_refusal.specs.declared.State.{State}
+use Rattle.writer_refusal.proofs.Refusals.{sound, not-bad}
+use Rattle.writer.specs.Step.{Call, scalar, integer, float32, float64, text, bytes as byteString, variant, reference, pointer, openArray, openMap, openTag, openVariant1, openVariantN, close, Move, puts, closes, moveOf, fresh, opens, pendingOf, tokenRefusal, deltaRefusal, Result, startOf, write, writeDelta, writePointerDelta, settled, putToken, closeAt, move, step}
 use Rattle.writer.specs.declared.Scalar.the-variants.{False, True, Null}
-use Rattle.writer.proofs.Accepted.{sound, not-bad, Accepted, refusalOf-inv, free-word, room-after, none-pending}
-use Rattle.writer.proofs.Closes.{delta-inv}
+use Rattle.writer.proofs.Accepted.{Accepted, token-inv, free-word, room-after, none-pending, delta-inv, delta-fits}
 use Rattle.writer.proofs.Refused.{refused-same}
 use Rattle.guarantees.proofs.Calls.{accepted-only}
 use Rattle.guarantees.proofs.Results.{write-open}
@@ -64,17 +65,17 @@ move-request (close e) w = refl
 -- ---- the writer follows the model
 
 -- an open value has items pending, and the state has its start
-abbrev Begun : Writer → List ModelValue → Stage → Type 0
+abbrev Begun : State → List ModelValue → Stage → Type 0
 Begun s vs between = Unit {0}
 Begun s vs (within v) = (0 < pendingIn v) × (s .start ≡ endOf vs)
 Begun s vs (closed d) = Unit {0}
 
-pub record Follows (s : Writer) (out table : List ℕ) (b : Model) : Type 0 where
+pub record Follows (s : State) (out table : List ℕ) (b : Model) : Type 0 where
   pub agree : Agree s out table b
   pub good : badState s (length out) (length table) ≡ false
   pub begun : Begun s (b .finished) (b .stage)
 
-module _ (s : Writer) (out table : List ℕ) (b : Model) (f : Follows s out table b) where
+module _ (s : State) (out table : List ℕ) (b : Model) (f : Follows s out table b) where
   listed-same : (x : ℕ) → isListed s table x ≡ among x (modelStarts b)
   unfolding modelStarts
   listed-same x =
@@ -89,28 +90,28 @@ module _ (s : Writer) (out table : List ℕ) (b : Model) (f : Follows s out tabl
   count-same = f .agree .count ∙ length-startsOf b
 
 -- the items pending after the next part, if the model is not closed
-due-same : (s : Writer) (vs : List ModelValue) (g : Stage) (q : ℕ) (p : Part) → Begun s vs g → isClosed g ≡ false
+due-same : (s : State) (vs : List ModelValue) (g : Stage) (q : ℕ) (p : Part) → Begun s vs g → isClosed g ≡ false
     → due (pendingAt g) (pendingOf (formOf q p)) ≡ pendingIn (grown g p)
 due-same s vs between q p h c = omega (arith, pending-form q p)
 due-same s vs (within v) q p h c = rw (ne-eqb (pendingIn v) 0 (λ z. omega (arith, h .0)), length-append (v .items) (p ∷ [])) (omega arith)
 due-same s vs (closed d) q p h c = absurd (true≢false c)
 
 -- where the value starts that the next part belongs to
-start-same : (s : Writer) (out table : List ℕ) (vs : List ModelValue) (g : Stage) → Follows s out table (model vs g) → isClosed g ≡ false → startOf s ≡ endOf vs
+start-same : (s : State) (out table : List ℕ) (vs : List ModelValue) (g : Stage) → Follows s out table (model vs g) → isClosed g ≡ false → startOf s ≡ endOf vs
 start-same s out table vs between f c = rw (f .agree .pending) (f .agree .written ∙ ap length (bytes-between vs))
 start-same s out table vs (within v) f c = rw (f .agree .pending, ne-eqb (pendingIn v) 0 (λ z. omega (arith, f .begun .0))) (f .begun .1)
 start-same s out table vs (closed d) f c = absurd (true≢false c)
 
 -- ---- the answers
 
-settled-answer : (v : Verdict) (s : Writer) (out table : List ℕ) (r : Result) → r .answer ≡ ok tt → settled v s out table r .answer ≡ v
+settled-answer : (v : Verdict) (s : State) (out table : List ℕ) (r : Result) → r .answer ≡ ok tt → settled v s out table r .answer ≡ v
 settled-answer (ok tt) s out table r e = e
 settled-answer (error g) s out table r e = refl
 
-module _ (s : Writer) (out table : List ℕ) (b : Model) (f : Follows s out table b) where
+module _ (s : State) (out table : List ℕ) (b : Model) (f : Follows s out table b) where
   part-same : (p : Part) → let w = s .written in let t = formOf w p in
-      refusalOf (opens t) t (pick (leb 14 (p .kind)) (p .number) 0) s out table ≡ modelAnswer (adds p) b (length out) (length table)
-  unfolding refusalOf early formOf
+      tokenRefusal (opens t) t (pick (leb 14 (p .kind)) (p .number) 0) s out table ≡ modelAnswer (adds p) b (length out) (length table)
+  unfolding tokenRefusal refusalOf formOf
   part-same p =
       rw (
         f .good,
@@ -123,16 +124,16 @@ module _ (s : Writer) (out table : List ℕ) (b : Model) (f : Follows s out tabl
       (pick-cong (isClosed (b .stage)) (λ _. refl) (λ c. rw (due-same s (b .finished) (b .stage) (length (modelBytes b)) p (f .begun) c)))
 
   -- a close by the delta byte
-  near-same : (e : ℕ) → s .written - e - 1 ≤ 255 → refusalOfDelta e s out table ≡ modelAnswer (ends e) b (length out) (length table)
-  unfolding refusalOfDelta early
+  near-same : (e : ℕ) → s .written - e - 1 ≤ 255 → deltaRefusal e s out table ≡ modelAnswer (ends e) b (length out) (length table)
+  unfolding deltaRefusal refusalOf
   near-same e h =
       let back : backTo e b ≤ 255 = omega (arith, f .agree .written) in
       rw (f .good, f .agree .closed, f .agree .pending, listed-same s out table b f e, f .agree .written, le-ltb 255 (backTo e b) back)
 
   -- a close by a pointer
   far-same : (e : ℕ) → 255 < s .written - e - 1
-      → refusalOf true (token 15 (s .written - e - 1) 0 []) e s out table ≡ modelAnswer (ends e) b (length out) (length table)
-  unfolding refusalOf early formOf rule
+      → tokenRefusal true (token 15 (s .written - e - 1) 0 []) e s out table ≡ modelAnswer (ends e) b (length out) (length table)
+  unfolding tokenRefusal refusalOf formOf rule
   far-same e h =
       let back : 255 < backTo e b = omega (arith, f .agree .written) in
       rw (
@@ -185,11 +186,11 @@ pending-settled k vs v e = pick-elim (λ (b : Model). k ≡ pendingAt (b .stage)
 unclosed-settled : (vs : List ModelValue) (v : ModelValue) → false ≡ isClosed (settle vs v .stage)
 unclosed-settled vs v = pick-elim (λ (b : Model). false ≡ isClosed (b .stage)) (eqb (pendingIn v) 0) (λ _. refl) (λ _. refl)
 
-begun-settled : (s : Writer) (vs : List ModelValue) (v : ModelValue) → s .start ≡ endOf vs → Begun s (settle vs v .finished) (settle vs v .stage)
+begun-settled : (s : State) (vs : List ModelValue) (v : ModelValue) → s .start ≡ endOf vs → Begun s (settle vs v .finished) (settle vs v .stage)
 begun-settled s vs v e =
     pick-elim (λ (b : Model). Begun s (b .finished) (b .stage)) (eqb (pendingIn v) 0) (λ _. tt) (λ z. (omega (arith, eqb-false (pendingIn v) 0 z), e))
 
-module _ (s : Writer) (out table : List ℕ) (vs : List ModelValue) (g : Stage) (f : Follows s out table (model vs g)) (c : isClosed g ≡ false) (p : Part)
+module _ (s : State) (out table : List ℕ) (vs : List ModelValue) (g : Stage) (f : Follows s out table (model vs g)) (c : isClosed g ≡ false) (p : Part)
     (alone : Bool) (target : ℕ) (a : Accepted alone (formOf (s .written) p) target s out table) where
   write-agree : let r = write (formOf (s .written) p) s out table in Agree (r .writer) (r .out) (r .table) (settle vs (grown g p))
   unfolding write
@@ -223,13 +224,13 @@ module _ (s : Writer) (out table : List ℕ) (vs : List ModelValue) (g : Stage) 
 -- ---- what an accepted close leaves
 
 -- nothing is pending and there was no close: no value is open
-stage-between : (s : Writer) (out table : List ℕ) (vs : List ModelValue) (g : Stage) → Follows s out table (model vs g) → s .closed ≡ false → s .pending ≡ 0
+stage-between : (s : State) (out table : List ℕ) (vs : List ModelValue) (g : Stage) → Follows s out table (model vs g) → s .closed ≡ false → s .pending ≡ 0
     → g ≡ between
 stage-between s out table vs between f c e = refl
 stage-between s out table vs (within v) f c e = absurd (omega (arith, f .begun .0, f .agree .pending))
 stage-between s out table vs (closed d) f c e = absurd (true≢false (sym (f .agree .closed) ∙ c))
 
-delta-follows : (d : ℕ) (s : Writer) (out table : List ℕ) (vs : List ModelValue) → Follows s out table (model vs between) → s .written < limit (length out)
+delta-follows : (d : ℕ) (s : State) (out table : List ℕ) (vs : List ModelValue) → Follows s out table (model vs between) → s .written < limit (length out)
     → let r = writeDelta d s out table in Follows (r .writer) (r .out) (r .table) (model vs (closed d))
 unfolding writeDelta modelStarts
 delta-follows d s out table vs f byte =
@@ -256,7 +257,7 @@ delta-follows d s out table vs f byte =
       begun = tt;
     }
 
-module _ (s : Writer) (out table : List ℕ) (vs : List ModelValue) (f : Follows s out table (model vs between)) (e : ℕ) where
+module _ (s : State) (out table : List ℕ) (vs : List ModelValue) (f : Follows s out table (model vs between)) (e : ℕ) where
   abbrev closing : Part
   closing = part 15 e 0 []
 
@@ -275,7 +276,7 @@ module _ (s : Writer) (out table : List ℕ) (vs : List ModelValue) (f : Follows
 
 -- ---- one call
 
-module _ (s : Writer) (out table : List ℕ) (vs : List ModelValue) (g : Stage) (f : Follows s out table (model vs g)) where
+module _ (s : State) (out table : List ℕ) (vs : List ModelValue) (g : Stage) (f : Follows s out table (model vs g)) where
   abbrev b : Model
   b = model vs g
 
@@ -292,24 +293,24 @@ module _ (s : Writer) (out table : List ℕ) (vs : List ModelValue) (g : Stage) 
   unfolding putToken closeAt formOf
   request-follows (adds p) o =
       let j = part-same s out table b f p ∙ o in
-      let a = refusalOf-inv _ _ _ s out table j in
-      rw j (write-follows s out table vs g f (sym (f .agree .closed) ∙ a .passed .unclosed) p _ _ a)
+      let a = token-inv _ _ _ s out table j in
+      rw j (write-follows s out table vs g f (sym (f .agree .closed) ∙ a .granted .unclosed) p _ _ a)
   request-follows (ends e) o =
       split 255 (s .written - e - 1)
       (λ far.
       let j = far-same s out table b f e far ∙ o in
-      let a = refusalOf-inv _ _ _ s out table j in
-      let z = stage-between s out table vs g f (a .passed .unclosed) (none-pending s _ _ (a .passed)) in
+      let a = token-inv _ _ _ s out table j in
+      let z = stage-between s out table vs g f (a .granted .unclosed) (none-pending s (a .granted .alike)) in
       rw (lt-leb (s .written - e - 1) 255 far, j, ← f .agree .written, lt-ltb 255 (s .written - e - 1) far)
       (far-follows s out table vs (subst (λ x. Follows s out table (model vs x)) z f) e a))
       (λ near.
       let j = near-same s out table b f e near ∙ o in
       let n = delta-inv e s out table j in
-      let z = stage-between s out table vs g f (n .passed .unclosed) (none-pending s _ _ (n .passed)) in
+      let z = stage-between s out table vs g f (n .granted .unclosed) (none-pending s (n .granted .alike)) in
       rw (le-leb (s .written - e - 1) 255 near, j, ← f .agree .written, le-ltb 255 (s .written - e - 1) near)
-      (delta-follows (s .written - e - 1) s out table vs (subst (λ x. Follows s out table (model vs x)) z f) (n .byte)))
+      (delta-follows (s .written - e - 1) s out table vs (subst (λ x. Follows s out table (model vs x)) z f) (delta-fits e s out table n)))
 
-module _ (c : Call) (s : Writer) (out table : List ℕ) (b : Model) (f : Follows s out table b) where
+module _ (c : Call) (s : State) (out table : List ℕ) (b : Model) (f : Follows s out table b) where
   step-request : step c s out table ≡ move (moveAs (s .written) (requestOf c)) s out table
   step-request = ap (λ m. move m s out table) (move-request c (s .written))
 
@@ -328,7 +329,7 @@ module _ (c : Call) (s : Writer) (out table : List ℕ) (b : Model) (f : Follows
 -- ---- a list of calls
 
 -- output and table keep their lengths
-module _ (c : Call) (s : Writer) (out table : List ℕ) where
+module _ (c : Call) (s : State) (out table : List ℕ) where
   abbrev ModelInvariant : Result → Type 0
   ModelInvariant r = (length (r .out) ≡ length out) × (length (r .table) ≡ length table)
 
@@ -339,12 +340,12 @@ module _ (c : Call) (s : Writer) (out table : List ℕ) where
       by-answer (ok tt) e = let o = accepted-only c s out table e in (o .bytes, o .words)
       by-answer (error g) e = rw (refused-same c s out table g e) (refl, refl)
 
-pub record Alike (cs : List Call) (s : Writer) (out table : List ℕ) (b : Model) (n m : ℕ) : Type 0 where
+pub record Alike (cs : List Call) (s : State) (out table : List ℕ) (b : Model) (n m : ℕ) : Type 0 where
   -- each call was refused exactly when the model refuses it, with the same number
   pub answers : runs cs s out table .answers ≡ modelRun cs b n m .answers
   pub follows : let r = runs cs s out table in Follows (r .writer) (r .out) (r .table) (modelRun cs b n m .model)
 
-calls-alike : (cs : List Call) (s : Writer) (out table : List ℕ) (b : Model) → Follows s out table b → Alike cs s out table b (length out) (length table)
+calls-alike : (cs : List Call) (s : State) (out table : List ℕ) (b : Model) → Follows s out table b → Alike cs s out table b (length out) (length table)
 unfolding runs modelRun
 calls-alike [] s out table b f = record { answers = refl; follows = f }
 calls-alike (c ∷ cs) s out table b f =

@@ -33,8 +33,9 @@ use Rattle.token.specs.Token.{emit}
 use Rattle.values.specs.Values.{region, starts, Each}
 use Rattle.values.proofs.Members.{each-append, each-imp}
 use Rattle.values.proofs.Laws.{emit-pos, length-starts, start-of}
-use Rattle.writer.specs.Step.{Call, Verdict}
-use Rattle.writer.proofs.Accepted.{past}
+use Rattle.writer_refusal.specs.Refusal.{Verdict}
+use Rattle.writer_refusal.proofs.Refusals.{past}
+use Rattle.writer.specs.Step.{Call}
 use Rattle.guarantees.specs.Model.{Part, part, Request, adds, ends, requestOf, ModelValue, modelValue, formOf, valueAt, valuesAt, Stage, between, within, closed, isClosed, Model, model, emptyModel, modelBytes, modelStarts, pendingIn, pendingAt, grown, firstOf, modelRoom, backTo, modelAnswer, settle, modelAfter}
 use Rattle.guarantees.specs.History.{modelRun, unlessRefused}
 use Rattle.guarantees.specs.ReadsBack.{endOf, Holds}

@@ -32,7 +32,7 @@ use Rattle.checker.specs.Check.{checked, filled, checkOf}
 use Rattle.depths.specs.Depths.{deepened, depthsOf}
 use Rattle.writer.specs.Step.{Call, close, puts, moveOf, fresh, opens, result, step}
 use Rattle.writer.specs.Given.{Given}
-use Rattle.writer.specs.declared.Writer.{Writer}
+use Rattle.writer_refusal.specs.declared.State.{State}
 use Rattle.writer.proofs.Refused as writer
 use Rattle.guarantees.specs.Accepts.{Accepted, Overfull}
 use Rattle.guarantees.specs.Refused.{Unnamed, Faulty}
@@ -66,7 +66,7 @@ use Rattle.guarantees.proofs.Written as lists
 
 -- ---- demand 1
 
-pub refused-same : (c : Call) (s : Writer) (out table : List ℕ) (f : ℕ) → step c s out table .answer ≡ error f
+pub refused-same : (c : Call) (s : State) (out table : List ℕ) (f : ℕ) → step c s out table .answer ≡ error f
     → step c s out table ≡ result (error f) s out table
 refused-same = writer.refused-same
 
@@ -136,7 +136,7 @@ pub history : (cs : List Call) (out table : List ℕ) → let r = runs cs fresh 
     (r .answers ≡ k .answers) × Agree (r .writer) (r .out) (r .table) (k .model)
 history = calls.history
 
-pub rest-kept : (cs : List Call) (s : Writer) (out table : List ℕ) → let r = runs cs s out table in Rest s out table (r .writer) (r .out) (r .table)
+pub rest-kept : (cs : List Call) (s : State) (out table : List ℕ) → let r = runs cs s out table in Rest s out table (r .writer) (r .out) (r .table)
 rest-kept = rest.rest-kept
 
 pub targets-earlier : (cs : List Call) (n m : ℕ) → let b = modelRun cs emptyModel n m .model in
@@ -157,7 +157,7 @@ pub closed-after : (cs more : List Call) (e : ℕ) (out table : List ℕ) → le
 closed-after = demands.closed-after
 
 -- "an open value can always be finished"
-pub opening-finishable : (c : Call) (t : Token) (target : ℕ) (s : Writer) (out table : List ℕ) → moveOf c (s .written) ≡ puts t target
+pub opening-finishable : (c : Call) (t : Token) (target : ℕ) (s : State) (out table : List ℕ) → moveOf c (s .written) ≡ puts t target
     → opens t ≡ true → step c s out table .answer ≡ ok tt
     → (cs : List Call) → length cs ≡ step c s out table .writer .pending → Each OneByte cs
     → FinishedBy cs (s .written) (s .written + length (emit t) + length cs) s table (step c s out table)

@@ -9,15 +9,16 @@ use lib.ListN.{drop}
 use lib.Seq.{drop-set-lt}
 use Rattle.prelude.specs.Answer.{ok, error}
 use Rattle.prelude.proofs.Tests.{split}
-use Rattle.writer.specs.Step.{Call, Verdict, Result, startOf, step}
-use Rattle.writer.specs.declared.Writer.{Writer}
+use Rattle.writer_refusal.specs.Refusal.{Verdict}
+use Rattle.writer_refusal.specs.declared.State.{State}
+use Rattle.writer.specs.Step.{Call, Result, startOf, step}
 use Rattle.guarantees.specs.History.{runs}
 use Rattle.writer.proofs.Refused.{refused-same}
 use Rattle.guarantees.proofs.Calls.{accepted-only, drop-later}
 use Rattle.guarantees.proofs.Results.{FinishesNone, Finishes, Finishing, accepted-finishes}
 
 -- from a state s on, calls that leave these count only upwards, and leave the rest as it was
-pub record Rest (s : Writer) (out table : List ℕ) (next : Writer) (out′ table′ : List ℕ) : Type 0 where
+pub record Rest (s : State) (out table : List ℕ) (next : State) (out′ table′ : List ℕ) : Type 0 where
   pub written : s .written ≤ next .written
   pub count : s .count ≤ next .count
   pub bytes : drop (next .written) out′ ≡ drop (next .written) out
@@ -25,7 +26,7 @@ pub record Rest (s : Writer) (out table : List ℕ) (next : Writer) (out′ tabl
 
 -- ---- one call
 
-module _ (s : Writer) (table : List ℕ) (r : Result) where
+module _ (s : State) (table : List ℕ) (r : Result) where
   abbrev Words : Type 0
   Words = (s .count ≤ r .writer .count) × (drop (r .writer .count) (r .table) ≡ drop (r .writer .count) table)
 
@@ -43,7 +44,7 @@ module _ (s : Writer) (table : List ℕ) (r : Result) where
       by-closed false e z = one-words (startOf s) (f .last z e)
       by-closed true e z = elim (f .closed e) [ inl n ↦ none-words n | inr o ↦ one-words (s .written) o ]
 
-step-rest : (c : Call) (s : Writer) (out table : List ℕ) → let r = step c s out table in Rest s out table (r .writer) (r .out) (r .table)
+step-rest : (c : Call) (s : State) (out table : List ℕ) → let r = step c s out table in Rest s out table (r .writer) (r .out) (r .table)
 step-rest c s out table = by-answer (step c s out table .answer) refl
   where
     by-answer : (v : Verdict) → step c s out table .answer ≡ v → let r = step c s out table in Rest s out table (r .writer) (r .out) (r .table)
@@ -56,7 +57,7 @@ step-rest c s out table = by-answer (step c s out table .answer) refl
 
 -- ---- a list of calls
 
-pub rest-kept : (cs : List Call) (s : Writer) (out table : List ℕ) → let r = runs cs s out table in Rest s out table (r .writer) (r .out) (r .table)
+pub rest-kept : (cs : List Call) (s : State) (out table : List ℕ) → let r = runs cs s out table in Rest s out table (r .writer) (r .out) (r .table)
 unfolding runs
 rest-kept [] s out table = record { written = omega arith; count = omega arith; bytes = refl; words = refl }
 rest-kept (c ∷ cs) s out table =

@@ -15,24 +15,25 @@ use borrow.Author.Tests.{eq-eqb, ne-eqb}
 use Rattle.prelude.specs.Answer.{ok, error}
 use Rattle.prelude.proofs.Tests.{pick-elim}
 use Rattle.error.specs.Error.{CLOSED}
-use Rattle.kind.specs.Kind.{rule}
+use Rattle.kind.specs.Kind.{rule, due}
 use Rattle.token.specs.Token.{Token, emit}
-use Rattle.writer.specs.Step.{Call, close, moveOf, badState, limit, pendingOf, due, early, refusalOf, refusalOfDelta, Result, result, startOf, write, writeDelta, writePointerDelta, step}
-use Rattle.writer.specs.declared.Writer.{Writer}
-use Rattle.writer.proofs.Accepted.{Sound, sound, not-bad, none-pending, new-start, Accepted, free-word, room-after, start-lt, emit-pos}
-use Rattle.writer.proofs.Closes.{Near}
+use Rattle.writer_refusal.specs.Refusal.{badState, limit, refusalOf}
+use Rattle.writer_refusal.specs.declared.State.{State}
+use Rattle.writer_refusal.proofs.Refusals.{Sound, sound, not-bad}
+use Rattle.writer.specs.Step.{Call, close, moveOf, pendingOf, tokenRefusal, deltaRefusal, Result, result, startOf, write, writeDelta, writePointerDelta, step}
+use Rattle.writer.proofs.Accepted.{token-fits, none-pending, new-start, Accepted, free-word, room-after, start-lt, emit-pos, Near, delta-fits}
 use Rattle.writer.proofs.Refused.{pointerTo, settled-by}
 use Rattle.guarantees.proofs.Calls.{close-by, accepted-by, length-pick-set, accepted-only}
 
 -- ---- the value that it finishes
 
 -- none: count and table are as before
-pub record FinishesNone (s : Writer) (table : List ℕ) (r : Result) : Type 0 where
+pub record FinishesNone (s : State) (table : List ℕ) (r : Result) : Type 0 where
   pub count : r .writer .count ≡ s .count
   pub words : r .table ≡ table
 
 -- the value that starts at x: no items are pending, and x is listed, in the word at the old count
-pub record Finishes (x : ℕ) (s : Writer) (table : List ℕ) (r : Result) : Type 0 where
+pub record Finishes (x : ℕ) (s : State) (table : List ℕ) (r : Result) : Type 0 where
   pub none : r .writer .pending ≡ 0
   pub count : r .writer .count ≡ s .count + 1
   pub words : r .table ≡ set table (s .count) x
@@ -40,12 +41,12 @@ pub record Finishes (x : ℕ) (s : Writer) (table : List ℕ) (r : Result) : Typ
 
 -- what a call that leaves r finishes: a token with items pending after it, none; the last token of a value, that value;
 -- a close, none or the pointer that it adds
-pub record Finishing (s : Writer) (table : List ℕ) (r : Result) : Type 0 where
+pub record Finishing (s : State) (table : List ℕ) (r : Result) : Type 0 where
   pub more : 0 < r .writer .pending → FinishesNone s table r
   pub last : r .writer .pending ≡ 0 → r .writer .closed ≡ false → Finishes (startOf s) s table r
   pub closed : r .writer .closed ≡ true → FinishesNone s table r ⊎ Finishes (s .written) s table r
 
-module _ (alone : Bool) (t : Token) (target : ℕ) (s : Writer) (out table : List ℕ) (a : Accepted alone t target s out table) where
+module _ (alone : Bool) (t : Token) (target : ℕ) (s : State) (out table : List ℕ) (a : Accepted alone t target s out table) where
   pub write-more : 0 < due (s .pending) (pendingOf t) → FinishesNone s table (write t s out table)
   unfolding write
   write-more h = let z = ne-eqb (due (s .pending) (pendingOf t)) 0 (λ e. omega arith) in record { count = rw z; words = rw z }
@@ -61,24 +62,24 @@ module _ (alone : Bool) (t : Token) (target : ℕ) (s : Writer) (out table : Lis
         listed = rw z (getD-set-same table (s .count) (startOf s) 0 (free-word alone t target s out table a));
       }
 
-module _ (x : ℕ) (s : Writer) (out table : List ℕ) (a : Accepted true (pointerTo x s) x s out table) where
+module _ (x : ℕ) (s : State) (out table : List ℕ) (a : Accepted true (pointerTo x s) x s out table) where
   pointer-last : due (s .pending) (pendingOf (pointerTo x s)) ≡ 0
   unfolding rule
-  pointer-last = rw (none-pending s _ _ (a .passed)) (omega arith)
+  pointer-last = rw (none-pending s (a .granted .alike)) (omega arith)
 
   far-last : Finishes (s .written) s table (writePointerDelta (pointerTo x s) s out table)
   unfolding write writeDelta writePointerDelta
   far-last =
       let f = write-last true (pointerTo x s) x s out table a pointer-last in
-      let start = new-start s _ _ (a .passed) in
+      let start = new-start s (a .granted .alike) in
       record { none = f .none; count = f .count; words = f .words ∙ ap (set table (s .count)) start; listed = f .listed ∙ start }
 
-near-none : (x : ℕ) (s : Writer) (out table : List ℕ) → FinishesNone s table (writeDelta x s out table)
+near-none : (x : ℕ) (s : State) (out table : List ℕ) → FinishesNone s table (writeDelta x s out table)
 unfolding writeDelta
 near-none x s out table = record { count = refl; words = refl }
 
 -- an accepted call lists the start of the value that it finishes, if any, and nothing else
-pub accepted-finishes : (c : Call) (s : Writer) (out table : List ℕ) → step c s out table .answer ≡ ok tt → Finishing s table (step c s out table)
+pub accepted-finishes : (c : Call) (s : State) (out table : List ℕ) → step c s out table .answer ≡ ok tt → Finishing s table (step c s out table)
 unfolding write writeDelta writePointerDelta
 accepted-finishes c s out table =
     accepted-by s out table (Finishing s table)
@@ -88,7 +89,7 @@ accepted-finishes c s out table =
       closed = λ z. absurd (true≢false (sym z));
     })
     (λ x n. record {
-      more = λ h. absurd (omega (arith, none-pending s _ _ (n .passed)));
+      more = λ h. absurd (omega (arith, none-pending s (n .granted .alike)));
       last = λ _ z. absurd (true≢false z);
       closed = λ _. inl (near-none _ s out table);
     })
@@ -102,13 +103,13 @@ accepted-finishes c s out table =
 -- ---- the state
 
 -- an open value, or none if k is 0: k items are pending, with room for them and for the delta after them
-pub record Open (k : ℕ) (s : Writer) (out table : List ℕ) : Type 0 where
+pub record Open (k : ℕ) (s : State) (out table : List ℕ) : Type 0 where
   pub good : badState s (length out) (length table) ≡ false
   pub unclosed : s .closed ≡ false
   pub items : s .pending ≡ k
   pub room : s .written + k + 1 ≤ limit (length out)
 
-write-sound : (alone : Bool) (t : Token) (target : ℕ) (s : Writer) (out table : List ℕ) → Accepted alone t target s out table
+write-sound : (alone : Bool) (t : Token) (target : ℕ) (s : State) (out table : List ℕ) → Accepted alone t target s out table
     → let r = write t s out table in Sound (r .writer) (length (r .out)) (length (r .table))
 unfolding write
 write-sound alone t target s out table a =
@@ -123,7 +124,7 @@ write-sound alone t target s out table a =
       begun = λ _. start-lt alone t target s out table a;
     })
 
-delta-sound : (d : ℕ) (s : Writer) (out table : List ℕ) → Sound s (length out) (length table) → s .pending ≡ 0 → s .written < limit (length out)
+delta-sound : (d : ℕ) (s : State) (out table : List ℕ) → Sound s (length out) (length table) → s .pending ≡ 0 → s .written < limit (length out)
     → let r = writeDelta d s out table in Sound (r .writer) (length (r .out)) (length (r .table))
 unfolding writeDelta
 delta-sound d s out table h none byte =
@@ -135,11 +136,11 @@ delta-sound d s out table h none byte =
       begun = λ p. absurd (omega arith);
     })
 
-near-sound : (x d : ℕ) (s : Writer) (out table : List ℕ) → Near x s out table
+near-sound : (x d : ℕ) (s : State) (out table : List ℕ) → Near x s out table
     → let r = writeDelta d s out table in Sound (r .writer) (length (r .out)) (length (r .table))
-near-sound x d s out table n = delta-sound d s out table (sound s _ _ (n .passed .good)) (none-pending s _ _ (n .passed)) (n .byte)
+near-sound x d s out table n = delta-sound d s out table (sound s _ _ (n .granted .good)) (none-pending s (n .granted .alike)) (delta-fits x s out table n)
 
-far-sound : (x : ℕ) (s : Writer) (out table : List ℕ) → Accepted true (pointerTo x s) x s out table
+far-sound : (x : ℕ) (s : State) (out table : List ℕ) → Accepted true (pointerTo x s) x s out table
     → let r = writePointerDelta (pointerTo x s) s out table in Sound (r .writer) (length (r .out)) (length (r .table))
 unfolding write writePointerDelta
 far-sound x s out table a =
@@ -147,7 +148,7 @@ far-sound x s out table a =
     (rw (length-sets out (s .written) (emit (pointerTo x s))) (room-after true (pointerTo x s) x s out table a))
 
 -- a state that is not bad, with the output and table that it leaves
-pub accepted-not-bad : (c : Call) (s : Writer) (out table : List ℕ) → step c s out table .answer ≡ ok tt
+pub accepted-not-bad : (c : Call) (s : State) (out table : List ℕ) → step c s out table .answer ≡ ok tt
     → let r = step c s out table in badState (r .writer) (length (r .out)) (length (r .table)) ≡ false
 accepted-not-bad c s out table =
     accepted-by s out table (λ r. badState (r .writer) (length (r .out)) (length (r .table)) ≡ false)
@@ -156,18 +157,18 @@ accepted-not-bad c s out table =
     (λ x a. not-bad _ _ _ (far-sound x s out table a))
     c
 
-pub write-open : (alone : Bool) (t : Token) (target : ℕ) (s : Writer) (out table : List ℕ) → Accepted alone t target s out table
+pub write-open : (alone : Bool) (t : Token) (target : ℕ) (s : State) (out table : List ℕ) → Accepted alone t target s out table
     → let r = write t s out table in Open (due (s .pending) (pendingOf t)) (r .writer) (r .out) (r .table)
 unfolding write
 write-open alone t target s out table a = record {
   good = not-bad _ _ _ (write-sound alone t target s out table a);
   unclosed = refl;
   items = refl;
-  room = rw (length-sets out (s .written) (emit t)) (omega (arith, a .fits, emit-pos t));
+  room = rw (length-sets out (s .written) (emit t)) (omega (arith, token-fits alone t target s out table a, emit-pos t));
 }
 
 -- a token leaves a state from which the open value, if any, can be finished
-pub accepted-open : (c : Call) (s : Writer) (out table : List ℕ) → step c s out table .answer ≡ ok tt
+pub accepted-open : (c : Call) (s : State) (out table : List ℕ) → step c s out table .answer ≡ ok tt
     → let r = step c s out table in r .writer .closed ≡ false → Open (r .writer .pending) (r .writer) (r .out) (r .table)
 unfolding write writeDelta writePointerDelta
 accepted-open c s out table =
@@ -178,22 +179,22 @@ accepted-open c s out table =
     c
 
 -- it leaves a byte for each item pending, and one for the delta
-pub accepted-room : (c : Call) (s : Writer) (out table : List ℕ) → step c s out table .answer ≡ ok tt
+pub accepted-room : (c : Call) (s : State) (out table : List ℕ) → step c s out table .answer ≡ ok tt
     → let r = step c s out table in r .writer .closed ≡ false → r .writer .written + r .writer .pending + 1 ≤ limit (length out)
 accepted-room c s out table e z = omega (arith, accepted-open c s out table e z .room, accepted-only c s out table e .bytes)
 
 -- ---- a close
 
 -- in a closed state that is not bad each call is refused with CLOSED
-closed-step : (c : Call) (s : Writer) (out table : List ℕ) → badState s (length out) (length table) ≡ false → s .closed ≡ true
+closed-step : (c : Call) (s : State) (out table : List ℕ) → badState s (length out) (length table) ≡ false → s .closed ≡ true
     → step c s out table ≡ result (error CLOSED) s out table
-unfolding early refusalOf refusalOfDelta
+unfolding refusalOf tokenRefusal deltaRefusal
 closed-step c s out table g z =
     settled-by s out table (λ r. r ≡ result (error CLOSED) s out table) (λ _ _ _ _ _. rw (g, z)) (λ _ _ _. rw (g, z)) (moveOf c (s .written))
 
 -- a close at x that leaves r: by the delta byte if it reaches x, else by a pointer, which is one more value; each later
 -- call is refused with CLOSED, and changes nothing
-pub record Closed (x : ℕ) (s : Writer) (table : List ℕ) (r : Result) : Type 0 where
+pub record Closed (x : ℕ) (s : State) (table : List ℕ) (r : Result) : Type 0 where
   pub closed : r .writer .closed ≡ true
   pub none : r .writer .pending ≡ 0
   pub near : s .written - x - 1 ≤ 255 → FinishesNone s table r
@@ -201,14 +202,14 @@ pub record Closed (x : ℕ) (s : Writer) (table : List ℕ) (r : Result) : Type 
   pub good : badState (r .writer) (length (r .out)) (length (r .table)) ≡ false
   pub later : (c : Call) → step c (r .writer) (r .out) (r .table) ≡ result (error CLOSED) (r .writer) (r .out) (r .table)
 
-pub accepted-close : (x : ℕ) (s : Writer) (out table : List ℕ) → step (close x) s out table .answer ≡ ok tt
+pub accepted-close : (x : ℕ) (s : State) (out table : List ℕ) → step (close x) s out table .answer ≡ ok tt
     → Closed x s table (step (close x) s out table)
 unfolding writeDelta writePointerDelta
 accepted-close x s out table =
     close-by s out table (Closed x s table) x
     (λ b n. let g = not-bad _ _ _ (near-sound x _ s out table n) in record {
       closed = refl;
-      none = none-pending s _ _ (n .passed);
+      none = none-pending s (n .granted .alike);
       near = λ _. near-none _ s out table;
       far = λ h. absurd (omega arith);
       good = g;

@@ -8,10 +8,11 @@ use Rattle.utf8.specs.Text.{lead, next, textFrom}
 use Rattle.little_endian.specs.LittleEndian.{little}
 use Rattle.kind.specs.Kind.{rule}
 use Rattle.token.specs.Token.{putIf, emit}
-use Rattle.writer.specs.Step.{early, refusalOf, refusalOfDelta, write, writeDelta, writePointerDelta, putToken as puts, closeAt}
+use Rattle.writer_refusal.specs.Refusal.{refusalOf}
+use Rattle.writer.specs.Step.{tokenRefusal, deltaRefusal, write, writeDelta, writePointerDelta, putToken as puts, closeAt}
 use Rattle.guarantees.specs.History.{runs}
 use Rattle.guarantees.specs.Written.{writes, expects, written}
 
 pub the-written : map writes written ≡ map expects written
-unfolding writes runs among put lead next textFrom little rule putIf emit early refusalOf refusalOfDelta write writeDelta writePointerDelta puts closeAt
+unfolding writes runs among put lead next textFrom little rule putIf emit refusalOf tokenRefusal deltaRefusal write writeDelta writePointerDelta puts closeAt
 the-written = refl

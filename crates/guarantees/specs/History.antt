@@ -17,20 +17,21 @@ use mathlib.Core.Path.{_≡_}
 use mathlib.Core.List.{List, [], _∷_}
 use lib.ListN.{length, take}
 use Rattle.prelude.specs.Answer.{ok, error}
-use Rattle.writer.specs.Step.{Call, Verdict, step}
-use Rattle.writer.specs.declared.Writer.{Writer}
+use Rattle.writer_refusal.specs.Refusal.{Verdict}
+use Rattle.writer_refusal.specs.declared.State.{State}
+use Rattle.writer.specs.Step.{Call, step}
 use Rattle.guarantees.specs.Model.{Model, requestOf, modelAnswer, modelAfter, modelBytes, modelStarts, pendingAt, isClosed}
 
 pub record Ran : Type 0 where
   pub answers : List Verdict
-  pub writer : Writer
+  pub writer : State
   pub out : List ℕ
   pub table : List ℕ
 
-abbrev pub ran : List Verdict → Writer → List ℕ → List ℕ → Ran
+abbrev pub ran : List Verdict → State → List ℕ → List ℕ → Ran
 ran vs s out table = record { answers = vs; writer = s; out = out; table = table }
 
-unfoldable pub runs : List Call → Writer → List ℕ → List ℕ → Ran
+unfoldable pub runs : List Call → State → List ℕ → List ℕ → Ran
 runs [] s out table = ran [] s out table
 runs (c ∷ cs) s out table =
     let r = step c s out table in
@@ -55,7 +56,7 @@ modelRun (c ∷ cs) b n m =
     let more = modelRun cs (unlessRefused v b (modelAfter (requestOf c) b)) n m in
     modelRan (v ∷ more .answers) (more .model)
 
-pub record Agree (s : Writer) (out table : List ℕ) (b : Model) : Type 0 where
+pub record Agree (s : State) (out table : List ℕ) (b : Model) : Type 0 where
   pub bytes : take (s .written) out ≡ modelBytes b
   pub written : s .written ≡ length (modelBytes b)
   pub starts : take (s .count) table ≡ modelStarts b

@@ -8,12 +8,14 @@
 --   size r n        how many bytes the body has
 --   counted r n a   the items that the file counts, by n or by a second number a, which is 0 if the kind has none
 --   pending r n a   all items: those, and the one of a tag or a variant of one
+--   due before own  the items pending after a token that has `own` items: those if it begins a value, else one less than before
 --   immediate r     whether a value of this rule may be an item: its kind never has items, and is not reserved
 use Prim.Native.Nat.{ℕ, _+_, _-_, _*_, _^_}
 use mathlib.Core.Bool.{Bool, true, false, not, _&&_}
 use mathlib.Core.List.{List, [], _∷_}
 use lib.Dec.{eqb, ltb}
 use lib.ListN.{getD}
+use Rattle.prelude.specs.Pick.{pick}
 use Rattle.kind.specs.declared.Rule.{Rule}
 
 abbrev pub row : ℕ → ℕ → ℕ → ℕ → ℕ → ℕ → Bool → Rule
@@ -63,6 +65,9 @@ counted r n a = r .each * n + a
 
 abbrev pub pending : Rule → ℕ → ℕ → ℕ
 pending r n a = r .single + counted r n a
+
+abbrev pub due : ℕ → ℕ → ℕ
+due before own = pick (eqb before 0) own (before - 1)
 
 abbrev pub immediate : Rule → Bool
 immediate r = ltb 0 (r .lows) && eqb (r .single) 0 && eqb (r .each) 0 && not (r .args)

@@ -195,17 +195,18 @@ fn check_closed(file: &[u8]) {
 
 // What the calls have written and listed.
 fn print_written(w: Writer, out: &[u8], starts: &[u32]) {
+    let state = w.state;
     print_text(b" =");
-    print_bytes(first_bytes(out, w.written));
+    print_bytes(first_bytes(out, state.written));
     print_text(b" /");
-    print_table(first_words(starts, w.count));
-    let kept = is_junk_bytes(out, w.written) & is_junk_words(starts, w.count);
+    print_table(first_words(starts, state.count));
+    let kept = is_junk_bytes(out, state.written) & is_junk_words(starts, state.count);
     if !kept {
         print_text(b" !");
     }
-    if w.closed {
+    if state.closed {
         print_text(b" /");
-        check_closed(first_bytes(out, w.written));
+        check_closed(first_bytes(out, state.written));
     }
 }
 

@@ -6,7 +6,8 @@ use Prim.Native.Nat.{ℕ}
 use mathlib.Core.List.{List}
 use Rattle.prelude.specs.Answer.{ok, error}
 use Rattle.error.specs.Error.{numberOf}
-use Rattle.writer.specs.Step.{Verdict, Result, result}
+use Rattle.writer_refusal.specs.Refusal.{Verdict}
+use Rattle.writer.specs.Step.{Result, result}
 use Rattle.writer.specs.declared.WriteAnswer.{WriteAnswer}
 use Rattle.writer.specs.declared.WriteAnswer.the-variants.{Ok, Err}
 use Rattle.writer.specs.declared.WriteResult.{WriteResult}
@@ -16,4 +17,4 @@ answerOf Ok = ok tt
 answerOf (Err e) = error (numberOf e)
 
 abbrev pub wrote : WriteResult → List ℕ → List ℕ → Result
-wrote r out table = result (answerOf (r .answer)) (r .writer) out table
+wrote r out table = result (answerOf (r .answer)) (r .writer .state) out table

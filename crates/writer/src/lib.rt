@@ -1,30 +1,22 @@
 // The writer's calls (document 01, "Writer").
 use error::ErrorKind;
 use kind::Rule;
+use writer_refusal::CallFlags;
+use writer_refusal::State;
 ghost use mathlib.Core.Path.{_≡_};
-ghost use mathlib.Core.Bool.{true, not, _&&_};
 ghost use mathlib.Core.List.{[]};
 ghost use Prim.Native.Nat.{_+_, _-_, _<_, _^_};
-ghost use lib.Dec.{eqb, leb};
 ghost use lib.ListN.{length};
 ghost use Rattle.prelude.specs.Pick.{pick};
-ghost use Rattle.kind.specs.Kind.{rule, immediate};
+ghost use Rattle.kind.specs.Kind.{rule};
 ghost use Rattle.token.specs.Token.{token};
 ghost use Rattle.writer.specs.Step.{Call, scalarOf, integerOf, startOf, putToken, fresh, step};
 ghost use Rattle.writer.specs.Answers.{wrote};
-ghost use Rattle.writer.specs.Internal.{ListedTest, ArgumentTest, FitOf, Advanced, Refused, WroteDelta, closeNear, closeFar};
+ghost use Rattle.writer.specs.Internal.{ListedTest, ArgumentTest, tokenFlagsBy, FitOf, Advanced, Refused, WroteDelta, closeNear, closeFar};
 
-// A writer's state. It goes in with each call and comes back as the next; output and table are lent each time.
+// A writer of a file. It goes in with each call and comes back as the next; output and table are lent each time.
 pub struct Writer {
-    // The bytes written.
-    pub written: usize,
-    // The starts listed: how many values are finished.
-    pub count: usize,
-    // The items that the open value still has to get; 0 where none is open.
-    pub pending: u64,
-    // Where the open value starts; without meaning where none is open.
-    pub start: usize,
-    pub closed: bool,
+    pub state: State,
 }
 
 pub enum Scalar {
@@ -111,21 +103,34 @@ fn distance(w: usize, at: usize) -> u64
     0
 }
 
+// What a token asks of the state; `good` tells of its text or target, `row` is the rule of its kind.
+fn token_request(row: Rule, kind: u8, good: bool) -> CallFlags
+    ensures { λ r. ⌜ r ≡ tokenFlagsBy row kind good ⌝ }
+{
+    let immediate = kind::is_immediate(row);
+    CallFlags {
+        alone: !immediate,
+        text: (kind == kind::KIND_TEXT) & !good,
+        target: (kind::KIND_REFERENCE <= kind) & !good,
+        adds: true,
+    }
+}
+
 impl Writer {
     // ---- a token
 
     // Whether `at` is a listed start; nothing is said of a state that is BAD_STATE.
     fn is_listed(self, starts: &[u32], at: usize) -> bool
-        ensures { λ r. ⌜ ListedTest r at self (now (starts .entry)) ⌝ }
+        ensures { λ r. ⌜ ListedTest r at (self .state) (now (starts .entry)) ⌝ }
     {
-        let count = self.count;
-        if error::LIMIT < self.written {
+        let count = self.state.count;
+        if error::LIMIT < self.state.written {
             return false;
         }
         if starts.len() < count {
             return false;
         }
-        if self.written <= at {
+        if self.state.written <= at {
             return false;
         }
         writer_listing::is_among(&starts[..count], at as u32)
@@ -144,25 +149,22 @@ impl Writer {
         out: &[u8],
         starts: &[u32],
     ) -> Fit
-        requires { ⌜ (kind < 16) × (row ≡ rule kind) × ArgumentTest good kind (now body) target self (now starts) ⌝ }
-        ensures { λ r. ⌜ FitOf (token kind n args (now (body .entry))) target self (now (out .entry)) (now (starts .entry)) r ⌝ }
+        requires { ⌜ (kind < 16) × (row ≡ rule kind) × ArgumentTest good kind (now body) target (self .state) (now starts) ⌝ }
+        ensures { λ r. ⌜ FitOf (token kind n args (now (body .entry))) target (self .state) (now (out .entry)) (now (starts .entry)) r ⌝ }
     {
+        let request = token_request(row, kind, good);
         let size = emit::size_by(row, n, args, body);
-        let left = writer_refusal::left(self.pending, row, n, args);
-        let short = writer_refusal::is_short(self.written, size, left, out.len());
-        let immediate = kind::is_immediate(row);
-        let ready = writer_refusal::is_ready(
-            !immediate,
-            self.closed,
-            self.written,
-            self.count,
-            self.pending,
-            self.start,
-            starts.len(),
-        );
+        let left = writer_refusal::left(self.state.pending, row, n, args);
         Fit {
             good,
-            fits: good & ready & !short,
+            fits: writer_refusal::may_write(
+                self.state,
+                request,
+                size,
+                left,
+                out.len(),
+                starts.len(),
+            ),
             second: row.args,
             size,
             left,
@@ -171,61 +173,42 @@ impl Writer {
 
     // The state behind a token that is written; lists the start of a value that it finishes.
     fn advance(self, ask: Fit, starts: &mut [u32]) -> Writer
-        requires { ⌜ (startOf self < 2 ^ 32) × (self .count < length (now starts)) × (self .written + ask .size < 2 ^ 64) ⌝ }
-        ensures { λ r. ⌜ Advanced ask self (now (starts .entry)) r (now (starts .exit)) ⌝ }
+        requires { ⌜ (startOf (self .state) < 2 ^ 32) × (self .state .count < length (now starts)) × (self .state .written + ask .size < 2 ^ 64) ⌝ }
+        ensures { λ r. ⌜ Advanced ask (self .state) (now (starts .entry)) (r .state) (now (starts .exit)) ⌝ }
     {
         let left = ask.left;
-        let first = self.pending == 0;
-        let start = pick(first, self.written, self.start);
-        let count = writer_listing::list_start(left, start, self.count, starts);
+        let first = self.state.pending == 0;
+        let start = pick(first, self.state.written, self.state.start);
+        let count = writer_listing::list_start(left, start, self.state.count, starts);
         Writer {
-            written: self.written + ask.size,
-            count,
-            pending: left,
-            start,
-            closed: false,
+            state: State {
+                written: self.state.written + ask.size,
+                count,
+                pending: left,
+                start,
+                closed: false,
+            },
         }
     }
 
-    // A refused call leaves the state as it was; the flags are those of `writer_refusal::refusal`.
-    fn refuse(
-        self,
-        alone: bool,
-        adds: bool,
-        text: bool,
-        target: bool,
-        bytes: usize,
-        words: usize,
-    ) -> WriteResult
-        ensures { λ r. ⌜ Refused alone adds text target self bytes words r ⌝ }
+    // A refused call leaves the state as it was.
+    fn refuse(self, request: CallFlags, bytes: usize, words: usize) -> WriteResult
+        ensures { λ r. ⌜ Refused request (self .state) bytes words r ⌝ }
     {
-        let e = writer_refusal::refusal(
-            alone,
-            adds,
-            text,
-            target,
-            self.closed,
-            self.written,
-            self.count,
-            self.pending,
-            self.start,
-            bytes,
-            words,
-        );
+        let e = writer_refusal::refusal(self.state, request, bytes, words);
         WriteResult {
             writer: self,
             answer: WriteAnswer::Err(e),
         }
     }
 
-    // Refuses a token; `good` tells of its text or target.
+    // Refuses a token; `good` tells of its text or target. It finds the rule anew, and is a function apart, so that `put_token` stays small enough to be
+    // inlined into the calls.
     fn refuse_token(self, good: bool, kind: u8, bytes: usize, words: usize) -> WriteResult
-        ensures { λ r. ⌜ Refused (not (immediate (rule kind))) true (eqb kind 4 && not good) (leb 14 kind && not good) self bytes words r ⌝ }
+        ensures { λ r. ⌜ Refused (tokenFlagsBy (rule kind) kind good) (self .state) bytes words r ⌝ }
     {
-        let alone = writer_refusal::is_opening(kind);
-        let text = (kind == kind::KIND_TEXT) & !good;
-        let target = (kind::KIND_REFERENCE <= kind) & !good;
-        self.refuse(alone, true, text, target, bytes, words)
+        let request = token_request(kind::rule_of(kind), kind, good);
+        self.refuse(request, bytes, words)
     }
 
     // Puts a token that has no body.
@@ -239,11 +222,11 @@ impl Writer {
         out: &mut [u8],
         starts: &mut [u32],
     ) -> WriteResult
-        requires { ⌜ FitOf (token kind n args []) target self (now out) (now starts) ask ⌝ }
-        ensures { λ r. ⌜ wrote r (now (out .exit)) (now (starts .exit)) ≡ putToken (token kind n args []) target self (now (out .entry)) (now (starts .entry)) ⌝ }
+        requires { ⌜ FitOf (token kind n args []) target (self .state) (now out) (now starts) ask ⌝ }
+        ensures { λ r. ⌜ wrote r (now (out .exit)) (now (starts .exit)) ≡ putToken (token kind n args []) target (self .state) (now (out .entry)) (now (starts .entry)) ⌝ }
     {
         if ask.fits {
-            let written = self.written;
+            let written = self.state.written;
             emit::put_head(&mut out[written..], kind, n, ask.second, args);
             return WriteResult {
                 writer: self.advance(ask, starts),
@@ -263,11 +246,11 @@ impl Writer {
         out: &mut [u8],
         starts: &mut [u32],
     ) -> WriteResult
-        requires { ⌜ FitOf (token kind n 0 (now body)) 0 self (now out) (now starts) ask ⌝ }
-        ensures { λ r. ⌜ wrote r (now (out .exit)) (now (starts .exit)) ≡ putToken (token kind n 0 (now (body .entry))) 0 self (now (out .entry)) (now (starts .entry)) ⌝ }
+        requires { ⌜ FitOf (token kind n 0 (now body)) 0 (self .state) (now out) (now starts) ask ⌝ }
+        ensures { λ r. ⌜ wrote r (now (out .exit)) (now (starts .exit)) ≡ putToken (token kind n 0 (now (body .entry))) 0 (self .state) (now (out .entry)) (now (starts .entry)) ⌝ }
     {
         if ask.fits {
-            let written = self.written;
+            let written = self.state.written;
             emit::put_within(&mut out[written..], kind, n, ask.second, 0, body);
             return WriteResult {
                 writer: self.advance(ask, starts),
@@ -281,15 +264,18 @@ impl Writer {
 
     // Writes the delta byte.
     fn write_delta(self, delta: u8, out: &mut [u8]) -> Writer
-        requires { ⌜ self .written < length (now out) ⌝ }
-        ensures { λ r. ⌜ WroteDelta delta self (now (out .entry)) r (now (out .exit)) ⌝ }
+        requires { ⌜ self .state .written < length (now out) ⌝ }
+        ensures { λ r. ⌜ WroteDelta delta (self .state) (now (out .entry)) (r .state) (now (out .exit)) ⌝ }
     {
-        let written = self.written;
+        let state = self.state;
+        let written = state.written;
         out[written] = delta;
         Writer {
-            written: written + 1,
-            closed: true,
-            ..self
+            state: State {
+                written: written + 1,
+                closed: true,
+                ..state
+            },
         }
     }
 
@@ -302,25 +288,22 @@ impl Writer {
         out: &mut [u8],
         starts: &[u32],
     ) -> WriteResult
-        requires { ⌜ ListedTest good at self (now starts) ⌝ }
-        ensures { λ r. ⌜ wrote r (now (out .exit)) (now (starts .entry)) ≡ closeNear at delta self (now (out .entry)) (now (starts .entry)) ⌝ }
+        requires { ⌜ ListedTest good at (self .state) (now starts) ⌝ }
+        ensures { λ r. ⌜ wrote r (now (out .exit)) (now (starts .entry)) ≡ closeNear at delta (self .state) (now (out .entry)) (now (starts .entry)) ⌝ }
     {
-        let ready = writer_refusal::may_close(
-            self.closed,
-            self.written,
-            self.count,
-            self.pending,
-            self.start,
-            out.len(),
-            starts.len(),
-        );
-        if good & ready {
+        let request = CallFlags {
+            alone: true,
+            text: false,
+            target: !good,
+            adds: false,
+        };
+        if writer_refusal::may_close(self.state, request, out.len(), starts.len()) {
             return WriteResult {
                 writer: self.write_delta(delta, out),
                 answer: WriteAnswer::Ok,
             };
         }
-        self.refuse(true, false, false, !good, out.len(), starts.len())
+        self.refuse(request, out.len(), starts.len())
     }
 
     // Closes by a pointer and its delta byte.
@@ -332,11 +315,17 @@ impl Writer {
         out: &mut [u8],
         starts: &mut [u32],
     ) -> WriteResult
-        requires { ⌜ ListedTest good at self (now starts) ⌝ }
-        ensures { λ r. ⌜ wrote r (now (out .exit)) (now (starts .exit)) ≡ closeFar at back self (now (out .entry)) (now (starts .entry)) ⌝ }
+        requires { ⌜ ListedTest good at (self .state) (now starts) ⌝ }
+        ensures { λ r. ⌜ wrote r (now (out .exit)) (now (starts .exit)) ≡ closeFar at back (self .state) (now (out .entry)) (now (starts .entry)) ⌝ }
     {
-        if 0 < self.pending {
-            return self.refuse(true, true, false, !good, out.len(), starts.len());
+        if 0 < self.state.pending {
+            let request = CallFlags {
+                alone: true,
+                text: false,
+                target: !good,
+                adds: true,
+            };
+            return self.refuse(request, out.len(), starts.len());
         }
         let kind = kind::KIND_POINTER;
         let rule = kind::rule_of(kind);
@@ -350,7 +339,7 @@ impl Writer {
                 answer: WriteAnswer::Err(e),
             },
             WriteAnswer::Ok => {
-                let size = next.written - self.written;
+                let size = next.state.written - self.state.written;
                 WriteResult {
                     writer: next.write_delta((size - 1) as u8, out),
                     answer: WriteAnswer::Ok,
@@ -363,19 +352,21 @@ impl Writer {
 
     // A writer that has written nothing.
     pub fn new() -> Self
-        ensures { λ r. ⌜ r ≡ fresh ⌝ }
+        ensures { λ r. ⌜ r .state ≡ fresh ⌝ }
     {
         Writer {
-            written: 0,
-            count: 0,
-            pending: 0,
-            start: 0,
-            closed: false,
+            state: State {
+                written: 0,
+                count: 0,
+                pending: 0,
+                start: 0,
+                closed: false,
+            },
         }
     }
 
     pub fn scalar(self, value: Scalar, out: &mut [u8], starts: &mut [u32]) -> WriteResult
-        ensures { λ r. ⌜ wrote r (now (out .exit)) (now (starts .exit)) ≡ step (Call.scalar value) self (now (out .entry)) (now (starts .entry)) ⌝ }
+        ensures { λ r. ⌜ wrote r (now (out .exit)) (now (starts .exit)) ≡ step (Call.scalar value) (self .state) (now (out .entry)) (now (starts .entry)) ⌝ }
     {
         let kind = kind::KIND_SCALAR;
         let rule = kind::rule_of(kind);
@@ -385,7 +376,7 @@ impl Writer {
     }
 
     pub fn integer(self, value: i64, out: &mut [u8], starts: &mut [u32]) -> WriteResult
-        ensures { λ r. ⌜ wrote r (now (out .exit)) (now (starts .exit)) ≡ step (Call.integer value) self (now (out .entry)) (now (starts .entry)) ⌝ }
+        ensures { λ r. ⌜ wrote r (now (out .exit)) (now (starts .exit)) ≡ step (Call.integer value) (self .state) (now (out .entry)) (now (starts .entry)) ⌝ }
     {
         let kind = sign(value);
         let rule = kind::rule_of(kind);
@@ -396,7 +387,7 @@ impl Writer {
 
     // Bits, never computed with.
     pub fn float32(self, bits: u32, out: &mut [u8], starts: &mut [u32]) -> WriteResult
-        ensures { λ r. ⌜ wrote r (now (out .exit)) (now (starts .exit)) ≡ step (Call.float32 bits) self (now (out .entry)) (now (starts .entry)) ⌝ }
+        ensures { λ r. ⌜ wrote r (now (out .exit)) (now (starts .exit)) ≡ step (Call.float32 bits) (self .state) (now (out .entry)) (now (starts .entry)) ⌝ }
     {
         let kind = kind::KIND_FLOAT;
         let rule = kind::rule_of(kind);
@@ -406,7 +397,7 @@ impl Writer {
     }
 
     pub fn float64(self, bits: u64, out: &mut [u8], starts: &mut [u32]) -> WriteResult
-        ensures { λ r. ⌜ wrote r (now (out .exit)) (now (starts .exit)) ≡ step (Call.float64 bits) self (now (out .entry)) (now (starts .entry)) ⌝ }
+        ensures { λ r. ⌜ wrote r (now (out .exit)) (now (starts .exit)) ≡ step (Call.float64 bits) (self .state) (now (out .entry)) (now (starts .entry)) ⌝ }
     {
         let kind = kind::KIND_FLOAT;
         let rule = kind::rule_of(kind);
@@ -416,7 +407,7 @@ impl Writer {
     }
 
     pub fn text(self, body: &[u8], out: &mut [u8], starts: &mut [u32]) -> WriteResult
-        ensures { λ r. ⌜ wrote r (now (out .exit)) (now (starts .exit)) ≡ step (Call.text (now (body .entry))) self (now (out .entry)) (now (starts .entry)) ⌝ }
+        ensures { λ r. ⌜ wrote r (now (out .exit)) (now (starts .exit)) ≡ step (Call.text (now (body .entry))) (self .state) (now (out .entry)) (now (starts .entry)) ⌝ }
     {
         let kind = kind::KIND_TEXT;
         let rule = kind::rule_of(kind);
@@ -427,7 +418,7 @@ impl Writer {
     }
 
     pub fn bytes(self, body: &[u8], out: &mut [u8], starts: &mut [u32]) -> WriteResult
-        ensures { λ r. ⌜ wrote r (now (out .exit)) (now (starts .exit)) ≡ step (Call.bytes (now (body .entry))) self (now (out .entry)) (now (starts .entry)) ⌝ }
+        ensures { λ r. ⌜ wrote r (now (out .exit)) (now (starts .exit)) ≡ step (Call.bytes (now (body .entry))) (self .state) (now (out .entry)) (now (starts .entry)) ⌝ }
     {
         let kind = kind::KIND_BYTES;
         let rule = kind::rule_of(kind);
@@ -438,7 +429,7 @@ impl Writer {
 
     // A variant with no argument.
     pub fn variant(self, index: u32, out: &mut [u8], starts: &mut [u32]) -> WriteResult
-        ensures { λ r. ⌜ wrote r (now (out .exit)) (now (starts .exit)) ≡ step (Call.variant index) self (now (out .entry)) (now (starts .entry)) ⌝ }
+        ensures { λ r. ⌜ wrote r (now (out .exit)) (now (starts .exit)) ≡ step (Call.variant index) (self .state) (now (out .entry)) (now (starts .entry)) ⌝ }
     {
         let kind = kind::KIND_VARIANT;
         let rule = kind::rule_of(kind);
@@ -448,11 +439,11 @@ impl Writer {
 
     // A reference to the value that starts at `at`.
     pub fn reference(self, at: usize, out: &mut [u8], starts: &mut [u32]) -> WriteResult
-        ensures { λ r. ⌜ wrote r (now (out .exit)) (now (starts .exit)) ≡ step (Call.reference at) self (now (out .entry)) (now (starts .entry)) ⌝ }
+        ensures { λ r. ⌜ wrote r (now (out .exit)) (now (starts .exit)) ≡ step (Call.reference at) (self .state) (now (out .entry)) (now (starts .entry)) ⌝ }
     {
         let kind = kind::KIND_REFERENCE;
         let rule = kind::rule_of(kind);
-        let n = distance(self.written, at);
+        let n = distance(self.state.written, at);
         let good = self.is_listed(starts, at);
         let ask = self.fit(good, rule, kind, n, 0, b"", at, out, starts);
         self.put_token(ask, kind, n, 0, at, out, starts)
@@ -460,11 +451,11 @@ impl Writer {
 
     // A pointer to the value that starts at `at`.
     pub fn pointer(self, at: usize, out: &mut [u8], starts: &mut [u32]) -> WriteResult
-        ensures { λ r. ⌜ wrote r (now (out .exit)) (now (starts .exit)) ≡ step (Call.pointer at) self (now (out .entry)) (now (starts .entry)) ⌝ }
+        ensures { λ r. ⌜ wrote r (now (out .exit)) (now (starts .exit)) ≡ step (Call.pointer at) (self .state) (now (out .entry)) (now (starts .entry)) ⌝ }
     {
         let kind = kind::KIND_POINTER;
         let rule = kind::rule_of(kind);
-        let n = distance(self.written, at);
+        let n = distance(self.state.written, at);
         let good = self.is_listed(starts, at);
         let ask = self.fit(good, rule, kind, n, 0, b"", at, out, starts);
         self.put_token(ask, kind, n, 0, at, out, starts)
@@ -472,7 +463,7 @@ impl Writer {
 
     // An array of n items, which are the next immediates.
     pub fn open_array(self, n: u64, out: &mut [u8], starts: &mut [u32]) -> WriteResult
-        ensures { λ r. ⌜ wrote r (now (out .exit)) (now (starts .exit)) ≡ step (Call.openArray n) self (now (out .entry)) (now (starts .entry)) ⌝ }
+        ensures { λ r. ⌜ wrote r (now (out .exit)) (now (starts .exit)) ≡ step (Call.openArray n) (self .state) (now (out .entry)) (now (starts .entry)) ⌝ }
     {
         let kind = kind::KIND_ARRAY;
         let rule = kind::rule_of(kind);
@@ -482,7 +473,7 @@ impl Writer {
 
     // A map of n pairs, key and value by turns.
     pub fn open_map(self, n: u64, out: &mut [u8], starts: &mut [u32]) -> WriteResult
-        ensures { λ r. ⌜ wrote r (now (out .exit)) (now (starts .exit)) ≡ step (Call.openMap n) self (now (out .entry)) (now (starts .entry)) ⌝ }
+        ensures { λ r. ⌜ wrote r (now (out .exit)) (now (starts .exit)) ≡ step (Call.openMap n) (self .state) (now (out .entry)) (now (starts .entry)) ⌝ }
     {
         let kind = kind::KIND_MAP;
         let rule = kind::rule_of(kind);
@@ -492,7 +483,7 @@ impl Writer {
 
     // A tag of the next immediate.
     pub fn open_tag(self, tag: u64, out: &mut [u8], starts: &mut [u32]) -> WriteResult
-        ensures { λ r. ⌜ wrote r (now (out .exit)) (now (starts .exit)) ≡ step (Call.openTag tag) self (now (out .entry)) (now (starts .entry)) ⌝ }
+        ensures { λ r. ⌜ wrote r (now (out .exit)) (now (starts .exit)) ≡ step (Call.openTag tag) (self .state) (now (out .entry)) (now (starts .entry)) ⌝ }
     {
         let kind = kind::KIND_TAG;
         let rule = kind::rule_of(kind);
@@ -502,7 +493,7 @@ impl Writer {
 
     // A variant whose one argument is the next immediate.
     pub fn open_variant1(self, index: u32, out: &mut [u8], starts: &mut [u32]) -> WriteResult
-        ensures { λ r. ⌜ wrote r (now (out .exit)) (now (starts .exit)) ≡ step (Call.openVariant1 index) self (now (out .entry)) (now (starts .entry)) ⌝ }
+        ensures { λ r. ⌜ wrote r (now (out .exit)) (now (starts .exit)) ≡ step (Call.openVariant1 index) (self .state) (now (out .entry)) (now (starts .entry)) ⌝ }
     {
         let kind = kind::KIND_VARIANT1;
         let rule = kind::rule_of(kind);
@@ -518,7 +509,7 @@ impl Writer {
         out: &mut [u8],
         starts: &mut [u32],
     ) -> WriteResult
-        ensures { λ r. ⌜ wrote r (now (out .exit)) (now (starts .exit)) ≡ step (Call.openVariantN index n) self (now (out .entry)) (now (starts .entry)) ⌝ }
+        ensures { λ r. ⌜ wrote r (now (out .exit)) (now (starts .exit)) ≡ step (Call.openVariantN index n) (self .state) (now (out .entry)) (now (starts .entry)) ⌝ }
     {
         let kind = kind::KIND_VARIANTN;
         let rule = kind::rule_of(kind);
@@ -528,10 +519,10 @@ impl Writer {
 
     // Closes at the value that starts at `at`: the file's entry is that value, or a pointer to it, added where one delta byte does not reach it.
     pub fn close(self, at: usize, out: &mut [u8], starts: &mut [u32]) -> WriteResult
-        ensures { λ r. ⌜ wrote r (now (out .exit)) (now (starts .exit)) ≡ step (Call.close at) self (now (out .entry)) (now (starts .entry)) ⌝ }
+        ensures { λ r. ⌜ wrote r (now (out .exit)) (now (starts .exit)) ≡ step (Call.close at) (self .state) (now (out .entry)) (now (starts .entry)) ⌝ }
     {
         let good = self.is_listed(starts, at);
-        let back = distance(self.written, at);
+        let back = distance(self.state.written, at);
         if back <= 255 {
             return self.close_near(good, at, back as u8, out, starts);
         }

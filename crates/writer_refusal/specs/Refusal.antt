@@ -1,25 +1,53 @@
--- Why a call is refused, by the plain numbers of a writer's state: w bytes written, c starts listed, p items pending, the open value's start a. The
--- public contracts say it by `judge` and `judgeDelta` of writer/specs/Step.antt.
+-- Why a call is refused (document 01, "Writer"): by the writer's state s, the output's n bytes and the table's m words, and what the call asks for.
 --
---   badState w c p a n m
---                      BAD_STATE, with an output of n bytes and a table of m words
---   refusal ..         the first reason, in the order of document 01, and NO_ROOM where there is no other: `alone` of an opening or a close, `adds` of a
---                      token, `text` and `target` where these are wrong, `closed` of the state
-use Prim.Native.Nat.{ℕ}
-use mathlib.Core.Bool.{Bool, _&&_, _||_}
+--   limit n            the bytes that may be written into an output of n bytes
+--   room s n           the bytes left there for tokens: one for the delta is held back
+--   badState s n m     BAD_STATE
+--   isListed s table x x is below the bytes written, and one of the table's first `count` words
+--   Verdict            a call is accepted, or refused with an error's number
+--   isOk v             it is accepted
+--   refusalOf q short s n m
+--                      the first reason to refuse the request q, in document 01's order; `short` is true of a call that has no room
+use Prim.Native.Nat.{ℕ, _-_, min}
+use mathlib.Core.Bool.{Bool, true, false, _&&_, _||_}
+use mathlib.Core.List.{List}
 use lib.Dec.{eqb, ltb, leb}
+use lib.ListN.{take}
 use Rattle.prelude.specs.Pick.{pick}
+use Rattle.prelude.specs.Answer.{Answer, ok, error}
+use Rattle.prelude.specs.Search.{among}
 use Rattle.error.specs.Error.{LIMIT, BAD_STATE, CLOSED, OWED, BAD_TEXT, BAD_TARGET, FULL, NO_ROOM}
+use Rattle.writer_refusal.specs.declared.State.{State}
+use Rattle.writer_refusal.specs.declared.CallFlags.{CallFlags}
 
-abbrev pub badState : ℕ → ℕ → ℕ → ℕ → ℕ → ℕ → Bool
-badState w c p a n m = ltb n w || (ltb LIMIT w || (ltb m c || (ltb 0 p && (leb m c || leb w a))))
+abbrev pub limit : ℕ → ℕ
+limit n = min n LIMIT
 
-unfoldable pub refusal : Bool → Bool → Bool → Bool → Bool → ℕ → ℕ → ℕ → ℕ → ℕ → ℕ → ℕ
-refusal alone adds text target closed w c p a n m =
-    pick (badState w c p a n m) BAD_STATE
-    (pick closed CLOSED
-    (pick (alone && ltb 0 p) OWED
-    (pick text BAD_TEXT
-    (pick target BAD_TARGET
-    (pick (adds && eqb p 0 && leb m c) FULL
-    NO_ROOM)))))
+abbrev pub room : State → ℕ → ℕ
+room s n = limit n - 1 - s .written
+
+abbrev pub badState : State → ℕ → ℕ → Bool
+badState s n m =
+    ltb n (s .written)
+    || (ltb LIMIT (s .written) || (ltb m (s .count) || (ltb 0 (s .pending) && (leb m (s .count) || leb (s .written) (s .start)))))
+
+abbrev pub isListed : State → List ℕ → ℕ → Bool
+isListed s table x = ltb x (s .written) && among x (take (s .count) table)
+
+abbrev pub Verdict : Type 0
+Verdict = Answer ℕ (Unit {0})
+
+abbrev pub isOk : Verdict → Bool
+isOk (ok u) = true
+isOk (error f) = false
+
+unfoldable pub refusalOf : CallFlags → Bool → State → ℕ → ℕ → Verdict
+refusalOf q short s n m =
+    pick (badState s n m) (error BAD_STATE)
+    (pick (s .closed) (error CLOSED)
+    (pick (q .alone && ltb 0 (s .pending)) (error OWED)
+    (pick (q .text) (error BAD_TEXT)
+    (pick (q .target) (error BAD_TARGET)
+    (pick (q .adds && eqb (s .pending) 0 && leb m (s .count)) (error FULL)
+    (pick short (error NO_ROOM)
+    (ok tt)))))))

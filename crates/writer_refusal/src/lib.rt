@@ -1,20 +1,45 @@
-// What a token asks for, and why a call is refused (document 01, "Writer"), on the plain numbers of a writer's state.
+// A writer's state, and why a call is refused (document 01, "Writer").
 use error::ErrorKind;
 use kind::Rule;
 ghost use mathlib.Core.Path.{_≡_};
-ghost use mathlib.Core.Bool.{not, _&&_, _||_};
-ghost use Prim.Native.Nat.{_+_, _-_, _≤_, min};
-ghost use lib.Dec.{eqb, ltb, leb};
-ghost use Rattle.prelude.specs.Pick.{pick};
-ghost use Rattle.error.specs.Error.{LIMIT, numberOf};
-ghost use Rattle.kind.specs.Kind.{rule, pending, immediate};
-ghost use Rattle.writer_refusal.specs.Refusal.{badState, refusal};
+ghost use mathlib.Core.Bool.{true, false};
+ghost use Prim.Native.Nat.{_+_, _≤_, _<_};
+ghost use lib.Dec.{ltb, leb};
+ghost use Rattle.prelude.specs.Answer.{error};
+ghost use Rattle.error.specs.Error.{numberOf};
+ghost use Rattle.kind.specs.Kind.{pending, due};
+ghost use Rattle.writer_refusal.specs.Refusal.{limit, room, badState, isOk, refusalOf};
+
+// A writer's state.
+pub struct State {
+    // The bytes written.
+    pub written: usize,
+    // The starts listed: how many values are finished.
+    pub count: usize,
+    // The items that the open value still has to get; 0 where none is open.
+    pub pending: u64,
+    // Where the open value starts; without meaning where none is open.
+    pub start: usize,
+    pub closed: bool,
+}
+
+// What a call asks of the state; each flag may be a reason to refuse it.
+pub struct CallFlags {
+    // It may not come while items are pending: an opening, or a close.
+    pub alone: bool,
+    // Its text is not text.
+    pub text: bool,
+    // Its target is not listed.
+    pub target: bool,
+    // It is a token, which needs a free word where it begins a value.
+    pub adds: bool,
+}
 
 // ---- what a token asks for
 
 // n, or LIMIT where n is more.
 fn limit(n: u64) -> u64
-    ensures { λ r. ⌜ r ≡ min n LIMIT ⌝ }
+    ensures { λ r. ⌜ r ≡ limit n ⌝ }
 {
     if n < error::LIMIT as u64 {
         return n;
@@ -24,7 +49,7 @@ fn limit(n: u64) -> u64
 
 // The bytes that may be written into an output of so many.
 fn end(bytes: usize) -> usize
-    ensures { λ r. ⌜ r ≡ min bytes LIMIT ⌝ }
+    ensures { λ r. ⌜ r ≡ limit bytes ⌝ }
 {
     limit(bytes as u64) as usize
 }
@@ -32,15 +57,15 @@ fn end(bytes: usize) -> usize
 // How many items a token has, or LIMIT where they are more: map(2^63) has 2^64.
 fn items(rule: Rule, n: u64, args: u64) -> u64
     requires { ⌜ (rule .single ≤ 1) × (rule .each ≤ 4) ⌝ }
-    ensures { λ r. ⌜ r ≡ min (pending rule n args) LIMIT ⌝ }
+    ensures { λ r. ⌜ r ≡ limit (pending rule n args) ⌝ }
 {
     limit(rule.single + rule.each * limit(n) + limit(args))
 }
 
-// The items pending behind a token: its own, or LIMIT where they are more, where it begins a value, and else one less than before.
+// The items pending after a token; its own, where it has more than LIMIT, are LIMIT.
 pub fn left(before: u64, rule: Rule, n: u64, args: u64) -> u64
     requires { ⌜ (rule .single ≤ 1) × (rule .each ≤ 4) ⌝ }
-    ensures { λ r. ⌜ r ≡ pick (eqb before 0) (min (pending rule n args) LIMIT) (before - 1) ⌝ }
+    ensures { λ r. ⌜ r ≡ due before (limit (pending rule n args)) ⌝ }
 {
     if before == 0 {
         return items(rule, n, args);
@@ -49,17 +74,17 @@ pub fn left(before: u64, rule: Rule, n: u64, args: u64) -> u64
 }
 
 // The bytes left for tokens: one for the delta is held back.
-fn room(written: usize, bytes: usize) -> usize
-    ensures { λ r. ⌜ r ≡ min bytes LIMIT - 1 - written ⌝ }
+fn room(state: State, bytes: usize) -> usize
+    ensures { λ r. ⌜ r ≡ room state bytes ⌝ }
 {
     let end = end(bytes);
-    if end <= written {
+    if end <= state.written {
         return 0;
     }
-    end - 1 - written
+    end - 1 - state.written
 }
 
-// Whether a token of some bytes and the items left behind it exceed the room.
+// Whether a token of some bytes and the items left after it exceed the room.
 fn exceeds(room: usize, size: usize, left: u64) -> bool
     ensures { λ r. ⌜ r ≡ ltb room (size + left) ⌝ }
 {
@@ -69,106 +94,74 @@ fn exceeds(room: usize, size: usize, left: u64) -> bool
     ((room - size) as u64) < left
 }
 
-// Whether a token has no room with the items left behind it.
-pub fn is_short(written: usize, size: usize, left: u64, bytes: usize) -> bool
-    ensures { λ r. ⌜ r ≡ ltb (min bytes LIMIT - 1 - written) (size + left) ⌝ }
+// Whether a token has no room with the items left after it.
+fn is_short(state: State, size: usize, left: u64, bytes: usize) -> bool
+    ensures { λ r. ⌜ r ≡ ltb (room state bytes) (size + left) ⌝ }
 {
-    exceeds(room(written, bytes), size, left)
-}
-
-// Whether a token may not come while items are pending.
-pub fn is_opening(kind: u8) -> bool
-    ensures { λ r. ⌜ r ≡ not (immediate (rule kind)) ⌝ }
-{
-    let immediate = kind::is_immediate(kind::rule_of(kind));
-    !immediate
+    exceeds(room(state, bytes), size, left)
 }
 
 // ---- whether a call is refused
 
-// Whether a state with a free word allows a token, room apart; `alone` is true of one that may not come while items are pending. A state that has room
-// is within the output.
-pub fn is_ready(
-    alone: bool,
-    closed: bool,
-    written: usize,
-    count: usize,
-    pending: u64,
-    start: usize,
-    words: usize,
-) -> bool
-    ensures { λ r. ⌜ r ≡ ltb count words && not closed && not (ltb 0 pending && (alone || leb written start)) ⌝ }
-{
-    let late = (0 < pending) & (alone | (written <= start));
-    (count < words) & !closed & !late
-}
-
 // Whether a state does not fit an output of so many bytes and a table of so many words.
-fn is_bad_state(
-    written: usize,
-    count: usize,
-    pending: u64,
-    start: usize,
-    bytes: usize,
-    words: usize,
-) -> bool
-    ensures { λ r. ⌜ r ≡ badState written count pending start bytes words ⌝ }
+fn is_bad_state(state: State, bytes: usize, words: usize) -> bool
+    ensures { λ r. ⌜ r ≡ badState state bytes words ⌝ }
 {
     // an open value without a free word, or that does not start before the bytes written
-    let astray = (0 < pending) & ((words <= count) | (written <= start));
-    (bytes < written) | ((error::LIMIT < written) | ((words < count) | astray))
+    let astray = (0 < state.pending) & ((words <= state.count) | (state.written <= state.start));
+    (bytes < state.written) | ((error::LIMIT < state.written) | ((words < state.count) | astray))
 }
 
-// Whether a state allows the delta byte of a close.
-pub fn may_close(
-    closed: bool,
-    written: usize,
-    count: usize,
-    pending: u64,
-    start: usize,
+// Whether a token of some bytes is accepted, with the items left after it. A state that has room for it is within the output.
+pub fn may_write(
+    state: State,
+    request: CallFlags,
+    size: usize,
+    left: u64,
     bytes: usize,
     words: usize,
 ) -> bool
-    ensures { λ r. ⌜ r ≡ not (badState written count pending start bytes words) && not closed && not (ltb 0 pending) && not (leb (min bytes LIMIT) written) ⌝ }
+    requires { ⌜ (request .adds ≡ true) × (0 < size) ⌝ }
+    ensures { λ r. ⌜ r ≡ isOk (refusalOf request (ltb (room state bytes) (size + left)) state bytes words) ⌝ }
 {
-    let bad = is_bad_state(written, count, pending, start, bytes, words);
-    let full = end(bytes) <= written;
-    !bad & !closed & !(0 < pending) & !full
+    let short = is_short(state, size, left, bytes);
+    let late = (0 < state.pending) & (request.alone | (state.written <= state.start));
+    let wrong = request.text | request.target;
+    (state.count < words) & !state.closed & !late & !wrong & !short
 }
 
-// The first reason to refuse a call, NO_ROOM where there is no other. `alone` is true of an opening or a close, `adds` of a token; `text` is true of a
-// text that is not text, `target` of a target that is not listed.
-pub fn refusal(
-    alone: bool,
-    adds: bool,
-    text: bool,
-    target: bool,
-    closed: bool,
-    written: usize,
-    count: usize,
-    pending: u64,
-    start: usize,
-    bytes: usize,
-    words: usize,
-) -> ErrorKind
-    ensures { λ r. ⌜ numberOf r ≡ refusal alone adds text target closed written count pending start bytes words ⌝ }
+// Whether a close by the delta byte alone is accepted.
+pub fn may_close(state: State, request: CallFlags, bytes: usize, words: usize) -> bool
+    requires { ⌜ request .adds ≡ false ⌝ }
+    ensures { λ r. ⌜ r ≡ isOk (refusalOf request (leb (limit bytes) (state .written)) state bytes words) ⌝ }
 {
-    if is_bad_state(written, count, pending, start, bytes, words) {
+    let bad = is_bad_state(state, bytes, words);
+    let late = request.alone & (0 < state.pending);
+    let wrong = request.text | request.target;
+    let full = end(bytes) <= state.written;
+    !bad & !state.closed & !late & !wrong & !full
+}
+
+// The first reason to refuse a call, NO_ROOM where there is no other.
+pub fn refusal(state: State, request: CallFlags, bytes: usize, words: usize) -> ErrorKind
+    ensures { λ r. ⌜ error (numberOf r) ≡ refusalOf request true state bytes words ⌝ }
+{
+    if is_bad_state(state, bytes, words) {
         return ErrorKind::BadState;
     }
-    if closed {
+    if state.closed {
         return ErrorKind::Closed;
     }
-    if alone & (0 < pending) {
+    if request.alone & (0 < state.pending) {
         return ErrorKind::Owed;
     }
-    if text {
+    if request.text {
         return ErrorKind::BadText;
     }
-    if target {
+    if request.target {
         return ErrorKind::BadTarget;
     }
-    if adds & (pending == 0) & (words <= count) {
+    if request.adds & (state.pending == 0) & (words <= state.count) {
         return ErrorKind::Full;
     }
     ErrorKind::NoRoom

@@ -1,5 +1,6 @@
 -- `writer::Writer::float32` meets its contract.
 use borrow.Author.Needs.{needs}
+use Rattle.writer.proofs.Writes.{put-bytes}
 use Rattle.writer.proofs.Writer.float32.Statement.{statement}
 use Rattle.writer.proofs.Writer.float32.Tie as tie
 
@@ -15,4 +16,4 @@ float32-spec =
     (λ c κs. search needs)
     (λ c. search needs)
     (λ c. search needs)
-    (λ c. let p = c .before .before .before .before in rw (p .before .before .before .before .before .before .before .before .bytes4 .ensures) at (p .put-body .ensures)))
+    (λ c. search put-bytes))

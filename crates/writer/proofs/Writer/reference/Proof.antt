@@ -1,5 +1,6 @@
 -- `writer::Writer::reference` meets its contract.
 use borrow.Author.Needs.{needs}
+use Rattle.writer.proofs.Writes.{put-number}
 use Rattle.writer.proofs.Writer.reference.Statement.{statement}
 use Rattle.writer.proofs.Writer.reference.Tie as tie
 
@@ -15,4 +16,4 @@ reference-spec =
     (λ c κs. search needs)
     (λ c. search needs)
     (λ c. search needs)
-    (λ c. let p = c .before .before .before .before in rw (p .before .before .before .before .before .before .before .before .before .distance .ensures) at (p .put-token .ensures)))
+    (λ c. search put-number))

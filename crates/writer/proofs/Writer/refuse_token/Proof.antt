@@ -5,4 +5,9 @@ use Rattle.writer.proofs.Writer.refuse_token.Tie as tie
 
 pub refuse-token-spec : {M : Type 1} → statement M
 refuse-token-spec =
-    tie.close (tie.spec (λ c κs. search needs) (λ c κs. search needs) (λ c. rw (c .before .is-opening .ensures) at (c .refuse .ensures)))
+    tie.close
+    (tie.spec
+    (λ c κs. search needs)
+    (λ c κs. search needs)
+    (λ c κs. search needs)
+    (λ c. let q = c .before in rw (q .token-request .ensures, q .before .rule-of .ensures) at (c .refuse .ensures)))

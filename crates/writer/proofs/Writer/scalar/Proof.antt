@@ -1,5 +1,6 @@
 -- `writer::Writer::scalar` meets its contract.
 use borrow.Author.Needs.{needs}
+use Rattle.writer.proofs.Writes.{put-number}
 use Rattle.writer.proofs.Writer.scalar.Statement.{statement}
 use Rattle.writer.proofs.Writer.scalar.Tie as tie
 
@@ -14,4 +15,4 @@ scalar-spec =
     (λ c κs. search needs)
     (λ c. search needs)
     (λ c. search needs)
-    (λ c. let p = c .before .before .before .before in rw (p .before .before .before .before .before .before .before .number .ensures) at (p .put-token .ensures)))
+    (λ c. search put-number))
