@@ -85,14 +85,14 @@ module _ (s t : List ℕ) (cap at count : ℕ) (a : TableInvariant s t cap at co
 
       -- what `table::count_blocks` asks for
       module _ (blocks : List ℕ) (short : length s ≤ LIMIT) (i : Indexed s t blocks at count) where
-        pub next-le : at / BLOCK + 1 ≤ end / BLOCK + 1
-        next-le = omega (arith, table-ends .0)
+        pub along-next : at / BLOCK + 1 ≤ end / BLOCK + 1
+        along-next = omega (arith, table-ends .0)
 
-        pub last-lt : end / BLOCK < length blocks
-        last-lt = omega (arith, table-ends .1, i .long)
+        pub along-last : end / BLOCK < length blocks
+        along-last = omega (arith, table-ends .1, i .long)
 
-        pub few-words : length (take (count + 1) (set t count at)) < 2 ^ 32
-        few-words =
+        pub along-few : length (take (count + 1) (set t count at)) < 2 ^ 32
+        along-few =
             let g = a .going in
             let n = length-take-le count t (a .fits) in
             let few : count ≤ at =
@@ -100,9 +100,9 @@ module _ (s t : List ℕ) (cap at count : ℕ) (a : TableInvariant s t cap at co
             (λ z. omega arith) in
             rw (words, length-append) (omega (arith, g .inside))
 
-        pub words-below : Below ((at / BLOCK + 1) * BLOCK) (take (count + 1) (set t count at))
-        words-below = rw words (below-snoc (take count t) at _ (λ k b. omega (arith, a .going .below k b)) (omega arith))
+        pub along-below : Below ((at / BLOCK + 1) * BLOCK) (take (count + 1) (set t count at))
+        along-below = rw words (below-snoc (take count t) at _ (λ k b. omega (arith, a .going .below k b)) (omega arith))
 
-        pub words-counted : Counted (take (at / BLOCK + 1) blocks) (take (count + 1) (set t count at))
-        words-counted =
+        pub along-counted : Counted (take (at / BLOCK + 1) blocks) (take (count + 1) (set t count at))
+        along-counted =
             rw words (counted-snoc (take (at / BLOCK + 1) blocks) (take count t) at (omega (arith, length-take (at / BLOCK + 1) blocks)) (i .counted))

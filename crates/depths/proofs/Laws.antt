@@ -113,8 +113,8 @@ module _ (file t : List ℕ) (cap : ℕ) (r : CheckResult) (left : checked (chec
     pub region-le : length (take (length file - 1) file) ≤ LIMIT
     region-le = rw length-take (omega (arith, accepted .short))
 
-    pub accepted-room : (room : ℕ) → room < count → room < length t
-    accepted-room room h = omega (arith, accepted .fits)
+    pub place-lt : (room : ℕ) → room < count → room < length t
+    place-lt room h = omega (arith, accepted .fits)
 
     pub place-fits : (room : ℕ) → room < count → Fits w64 (getD t room 0)
     place-fits room h =

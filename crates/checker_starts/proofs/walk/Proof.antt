@@ -6,7 +6,7 @@ use lib.Seq.{length-take-le}
 use borrow.Author.Needs.{needs}
 use native.Mathlib.Omega.{arith}
 use Rattle.checker_starts.proofs.Invariant.{TableInvariant, Indexed, table-start, indexed-start, indexed-on, known-fits}
-use Rattle.checker_starts.proofs.Invariant.{next-le, last-lt, few-words, words-below, words-counted}
+use Rattle.checker_starts.proofs.Invariant.{along-next, along-last, along-few, along-below, along-counted}
 use Rattle.checker_starts.proofs.Invariant.{table-end, table-full, table-error, table-less, table-finished}
 use Rattle.checker_starts.proofs.walk.Statement.{statement}
 use Rattle.checker_starts.proofs.walk.Tie as tie
@@ -41,7 +41,7 @@ walk-spec =
     (λ c. search needs)
     (λ c. rw length-set (omega arith))
     (λ c. sym (length-take-le _ _ (rw length-set (omega arith))))
-    (λ c κs. (search (next-le, arith), search (last-lt, arith), search few-words, search words-below, search words-counted))
+    (λ c κs. (search (along-next, arith), search (along-last, arith), search along-few, search along-below, search along-counted))
     (λ c. search (table-less, arith))
     (λ c. (search (table-finished, arith), search indexed-on, omega arith))
     (λ c. search needs)

@@ -3,7 +3,7 @@ use mathlib.Core.Path.{sym}
 use lib.Seq.{length-take-le}
 use borrow.Author.Needs.{needs}
 use native.Mathlib.Omega.{arith}
-use Rattle.depths.proofs.Laws.{accepted-some, accepted-fits, accepted-room, accepted-starts, place-fits, count-le, region-le}
+use Rattle.depths.proofs.Laws.{accepted-some, accepted-fits, place-lt, accepted-starts, place-fits, count-le, region-le}
 use Rattle.depths.proofs.Laws.{depths-full, depths-answer, depths-refused}
 use Rattle.depths.proofs.depths.Statement.{statement}
 use Rattle.depths.proofs.depths.Tie as tie
@@ -15,7 +15,7 @@ depths-spec =
     (λ c κs. search needs)
     (λ c. search needs)
     (λ c. search needs)
-    (λ c. search accepted-room)
+    (λ c. search place-lt)
     (λ c. search place-fits)
     (λ c κs. search needs)
     (λ c κs. search needs)
