@@ -11,6 +11,7 @@ use lib.ListN.{length, take, getD, set, length-set, length-take, length-append}
 use lib.Seq.{length-take-le, take-suc-set}
 use Rattle.prelude.specs.Answer.{ok, error}
 use Rattle.prelude.proofs.Tests.{split}
+use Rattle.prelude.proofs.Lists.{below-snoc}
 use Rattle.prelude.proofs.Searches.{rising-ge}
 use Rattle.error.specs.Error as errors
 use Rattle.error.specs.Error.{fault, LIMIT, FULL}
@@ -21,7 +22,7 @@ use Rattle.checker_value.specs.declared.ValueResult.{ValueResult}
 use Rattle.checker_value.specs.declared.ValueResult.the-variants as results-are
 use Rattle.checker_value.specs.Walk.{between, startsFrom}
 use Rattle.checker_value.specs.Internal.{ChecksValue}
-use Rattle.checker_value.proofs.Walks.{WalkInvariant, invariant-begun, below-snoc, invariant-finished, walk-end, value-full}
+use Rattle.checker_value.proofs.Walks.{WalkInvariant, invariant-begun, invariant-finished, walk-end, value-full}
 
 -- between two values at `at`, with the starts in the first `count` words of the table t
 pub record TableInvariant (s t : List ℕ) (cap at count : ℕ) : Type 0 where

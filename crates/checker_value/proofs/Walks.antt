@@ -10,12 +10,12 @@ use native.Mathlib.Nat.{not-suc-le-zero}
 use native.Mathlib.Omega.{arith}
 use borrow.Author.Tests.{lt-ltb, le-leb, lt-leb, eq-eqb, ne-eqb, eqb-false}
 use lib.Dec.{eqb, ltb, leb}
-use lib.ListN.{length, getD, length-append, List·getD-append}
-use lib.Seq.{getD-append-seam}
+use lib.ListN.{length, getD, length-append}
 use Rattle.prelude.specs.Answer.{Answer, ok, error, bind}
 use Rattle.prelude.specs.Loop.{Turn, go, stop}
 use Rattle.prelude.specs.Search.{Rising}
 use Rattle.prelude.proofs.Tests.{pick-elim, split, and-false, facts}
+use Rattle.prelude.proofs.Lists.{below-snoc}
 use Rattle.prelude.proofs.Readers.{bind-ok, bind-error}
 use Rattle.prelude.proofs.Turns.{from-go, from-stop, from-all}
 use Rattle.prelude.proofs.Searches.{rising-nil, rising-snoc}
@@ -85,14 +85,6 @@ invariant-begun s cap = record {
   count = omega arith;
   room = λ h. omega arith;
 }
-
--- a list below m, with one more word below m
-pub below-snoc : (xs : List ℕ) (x m : ℕ) → ((k : ℕ) → k < length xs → getD xs k 0 < m) → x < m → (k : ℕ)
-    → k < length (xs ++ (x ∷ [])) → getD (xs ++ (x ∷ [])) k 0 < m
-below-snoc xs x m h l k b =
-    split k (length xs)
-    (λ lt. rw (List·getD-append xs (x ∷ []) 0 k lt) (h k lt))
-    (λ ge. let e : k ≡ length xs = omega (arith, length-append xs (x ∷ [])) in rw (e, getD-append-seam xs x [] 0) l)
 
 -- after a finished value
 pub invariant-finished : (s : List ℕ) (cap : ℕ) (w : Walk) → WalkInvariant s cap w → length (w .done) < cap → (end : ℕ) → w .start < end → end ≤ length s

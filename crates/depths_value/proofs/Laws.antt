@@ -6,7 +6,6 @@ use mathlib.Core.Path.{_≡_, refl, sym, ap, _∙_, subst}
 use Prim.Native.Nat.{ℕ, zero, suc, _+_, _-_, _≤_, _<_, max}
 use mathlib.Core.Bool.{false, _&&_}
 use mathlib.Core.List.{List, [], _∷_, _++_}
-use native.Mathlib.Nat.{not-suc-le-zero}
 use native.Mathlib.Numerals.{add-one}
 use native.Mathlib.Omega.{arith}
 use borrow.Author.Tests.{lt-leb, le-leb}
@@ -18,6 +17,7 @@ use lib.Seq.{take-suc-set, getD-append-seam}
 use Rattle.prelude.specs.Answer.{Answer, ok, error}
 use Rattle.prelude.specs.Loop.{Turn, go, stop}
 use Rattle.prelude.proofs.Tests.{pick-elim, split}
+use Rattle.prelude.proofs.Lists.{getD-in}
 use Rattle.prelude.proofs.Searches.{rising-ge}
 use Rattle.prelude.proofs.Turns.{from-go, from-stop, from-all}
 use Rattle.error.specs.Error as errors
@@ -31,15 +31,6 @@ use Rattle.scan.specs.declared.ScanResult.the-variants.{Ok, Err}
 use Rattle.scan.proofs.Places.{scan-within}
 use Rattle.depths_value.specs.Depth.{targetDepth, DepthState, depthState, depthTurned, depthTurn, deepestFrom, deepestIn, depthAt, depthsTo}
 use Rattle.depths_value.specs.Internal.{Starts}
-
--- a word of a list, whatever is returned past its end
-pub getD-in : (xs : List ℕ) (i d e : ℕ) → i < length xs → getD xs i d ≡ getD xs i e
-getD-in [] i d e h = absurd (not-suc-le-zero h)
-getD-in (x ∷ xs) zero d e h = refl
-getD-in (x ∷ xs) (suc i) d e h = getD-in xs i d e (omega arith)
-
-pub getD-past : (xs : List ℕ) (i j : ℕ) → i ≡ j → length xs ≤ i → 0 ≡ getD xs j 0
-getD-past xs i j e h = sym (List·getD-eq-default xs 0 {n = j} (omega arith))
 
 pub end-next : (ss : List ℕ) (i len : ℕ) → i + 1 < length ss → getD ss (i + 1) 0 ≡ getD ss (suc i) len
 end-next ss i len h = rw (← add-one i) (getD-in ss (i + 1) 0 len h)

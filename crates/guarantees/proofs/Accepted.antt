@@ -27,7 +27,7 @@ use Rattle.guarantees.proofs.Ends.{Ends, walk-ends}
 -- s is values, with a word for each; `done` are their starts
 pub record Listed (s : List ℕ) (cap : ℕ) (done : List ℕ) : Type 0 where
   pub values : List Value
-  pub wellFormed : Values values
+  pub formed : Values values
   pub same : s ≡ region values
   pub starts : done ≡ starts 0 values
   pub room : length values ≤ cap
@@ -47,7 +47,7 @@ module _ (s : List ℕ) (cap : ℕ) (b : Bytes s) where
       let none : p .rest ≡ [] = length-nil (p .rest) (omega (arith, r .end, p .at, ap length (p .same))) in
       record {
         values = p .values;
-        wellFormed = p .wellFormed;
+        formed = p .formed;
         same = p .same ∙ rw (none, append-nil);
         starts = sym (r .same) ∙ p .done;
         room = omega (arith, r .going .count, length-starts 0 (p .values), ap length (p .done));
@@ -70,7 +70,7 @@ accepted file cap count entry b e =
       values = l .values;
       wellFormed = record {
         short = w .short;
-        values = l .wellFormed;
+        values = l .formed;
         delta = w .delta;
         same = w .same ∙ ap (λ s. s ++ (w .delta ∷ [])) (l .same);
         named = named ∙ ap length (l .same);

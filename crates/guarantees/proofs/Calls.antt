@@ -9,11 +9,12 @@ use Prim.Native.Nat.{ℕ, _+_, _-_, _≤_, _<_}
 use native.Mathlib.Omega.{arith}
 use lib.Dec.{eqb, leb}
 use lib.ListN.{length, take, drop, set, getD, length-set, length-append}
-use lib.Seq.{sets, sets-eq, length-sets, take-at, drop-at, take-take, drop-drop, length-take-le, getD-set-other}
+use lib.Seq.{sets, sets-eq, length-sets, take-at, drop-at, length-take-le, getD-set-other}
 use borrow.Author.Tests.{leb-true, leb-false}
 use Rattle.prelude.specs.Pick.{pick}
 use Rattle.prelude.specs.Answer.{ok, error}
 use Rattle.prelude.proofs.Tests.{pick-elim}
+use Rattle.prelude.proofs.Lists.{take-earlier, drop-later}
 use Rattle.token.specs.Token.{Token, token, emit}
 use Rattle.kind.specs.Kind.{due}
 use Rattle.writer_refusal.specs.Refusal.{limit, Verdict}
@@ -110,14 +111,6 @@ module _ (s : State) (out table : List ℕ) where
     after = sets-after out (d ∷ []) (s .written) (omega arith);
     others = λ i _. refl;
   }
-
-take-earlier : (m n : ℕ) (l k : List ℕ) → m ≤ n → take n l ≡ take n k → take m l ≡ take m k
-take-earlier m n l k h e = sym (take-take m n l h) ∙ ap (take m) e ∙ take-take m n k h
-
-pub drop-later : (m n : ℕ) (l k : List ℕ) → n ≤ m → drop n l ≡ drop n k → drop m l ≡ drop m k
-drop-later m n l k h e =
-    let q : m ≡ n + (m - n) = omega arith in
-    ap (λ j. drop j l) q ∙ sym (drop-drop (m - n) n l) ∙ ap (drop (m - n)) e ∙ drop-drop (m - n) n k ∙ ap (λ j. drop j k) (sym q)
 
 -- one call and then another that leaves the table as it is
 then-only : (s : State) (out table : List ℕ) (r q : Result) → Only s out table r → Only (r .writer) (r .out) (r .table) q → q .table ≡ r .table

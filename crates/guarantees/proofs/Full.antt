@@ -60,7 +60,7 @@ overfull file cap p b w e =
     record {
       short = w .short;
       values = v .values;
-      formed = v .wellFormed;
+      formed = v .formed;
       count = omega (arith, ap length (v .done), length-starts 0 (v .values), r .going .count, none);
       same = ap (take p) front ∙ take-at (region (v .values)) _ p place;
       place = place;

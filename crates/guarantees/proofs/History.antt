@@ -11,12 +11,13 @@ use native.Mathlib.Omega.{arith}
 use lib.Dec.{eqb, ltb, leb}
 use lib.IntN.{pos, negsuc}
 use lib.ListN.{length, take, set, length-append}
-use lib.Seq.{sets, sets-eq, length-sets, take-at, length-take-le, take-suc-set}
+use lib.Seq.{sets, length-sets, length-take-le, take-suc-set}
 use borrow.Author.Tests.{eqb-true, eqb-false, leb-true, leb-false, ltb-false, le-ltb, lt-ltb, le-leb, lt-leb, eq-eqb, ne-eqb}
 use Rattle.prelude.specs.Pick.{pick}
 use Rattle.prelude.specs.Answer.{ok, error}
 use Rattle.prelude.specs.Search.{among}
 use Rattle.prelude.proofs.Tests.{pick-elim, pick-cong, split, and-implied}
+use Rattle.prelude.proofs.Lists.{take-sets}
 use Rattle.kind.specs.Kind.{rule, pending, due}
 use Rattle.token.specs.Token.{token, emit}
 use Rattle.values.specs.Values.{bytes, region, starts}
@@ -152,10 +153,6 @@ module _ (s : State) (out table : List ℕ) (b : Model) (f : Follows s out table
       rw (none, all))))
 
 -- ---- what an accepted part leaves
-
-take-sets : (d p : List ℕ) (w : ℕ) → w + length p ≤ length d → take (w + length p) (sets d w p) ≡ take w d ++ p
-take-sets d p w h =
-    rw (sets-eq p d w h) (take-at (take w d ++ p) _ (w + length p) (omega (arith, length-append (take w d) p, length-take-le w d (omega arith))))
 
 -- the start is listed if the value is finished
 module _ (vs : List ModelValue) (g : Stage) (v : ModelValue) (table : List ℕ) (n : ℕ) (word : n < length table)

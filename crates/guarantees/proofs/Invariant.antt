@@ -31,7 +31,7 @@ use Rattle.utf8.specs.Text.{isText}
 use Rattle.kind.specs.Kind.{rule, pending, immediate}
 use Rattle.token.specs.Token.{emit}
 use Rattle.values.specs.Values.{region, starts, Each}
-use Rattle.values.proofs.Members.{each-append, each-imp}
+use Rattle.values.proofs.Members.{each-all, each-append, each-imp}
 use Rattle.values.proofs.Laws.{emit-pos, length-starts, start-of}
 use Rattle.writer_refusal.specs.Refusal.{Verdict}
 use Rattle.writer_refusal.proofs.Refusals.{past}
@@ -261,10 +261,6 @@ pub invariant-run : (P : Part → Type 0) (cs : List Call) → Each (λ c. Clear
     → ModelInvariant P (modelRun cs emptyModel n m .model)
 unfolding modelBytes region valuesAt
 invariant-run P cs own n m = invariant-from P cs own emptyModel n m (record { finished = tt; stage = tt; short = omega arith })
-
-each-all : {A : Type 0} (P : A → Type 0) → ((x : A) → P x) → (xs : List A) → Each P xs
-each-all P f [] = tt
-each-all P f (x ∷ xs) = (f x, each-all P f xs)
 
 pub invariant-any : (cs : List Call) (n m : ℕ) → ModelInvariant (λ p. Unit {0}) (modelRun cs emptyModel n m .model)
 invariant-any cs n m = invariant-run _ cs (each-all _ (λ c t. tt) cs) n m

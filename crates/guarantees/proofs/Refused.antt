@@ -103,7 +103,7 @@ module _ (file : List ℕ) (cap : ℕ) where
           record {
             short = w .short;
             values = l .values;
-            formed = l .wellFormed;
+            formed = l .formed;
             room = l .room;
             delta = w .delta;
             same = w .same ∙ ap (λ s. s ++ (w .delta ∷ [])) (l .same);

@@ -9,12 +9,13 @@ use lib.ListN.{drop}
 use lib.Seq.{drop-set-lt}
 use Rattle.prelude.specs.Answer.{ok, error}
 use Rattle.prelude.proofs.Tests.{split}
+use Rattle.prelude.proofs.Lists.{drop-later}
 use Rattle.writer_refusal.specs.Refusal.{Verdict}
 use Rattle.writer_refusal.specs.declared.State.{State}
 use Rattle.writer.specs.Step.{Call, Result, startOf, step}
 use Rattle.guarantees.specs.History.{runs}
 use Rattle.writer.proofs.Refused.{refused-same}
-use Rattle.guarantees.proofs.Calls.{accepted-only, drop-later}
+use Rattle.guarantees.proofs.Calls.{accepted-only}
 use Rattle.guarantees.proofs.Results.{FinishesNone, Finishes, Finishing, accepted-finishes}
 
 -- from a state s on, calls that leave these count only upwards, and leave the rest as it was

@@ -137,7 +137,7 @@ after-walked s cap w h st (busy {vs} {t} {is} {rest} {k} p) =
 -- values at the front of s, up to the walk's offset
 pub record WalkedBetween (s : List ℕ) (w : Walk) : Type 0 where
   pub values : List Value
-  pub wellFormed : Values values
+  pub formed : Values values
   pub rest : List ℕ
   pub same : s ≡ region values ++ rest
   pub at : w .at ≡ length (region values)
@@ -146,7 +146,7 @@ pub record WalkedBetween (s : List ℕ) (w : Walk) : Type 0 where
 pub walked-between : (s : List ℕ) (w : Walk) → w .pending ≡ 0 → WalkedValues s w → WalkedBetween s w
 walked-between s w e (idle {vs} rest values same) = record {
   values = vs;
-  wellFormed = values;
+  formed = values;
   rest = rest;
   same = same;
   at = refl;

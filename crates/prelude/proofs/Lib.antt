@@ -12,3 +12,5 @@ pub mod Turns
 pub mod Signs
 -- words in a list
 pub mod Searches
+-- lists
+pub mod Lists

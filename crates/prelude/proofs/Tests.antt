@@ -4,7 +4,7 @@
 -- `&&` and `||`; tests known by a flag; the rulesets. The tests themselves (`lt-ltb`, `ltb-true`, ..) are those of
 -- `borrow.Author.Tests`.
 use mathlib.Core.Path.{_≡_, refl, sym, _∙_}
-use mathlib.Core.Bool.{Bool, true, false, not, _&&_, _||_, false≢true}
+use mathlib.Core.Bool.{Bool, true, false, not, _&&_, _||_, true≢false, false≢true}
 use Prim.Native.Nat.{ℕ, _≤_, _<_}
 use native.Mathlib.Decide.{decLe}
 use native.Mathlib.Nat.{lt-of-not-le}
@@ -38,6 +38,15 @@ and-r false b e = absurd (false≢true e)
 pub or-true : {X : Type 0} (a b : Bool) → a || b ≡ true → (a ≡ true → X) → (b ≡ true → X) → X
 or-true true b e f g = f refl
 or-true false b e f g = g e
+
+-- tests joined by `||` of which none passed
+pub or-false : {X : Type 0} (a b : Bool) → a || b ≡ false → (a ≡ false → b ≡ false → X) → X
+or-false true b e k = absurd (true≢false e)
+or-false false b e k = k refl e
+
+pub and-none : (b : Bool) → b && false ≡ false
+and-none true = refl
+and-none false = refl
 
 -- a test known by a flag
 pub le-of-flag : (a b : ℕ) {t : Bool} → t ≡ leb a b → t ≡ true → a ≤ b

@@ -17,6 +17,10 @@ use Rattle.prelude.proofs.Tests.{or-true}
 use Rattle.prelude.proofs.Searches.{rank-at, among-by}
 use Rattle.values.specs.Values.{Each}
 
+pub each-all : {A : Type 0} (P : A → Type 0) → ((x : A) → P x) → (xs : List A) → Each P xs
+each-all P f [] = tt
+each-all P f (x ∷ xs) = (f x, each-all P f xs)
+
 module _ {A : Type 0} where
   pub each-append : (P : A → Type 0) (a b : List A) → Each P (a ++ b) ↔ (Each P a × Each P b)
   each-append P [] b = (λ e. (tt, e), λ e. e .1)

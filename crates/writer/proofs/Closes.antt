@@ -9,6 +9,7 @@ use lib.ListN.{length}
 use lib.Seq.{length-sets}
 use borrow.Author.Tests.{le-leb, lt-leb}
 use Rattle.prelude.specs.Answer.{ok, error}
+use Rattle.prelude.proofs.Tests.{and-none}
 use Rattle.error.specs.Error.{numberOf}
 use Rattle.error.specs.declared.ErrorKind.{ErrorKind}
 use Rattle.leb128.proofs.Sizes.{length-put-le}
@@ -18,7 +19,7 @@ use Rattle.token.proofs.Laws.{length-emit}
 use Rattle.writer_refusal.specs.Refusal.{limit, Verdict, isOk, refusalOf}
 use Rattle.writer_refusal.specs.declared.State.{State}
 use Rattle.writer_refusal.specs.declared.CallFlags.{CallFlags}
-use Rattle.writer_refusal.proofs.Refusals.{and-none, sound, ok-of-isOk, refusal-same, refusal-owed, refusal-short}
+use Rattle.writer_refusal.proofs.Refusals.{sound, ok-of-isOk, refusal-same, refusal-owed, refusal-short}
 use Rattle.writer.specs.Step.{opens, tokenFlags, deltaFlags, tokenRefusal, deltaRefusal, Result, result, write, writeDelta, writePointerDelta, settled, putToken, closeAt}
 use Rattle.writer.specs.Answers.{wrote}
 use Rattle.writer.specs.Internal.{ListedTest, Refused, WroteDelta, closeNear, closeFar}

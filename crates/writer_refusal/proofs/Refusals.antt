@@ -1,6 +1,6 @@
 -- What is known of a call that is not refused, and of one that is.
 --
--- In order: tests joined; a state that is not bad (`Sound`); a request that is granted (`Granted`), both ways; what decides a refusal.
+-- In order: a state that is not bad (`Sound`); a request that is granted (`Granted`), both ways; what decides a refusal.
 use mathlib.Core.Path.{_≡_, refl, sym}
 use mathlib.Core.Bool.{Bool, true, false, _&&_, _||_, true≢false}
 use Prim.Native.Nat.{ℕ, _≤_, _<_}
@@ -9,21 +9,11 @@ use lib.Dec.{eqb, ltb, leb}
 use borrow.Author.Tests.{ltb-false, leb-false, eqb-false, lt-ltb, le-ltb, lt-leb}
 use Rattle.prelude.specs.Pick.{pick}
 use Rattle.prelude.specs.Answer.{ok, error}
-use Rattle.prelude.proofs.Tests.{split, pick-cong, and-false}
+use Rattle.prelude.proofs.Tests.{split, pick-cong, and-false, or-false}
 use Rattle.error.specs.Error.{LIMIT}
 use Rattle.writer_refusal.specs.Refusal.{badState, Verdict, isOk, refusalOf}
 use Rattle.writer_refusal.specs.declared.State.{State}
 use Rattle.writer_refusal.specs.declared.CallFlags.{CallFlags}
-
--- ---- tests joined
-
-pub or-false : {X : Type 0} (a b : Bool) → a || b ≡ false → (a ≡ false → b ≡ false → X) → X
-or-false true b e k = absurd (true≢false e)
-or-false false b e k = k refl e
-
-pub and-none : (b : Bool) → b && false ≡ false
-and-none true = refl
-and-none false = refl
 
 -- ---- a state that is not bad
 

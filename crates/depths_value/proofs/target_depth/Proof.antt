@@ -7,7 +7,7 @@ use borrow.Author.Needs.{needs}
 use borrow.Author.Tests.{ltb-true}
 use native.Mathlib.Omega.{arith}
 use Rattle.prelude.proofs.Tests.{and-r}
-use Rattle.depths_value.proofs.Laws.{getD-past}
+use Rattle.prelude.proofs.Lists.{getD-past}
 use Rattle.depths_value.proofs.target_depth.Statement.{statement}
 use Rattle.depths_value.proofs.target_depth.Tie as tie
 

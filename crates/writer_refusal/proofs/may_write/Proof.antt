@@ -6,11 +6,11 @@ use native.Mathlib.Omega.{arith}
 use lib.Dec.{eqb, ltb, leb}
 use borrow.Author.Needs.{needs}
 use borrow.Author.Tests.{ltb-true, ltb-false, leb-false, not-true, lt-ltb, le-ltb, lt-leb}
-use Rattle.prelude.proofs.Tests.{split, and-l, and-r, and-false}
+use Rattle.prelude.proofs.Tests.{split, and-l, and-r, and-false, or-false, and-none}
 use Rattle.writer_refusal.specs.Refusal.{room, isOk, refusalOf}
 use Rattle.writer_refusal.specs.declared.State.{State}
 use Rattle.writer_refusal.specs.declared.CallFlags.{CallFlags}
-use Rattle.writer_refusal.proofs.Refusals.{or-false, and-none, sound, not-bad, Granted, ok-of-isOk, refusal-inv, refusal-ok, word-free}
+use Rattle.writer_refusal.proofs.Refusals.{sound, not-bad, Granted, ok-of-isOk, refusal-inv, refusal-ok, word-free}
 use Rattle.writer_refusal.proofs.may_write.Statement.{statement}
 use Rattle.writer_refusal.proofs.may_write.Tie as tie
 
