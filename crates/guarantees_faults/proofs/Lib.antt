@@ -1,0 +1,6 @@
+-- readers taken apart, for a property of their answer
+mod Readers
+-- `get` answers as the bytes say
+mod Numbers
+-- the walk refuses a token exactly so
+pub mod Refused

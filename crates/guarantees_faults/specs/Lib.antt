@@ -1,0 +1,2 @@
+-- what a token is refused for
+pub mod Faults
