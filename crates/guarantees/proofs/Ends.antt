@@ -1,62 +1,22 @@
 -- Where the walk of check ends: at the region's end, or at a token that is refused.
 --
--- In order: a token that is refused (`next-refused`); what each token keeps holds where the walk ends (`walk-ends`).
+-- What each token that the walk takes keeps holds there (`walk-ends`).
 use mathlib.Core.Path.{_≡_, refl, sym, subst}
 use Prim.Native.Nat.{ℕ, zero, suc, _-_, _≤_, _<_}
-use mathlib.Core.Bool.{Bool, true, false, not, _&&_}
+use mathlib.Core.Bool.{Bool, true, false, _&&_}
 use mathlib.Core.List.{List, []}
 use native.Mathlib.Omega.{arith}
 use borrow.Author.Tests.{eqb-true, eq-eqb, leb-true}
-use lib.Dec.{eqb, ltb, leb}
+use lib.Dec.{eqb, leb}
 use lib.ListN.{length}
-use Rattle.prelude.specs.Answer.{Answer, ok, error, bind}
-use Rattle.prelude.proofs.Tests.{pick-elim, and-l, and-r, facts}
-use Rattle.error.specs.Error.{Fault, TRUNC, FULL}
-use Rattle.utf8.specs.Text.{isText}
-use Rattle.scan.specs.Answers.{scanAt, bodyOn}
+use Rattle.prelude.specs.Answer.{Answer, ok, error}
+use Rattle.prelude.proofs.Tests.{and-l, and-r, facts}
+use Rattle.error.specs.Error.{Fault}
 use Rattle.scan.specs.declared.Head.{Head}
-use Rattle.checker_value.specs.Walk.{hasTarget, tokenFault, Walk, between, nextToken, walkAfter, startsFrom}
+use Rattle.checker_value.specs.Walk.{Walk, between, nextToken, walkAfter, startsFrom}
 use Rattle.checker_value.proofs.Walks.{WalkInvariant, invariant-begun, after-invariant, after-less, walk-end, walk-error, walk-token}
-use Rattle.guarantees.proofs.Faults.{Placed, scanAt-placed}
-
--- ---- a token that is refused
-
--- what is refused has its offset as its place; FULL, for a value that has no word
-pub record Refused (cap : ℕ) (w : Walk) (f : Fault) : Type 0 where
-  pub place : f .place ≡ w .at
-  pub number : (TRUNC ≤ f .number) × (f .number ≤ FULL)
-  pub full : f .number ≡ FULL → (w .pending ≡ 0) × (cap ≤ length (w .done))
-
-module _ (s : List ℕ) (cap : ℕ) (w : Walk) where
-  abbrev Refuses : Answer Fault Head → Type 0
-  Refuses (ok h) = Unit {0}
-  Refuses (error f) = Refused cap w f
-
-  -- an error other than FULL
-  other : (f : Fault) → Placed (w .at) f → Refused cap w f
-  other f p = record { place = p .0; number = omega (arith, p .1); full = λ e. absurd (omega (arith, p .1)) }
-
-  refuses : Refuses (nextToken s cap (w .done) (w .pending) (w .at))
-  unfolding nextToken tokenFault bind
-  refuses =
-      pick-elim Refuses (eqb (w .pending) 0 && leb cap (length (w .done)))
-      (λ t. record {
-        place = refl;
-        number = omega arith;
-        full = λ e. (eqb-true (w .pending) 0 (and-l (eqb (w .pending) 0) _ t), leb-true cap _ (and-r (eqb (w .pending) 0) _ t));
-      })
-      (λ t. by-cases (scanAt (ltb 0 (w .pending)) s (w .at)) refl)
-    where
-      by-cases : (a : Answer Fault Head) → scanAt (ltb 0 (w .pending)) s (w .at) ≡ a → Refuses (bind a (tokenFault s (w .done) (w .at)))
-      by-cases (ok h) e =
-          pick-elim Refuses (eqb (h .kind) 4 && not (isText (bodyOn s h))) (λ t. other _ (omega arith))
-          (λ t. pick-elim Refuses (leb 14 (h .kind) && not (hasTarget (w .done) (w .at) h)) (λ u. other _ (omega arith)) (λ u. tt))
-      by-cases (error f) e = other f (scanAt-placed (w .at) _ s f (sym e))
-
-  pub next-refused : (f : Fault) → error f ≡ nextToken s cap (w .done) (w .pending) (w .at) → Refused cap w f
-  next-refused f e = subst Refuses (sym e) refuses
-
--- ---- what each token keeps
+use Rattle.guarantees_faults.specs.Faults.{RefusedToken}
+use Rattle.guarantees_faults.proofs.Refused.{refused-of-error, Refusal, refusal}
 
 module _ (s : List ℕ) (cap : ℕ) (I : Walk → Type 0) where
   -- at the region's end, between two values
@@ -74,8 +34,8 @@ module _ (s : List ℕ) (cap : ℕ) (I : Walk → Type 0) where
     pub going : WalkInvariant s cap walk
     pub holds : I walk
     pub inside : walk .pending ≡ 0 → walk .at < length s
-    pub reported : error f ≡ nextToken s cap (walk .done) (walk .pending) (walk .at)
-    pub refused : Refused cap walk f
+    pub refused : RefusedToken s cap (walk .done) (walk .pending) (walk .at) f
+    pub refusal : Refusal s cap (walk .done) (walk .pending) (walk .at) f
 
   abbrev pub Ends : Answer Fault (List ℕ) → Type 0
   Ends (ok done) = Ended done
@@ -100,8 +60,8 @@ module _ (s : List ℕ) (cap : ℕ) (I : Walk → Type 0) where
               going = g;
               holds = i;
               inside = λ z. let here : leb (length s) (w .at) ≡ false = rw (eq-eqb (w .pending) 0 z) at t in omega facts;
-              reported = e;
-              refused = next-refused s cap w f e;
+              refused = refused-of-error s cap (w .done) (w .pending) (w .at) f (sym e);
+              refusal = refusal s cap (w .done) (w .pending) (w .at) (refused-of-error s cap (w .done) (w .pending) (w .at) f (sym e));
             })
 
         by-test : (b : Bool) → eqb (w .pending) 0 && leb (length s) (w .at) ≡ b → Next → Ends (startsFrom s cap w)

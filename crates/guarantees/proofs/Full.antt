@@ -52,9 +52,9 @@ overfull : (file : List ℕ) (cap p : ℕ) → Bytes file → (w : Whole file) �
 overfull file cap p b w e =
     let s = w .region in
     let r = subst (Ends s cap (WalkedValues s)) (sym e) (walked-ends s cap (bytes-whole file w b)) in
-    let (between, none) = r .refused .full refl in
+    let (between, none) = r .refusal .full refl in
     let v = walked-between s (r .walk) between (r .holds) in
-    let place : length (region (v .values)) ≡ p = sym (r .refused .place ∙ v .at) in
+    let place : length (region (v .values)) ≡ p = sym (r .refusal .place ∙ v .at) in
     let front : file ≡ region (v .values) ++ (v .rest ++ (w .delta ∷ [])) =
     w .same ∙ rw (← append-assoc) (ap (λ x. x ++ (w .delta ∷ [])) (v .same)) in
     record {
@@ -64,7 +64,7 @@ overfull file cap p b w e =
       count = omega (arith, ap length (v .done), length-starts 0 (v .values), r .going .count, none);
       same = ap (take p) front ∙ take-at (region (v .values)) _ p place;
       place = place;
-      more = omega (arith, r .inside between, r .refused .place, length-whole file w);
+      more = omega (arith, r .inside between, r .refusal .place, length-whole file w);
     }
 
 -- the walk goes through the values, and has no word for the next
@@ -106,7 +106,7 @@ never-full file cap p enough e =
     full-by file cap p e (λ w q.
     let s = w .region in
     let r = subst (Ends s cap (λ v. Unit {0})) (sym q) (walk-ends s cap (λ v. Unit {0}) (λ v h t u. tt) tt) in
-    let (between, none) = r .refused .full refl in
+    let (between, none) = r .refusal .full refl in
     omega (arith, done-le s cap (r .walk) (r .going), none, r .inside between, length-whole file w))
 
 -- ---- fewer words

@@ -4,8 +4,6 @@ pub mod Files
 pub mod WalkTokens
 -- what the walk of check has gone through
 pub mod WalkValues
--- the number and the place of what scan refuses
-pub mod Faults
 -- where the walk of check ends
 pub mod Ends
 -- check accepts every well-formed file

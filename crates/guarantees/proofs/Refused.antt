@@ -24,12 +24,14 @@ use Rattle.values.proofs.Laws.{length-starts}
 use Rattle.checker_value.specs.Walk.{Walk, between, nextToken, startsFrom}
 use Rattle.checker.specs.Check.{checkIn, checkOf}
 use Rattle.checker_value.proofs.Walks.{WalkInvariant, walk-error}
+use Rattle.guarantees_faults.specs.Faults.{RefusedToken}
+use Rattle.guarantees_faults.proofs.Refused.{error-of-refused, refusal}
 use Rattle.guarantees.specs.Refused.{Unnamed, Begun, Open, Faulty}
 use Rattle.guarantees.proofs.Files.{Whole, whole, length-whole, region-whole, bytes-whole, checkIn-whole, entered, entered-none}
 use Rattle.guarantees.proofs.Files.{empty, long, at-once, answer-error, Failed, early, walking, last, failed}
 use Rattle.guarantees.proofs.WalkTokens.{settled}
 use Rattle.guarantees.proofs.WalkValues.{WalkedValues, idle, busy}
-use Rattle.guarantees.proofs.Ends.{Ends, next-refused, walk-ends}
+use Rattle.guarantees.proofs.Ends.{Ends, walk-ends}
 use Rattle.guarantees.proofs.Accepts.{walks-open, walks-prefix, walks-all}
 use Rattle.guarantees.proofs.Accepted.{walked-ends, walked-region}
 
@@ -44,7 +46,7 @@ places e = ap (λ (x : Fault). x .place) e
 walk-number : (s : List ℕ) (cap : ℕ) (f : Fault) → error f ≡ startsFrom s cap (between 0 []) → (TRUNC ≤ f .number) × (f .number ≤ FULL)
 walk-number s cap f e =
     let r = subst (Ends s cap (λ v. Unit {0})) (sym e) (walk-ends s cap (λ v. Unit {0}) (λ v h t u. tt) tt) in
-    r .refused .number
+    r .refusal .number
 
 module _ (file : List ℕ) (cap : ℕ) where
   fails : (f : Fault) → checkOf file cap .answer ≡ error f → Failed file cap f
@@ -120,7 +122,7 @@ module _ (file : List ℕ) (cap : ℕ) (f : Fault) (w : Whole file) where
   -- at the end of some bytes of the region: values, and the tokens of an open value
   faulty-at : (vs : List Value) (ts : List Token) (k : ℕ) (rest front : List ℕ) → front ≡ region vs ++ bytes ts → s ≡ front ++ rest → Values vs
       → length vs ≤ cap → Open cap (length s) vs ts k → (k ≡ 0 → length front < length s)
-      → error f ≡ nextToken s cap (starts 0 vs) k (length front) → Faulty file cap (length front) f
+      → RefusedToken s cap (starts 0 vs) k (length front) f → Faulty file cap (length front) f
   faulty-at vs ts k rest front is same formed room begun more reported =
       let len : length file - 1 ≡ length s = omega (arith, length-whole file w) in
       let all : file ≡ front ++ (rest ++ (w .delta ∷ [])) = w .same ∙ rw (← append-assoc) (ap (λ x. x ++ (w .delta ∷ [])) same) in
@@ -141,7 +143,7 @@ module _ (file : List ℕ) (cap : ℕ) (f : Fault) (w : Whole file) where
       }
 
   faulty-walk : (v : Walk) → WalkedValues s v → WalkInvariant s cap v → (v .pending ≡ 0 → v .at < length s)
-      → error f ≡ nextToken s cap (v .done) (v .pending) (v .at) → Faulty file cap (v .at) f
+      → RefusedToken s cap (v .done) (v .pending) (v .at) f → Faulty file cap (v .at) f
   unfolding bytes
   faulty-walk v (idle {vs} rest values same) g more reported =
       faulty-at vs [] 0 rest (region vs) (sym (append-nil (region vs))) same values (omega (arith, g .count, length-starts 0 vs)) refl more reported
@@ -163,7 +165,7 @@ module _ (file : List ℕ) (cap : ℕ) (f : Fault) (w : Whole file) where
   faulty : Bytes file → error f ≡ startsFrom s cap (between 0 []) → Faulty file cap (f .place) f
   faulty b e =
       let r = subst (Ends s cap (WalkedValues s)) (sym e) (walked-ends s cap (bytes-whole file w b)) in
-      subst (λ p. Faulty file cap p f) (sym (r .refused .place)) (faulty-walk (r .walk) (r .holds) (r .going) (r .inside) (r .reported))
+      subst (λ p. Faulty file cap p f) (sym (r .refusal .place)) (faulty-walk (r .walk) (r .holds) (r .going) (r .inside) (r .refused))
 
 pub first-fault : (file : List ℕ) (cap : ℕ) (f : Fault) → Bytes file → checkOf file cap .answer ≡ error f
     → (f .number ≡ EMPTY → ⊥) → (f .number ≡ TOO_LONG → ⊥) → (f .number ≡ BAD_ENTRY → ⊥) → Faulty file cap (f .place) f
@@ -210,7 +212,7 @@ faulty-fails file cap p f x w =
     sym (take-append-drop p s) ∙ ap (λ y. y ++ drop p s) front ∙ append-assoc (region vs) (bytes ts) (drop p s) in
     let at : p ≡ length (region vs) + length (bytes ts) = sym (x .place) ∙ length-append (region vs) (bytes ts) in
     let walked = walks-prefix s cap [] 0 vs (bytes ts ++ drop p s) same (x .formed .formed) (x .formed .targets) (omega (arith, x .room)) in
-    let reported : error f ≡ nextToken s cap (starts 0 vs) (x .missing) p = rw (region-whole file w) at (x .refused) in
+    let reported : error f ≡ nextToken s cap (starts 0 vs) (x .missing) p = rw (region-whole file w) at (sym (error-of-refused _ _ _ _ _ (x .refused))) in
     open-fails s cap f vs (drop p s) ts (x .missing) (rw len at (x .begun)) same (rw (len, at) at (x .more)) (rw at at reported)
     ∙ ap (λ q. startsFrom s cap (between q (starts 0 vs))) (sym (zero-add (length (region vs)))) ∙ sym walked
 
@@ -221,7 +223,7 @@ fault-first file cap p f x =
 
 pub fault-answer : (file : List ℕ) (cap p : ℕ) (f : Fault) → Faulty file cap p f → (f .place ≡ p) × (TRUNC ≤ f .number) × (f .number ≤ FULL)
 fault-answer file cap p f x =
-    let r = next-refused _ cap (record { at = p; start = p; pending = x .missing; done = starts 0 (x .values) }) f (x .refused) in
+    let r = refusal _ _ _ _ _ (x .refused) in
     (r .place, r .number .0, r .number .1)
 
 pub fault-exactly : (file : List ℕ) (cap : ℕ) (f : Fault) → Bytes file → TRUNC ≤ f .number → f .number ≤ FULL

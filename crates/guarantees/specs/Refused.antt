@@ -13,13 +13,12 @@ use mathlib.Core.Path.{_≡_}
 use mathlib.Core.Bool.{false}
 use mathlib.Core.List.{List, [], _∷_, _++_}
 use lib.ListN.{length, take}
-use Rattle.prelude.specs.Answer.{error}
 use Rattle.prelude.specs.Search.{among}
 use Rattle.error.specs.Error.{Fault, LIMIT}
 use Rattle.kind.specs.Kind.{rule, counted, pending}
 use Rattle.token.specs.Token.{Token, emit}
 use Rattle.values.specs.Values.{Value, bytes, region, starts, Each, Sound, Item, HasTargets, Values}
-use Rattle.checker_value.specs.Walk.{nextToken}
+use Rattle.guarantees_faults.specs.Faults.{RefusedToken}
 
 pub record Unnamed (file : List ℕ) (cap p : ℕ) : Type 0 where
   pub short : length file ≤ LIMIT
@@ -59,4 +58,4 @@ pub record Faulty (file : List ℕ) (cap p : ℕ) (f : Fault) : Type 0 where
   -- in the region; at its end only an item may be wanted
   pub inside : p ≤ length file - 1
   pub more : missing ≡ 0 → p < length file - 1
-  pub refused : error f ≡ nextToken (take (length file - 1) file) cap (starts 0 values) missing p
+  pub refused : RefusedToken (take (length file - 1) file) cap (starts 0 values) missing p f
