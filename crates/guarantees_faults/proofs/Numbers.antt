@@ -104,7 +104,7 @@ get-number (faults.number p b rest g small h one pos) =
 
 get-bad : {s : List ℕ} {e : ℕ} → BadNumber s e → get 9 0 s ≡ bad e
 get-bad (faults.cut {s} g h) = get-stuck 9 0 (cut s g (omega arith))
-get-bad (faults.tenth p b rest g h over) = get-stuck 9 0 (tenth p b rest g h over)
+get-bad (faults.tenth p b rest g h over) = get-stuck 9 0 (tenth p b rest g h (omega arith))
 get-bad (faults.padded p rest g h last) = get-stuck 9 0 (padded p rest g h (omega arith))
 
 number-of-found : {s : List ℕ} {n : ℕ} {rest : List ℕ} → Found 9 0 s n rest → Number s n rest
@@ -112,7 +112,7 @@ number-of-found (found p b rest g small h one pos) = faults.number p b rest g sm
 
 bad-of-stuck : {s : List ℕ} {e : ℕ} → Stuck 9 0 s e → BadNumber s e
 bad-of-stuck (cut s g h) = faults.cut {s = s} g (omega arith)
-bad-of-stuck (tenth p b rest g h over) = faults.tenth p b rest g h over
+bad-of-stuck (tenth p b rest g h over) = faults.tenth p b rest g h (omega arith)
 bad-of-stuck (padded p rest g h last) = faults.padded p rest g h (omega arith)
 
 module _ (at : ℕ) where

@@ -72,7 +72,7 @@ module _ (s : List ℕ) (cap : ℕ) (done : List ℕ) (pending q : ℕ) where
 
     numbered-on : {n : ℕ} {m : List ℕ} → Numbered s cap done pending q h n m → fromCount h n m ≡ x → scanned ≡ x
     numbered-on r e =
-        usable-on (r .usable) (bind-on _ _ _ (number-is q (r .number)) (need-on _ _ _ (le-leb _ _ (rw (r .sum) at (r .most))) (rw (r .sum) at e)))
+        usable-on (r .usable) (bind-on _ _ _ (number-is q (r .number)) (need-on _ _ _ (le-leb (h % 16 + r .more) (rule (h / 16) .most) (omega (arith, r .sum, r .most))) (rw (r .sum) at e)))
 
     counted-on : {n a : ℕ} {m : List ℕ} → Counted s cap done pending q h n a m → body q (h / 16) (rule (h / 16)) n a m ≡ x → scanned ≡ x
     counted-on c e = numbered-on (c .numbered) (bind-on _ _ _ (number-is q (c .count)) e)
@@ -113,7 +113,7 @@ module _ (s : List ℕ) (cap : ℕ) (done : List ℕ) (pending q : ℕ) where
   module _ (w : HasWord s cap done pending q) where
     next-scanned : nextToken s cap done pending q ≡ bind (headOf (length s) scanned) (tokenFault s done q)
     unfolding nextToken scanAt
-    next-scanned = rw (excluded (eqb pending 0) (leb cap (length done)) (λ z. lt-leb _ _ (w (eqb-true _ _ z))))
+    next-scanned = rw (excluded (eqb pending 0) (leb cap (length done)) (λ z. lt-leb cap (length done) (omega (arith, w (eqb-true _ _ z)))))
 
     next-bad : {f : Fault} → scanned ≡ bad f → nextToken s cap done pending q ≡ error f
     unfolding headOf bind
@@ -127,7 +127,7 @@ module _ (s : List ℕ) (cap : ℕ) (done : List ℕ) (pending q : ℕ) where
   unfolding headOf bind body guard
   next-whole {h} {n} w =
       let z = size (rule (h / 16)) n in
-      let read : scanned ≡ got (token (h / 16) n (w .args) (take z (w .after))) (drop z (w .after)) = counted-on (w .numbers) (rw (le-leb _ _ (w .room))) in
+      let read : scanned ≡ got (token (h / 16) n (w .args) (take z (w .after))) (drop z (w .after)) = counted-on (w .numbers) (rw (le-leb (z + counted (rule (h / 16)) n (w .args)) (length (w .after)) (omega (arith, w .room)))) in
       next-scanned (word (w .numbers .numbered)) ∙ rw read
 
   whole-body : {h n : ℕ} {b : List ℕ} (w : Whole s cap done pending q h n b) → bodyOn s (headOn h n (w .args) (w .after)) ≡ b
@@ -139,8 +139,8 @@ module _ (s : List ℕ) (cap : ℕ) (done : List ℕ) (pending q : ℕ) where
   error-of-refused (faults.full z c) = rw (eq-eqb _ _ z, le-leb _ _ c)
   error-of-refused (faults.ended w l) = next-bad w (rw (drop-of-length-le s l))
   error-of-refused (faults.reserved x low) = next-bad (x .word) (rw (x .same) (need-fails _ _ _ (le-ltb _ _ low)))
-  error-of-refused (faults.nested x low item deep) =
-      next-bad (x .word) (rw (x .same) (need-on _ _ _ (lt-ltb _ _ low) (need-fails _ _ _ (rw (lt-ltb _ _ item, deep)))))
+  error-of-refused (faults.nested {h} x low item deep) =
+      next-bad (x .word) (rw (x .same) (need-on _ _ _ (lt-ltb (h % 16) (rule (h / 16) .lows) (omega arith)) (need-fails _ _ _ (rw (lt-ltb _ _ item, deep)))))
   error-of-refused (faults.number u low x) = next-bad (u .header .word) (usable-on u (bind-fails _ _ _ (number-fails q (le-leb _ _ low) x)))
   error-of-refused (faults.over u v high) =
       next-bad (u .header .word) (usable-on u (bind-on _ _ _ (number-is q v) (need-fails _ _ _ (lt-leb _ _ high))))
@@ -149,7 +149,7 @@ module _ (s : List ℕ) (cap : ℕ) (done : List ℕ) (pending q : ℕ) where
   error-of-refused (faults.text w four wrong) = next-whole w ∙ rw (eq-eqb _ _ four, whole-body w, false-of _ (λ t. wrong (isText-text _ t)))
   error-of-refused (faults.target {h} {n} w text ref wrong) =
       let fine = unless (eqb (h / 16) 4) (isText (bodyOn s (headOn h n (w .args) (w .after)))) (λ e. rw (whole-body w) (text-isText (text (eqb-true _ _ e)))) in
-      next-whole w ∙ rw (fine, le-leb _ _ ref, excluded (ltb n q) (among (q - n - 1) done) (λ l. wrong (ltb-true _ _ l)))
+      next-whole w ∙ rw (fine, le-leb _ _ ref, excluded (ltb n q) (among (q - n - 1) done) (λ l. wrong (omega facts)))
 
   -- ---- what scan and the walk answer is a row
 
@@ -206,7 +206,7 @@ module _ (s : List ℕ) (cap : ℕ) (done : List ℕ) (pending q : ℕ) where
       (λ t. false≢true (sym (not-true _ (and-r (eqb (h / 16) 4) _ e)) ∙ is ∙ text-isText t)))
       (λ fine. pick-elim Takes (leb 14 (h / 16) && not (ltb n q && among (q - n - 1) done))
       (λ e. faults.target w (λ four. isText-text b (sym is ∙ unless-by (eqb (h / 16) 4) _ fine (eq-eqb _ _ four))) (leb-true _ _ (and-l (leb 14 (h / 16)) _ e))
-      (λ l. excluded-by (ltb n q) _ (not-true _ (and-r (leb 14 (h / 16)) _ e)) (lt-ltb _ _ l)))
+      (λ l. excluded-by (ltb n q) _ (not-true _ (and-r (leb 14 (h / 16)) _ e)) (lt-ltb n q (omega arith))))
       (λ e. tt))
 
   next-takes : Takes (nextToken s cap done pending q)
