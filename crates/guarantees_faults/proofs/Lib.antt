@@ -4,3 +4,5 @@ mod Readers
 mod Numbers
 -- the walk refuses a token exactly so
 pub mod Refused
+-- the rows on examples
+mod Samples
