@@ -72,7 +72,8 @@ module _ (s : List ℕ) (cap : ℕ) (done : List ℕ) (pending q : ℕ) where
 
     numbered-on : {n : ℕ} {m : List ℕ} → Numbered s cap done pending q h n m → fromCount h n m ≡ x → scanned ≡ x
     numbered-on r e =
-        usable-on (r .usable) (bind-on _ _ _ (number-is q (r .number)) (need-on _ _ _ (le-leb (h % 16 + r .more) (rule (h / 16) .most) (omega (arith, r .sum, r .most))) (rw (r .sum) at e)))
+        let bound : h % 16 + r .more ≤ rule (h / 16) .most = omega (arith, r .sum, r .most) in
+        usable-on (r .usable) (bind-on _ _ _ (number-is q (r .number)) (need-on _ _ _ (le-leb _ _ bound) (rw (r .sum) at e)))
 
     counted-on : {n a : ℕ} {m : List ℕ} → Counted s cap done pending q h n a m → body q (h / 16) (rule (h / 16)) n a m ≡ x → scanned ≡ x
     counted-on c e = numbered-on (c .numbered) (bind-on _ _ _ (number-is q (c .count)) e)
@@ -127,7 +128,8 @@ module _ (s : List ℕ) (cap : ℕ) (done : List ℕ) (pending q : ℕ) where
   unfolding headOf bind body guard
   next-whole {h} {n} w =
       let z = size (rule (h / 16)) n in
-      let read : scanned ≡ got (token (h / 16) n (w .args) (take z (w .after))) (drop z (w .after)) = counted-on (w .numbers) (rw (le-leb (z + counted (rule (h / 16)) n (w .args)) (length (w .after)) (omega (arith, w .room)))) in
+      let room : z + counted (rule (h / 16)) n (w .args) ≤ length (w .after) = omega (arith, w .room) in
+      let read : scanned ≡ got (token (h / 16) n (w .args) (take z (w .after))) (drop z (w .after)) = counted-on (w .numbers) (rw (le-leb _ _ room)) in
       next-scanned (word (w .numbers .numbered)) ∙ rw read
 
   whole-body : {h n : ℕ} {b : List ℕ} (w : Whole s cap done pending q h n b) → bodyOn s (headOn h n (w .args) (w .after)) ≡ b

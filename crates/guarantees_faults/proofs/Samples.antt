@@ -2,7 +2,7 @@
 use mathlib.Core.Path.{_≡_, refl, sym, subst}
 use mathlib.Core.Bool.{false}
 use mathlib.Core.List.{List, [], _∷_}
-use Prim.Native.Nat.{ℕ, _/_, _%_, _≤_}
+use Prim.Native.Nat.{ℕ, _-_, _/_, _%_, _^_, _≤_}
 use native.Mathlib.Omega.{arith}
 use borrow.Author.Needs.{needs}
 use lib.Dec.{leb, lit≤, lit<}
@@ -13,7 +13,7 @@ use Rattle.leb128.specs.Leb.{value}
 use Rattle.kind.specs.Kind.{rule}
 use Rattle.values.specs.Values.{Each}
 use Rattle.guarantees_faults.specs.Faults as faults
-use Rattle.guarantees_faults.specs.Faults.{GoesOn, NumberIf, Header, Usable, Counted, Whole, RefusedToken}
+use Rattle.guarantees_faults.specs.Faults.{GoesOn, Number, NumberIf, Header, Usable, Counted, Whole, RefusedToken}
 
 -- a value at the front of s, with a word; an item at 1, in the value that starts at 0
 abbrev Value : List ℕ → ℕ → Type 0
@@ -63,8 +63,9 @@ unfolding rule value
 index-first =
     let m : List ℕ = 0xf1 ∷ 0xff ∷ 0xff ∷ 0xff ∷ 0x0f ∷ [] in
     let u : Usable (0xcf ∷ m) 1 [] 0 0 0xcf m = record { header = first 0xcf m; used = lit< tt; flat = λ l. absurd (omega arith) } in
-    faults.over u (faults.some (faults.number (0xf1 ∷ 0xff ∷ 0xff ∷ 0xff ∷ []) 0x0f [] (search needs) (lit< tt) (lit≤ tt) (λ e. absurd (omega arith)) (λ l. lit≤ tt)))
-    (lit< tt)
+    let five : Number m (2 ^ 32 - 15) [] =
+    faults.number (0xf1 ∷ 0xff ∷ 0xff ∷ 0xff ∷ []) 0x0f [] (search needs) (lit< tt) (lit≤ tt) (λ e. absurd (omega arith)) (λ l. lit≤ tt) in
+    faults.over u (faults.some five) (lit< tt)
 
 -- a header whose n is its low nibble, of a kind without a second number
 plain : (s : List ℕ) (cap : ℕ) (done : List ℕ) (pending q h : ℕ) (m : List ℕ) → Usable s cap done pending q h m → leb 15 (h % 16) ≡ false
@@ -86,7 +87,8 @@ plain s cap done pending q h m u small most one = record {
 count-first : Value (0x63 ∷ 0x90 ∷ 0x90 ∷ []) TRUNC
 unfolding rule
 count-first =
-    let u : Usable (0x63 ∷ 0x90 ∷ 0x90 ∷ []) 1 [] 0 0 0x63 (0x90 ∷ 0x90 ∷ []) = record { header = first _ _; used = lit< tt; flat = λ l. absurd (omega arith) } in
+    let two : List ℕ = 0x90 ∷ 0x90 ∷ [] in
+    let u : Usable (0x63 ∷ two) 1 [] 0 0 0x63 two = record { header = first 0x63 two; used = lit< tt; flat = λ l. absurd (omega arith) } in
     faults.short (plain _ _ _ _ _ _ _ u refl (lit≤ tt) refl) (lit< tt)
 
 -- "lets `61 f0` point at its own array"
