@@ -1,7 +1,7 @@
 -- What the answers of this crate's functions mean.
 --
---   answerOf a        a `WriteAnswer` as document 01 tells it: an error has a number and no place
---   wrote r out table what a call answered, and the output and table that it left
+--   answerOf a         a `WriteAnswer`: ok, or the error's number; an error of the writer has no place
+--   wrote r out table  the result of a call that returned r, and left this output and table
 use Prim.Native.Nat.{ℕ}
 use mathlib.Core.List.{List}
 use Rattle.prelude.specs.Answer.{ok, error}

@@ -1,6 +1,7 @@
--- The arguments that calls are given (document 01, "Writer": "integers are signed 64-bit, tags and counts unsigned 64-bit, variant indexes
--- unsigned 32-bit"). Float bits have their own width, a text or byte string is bytes and counted in 64 bits, and an offset may be any. The parameters
--- of the calls in src/lib.rt are of these types, so that every call of a program has such arguments.
+-- The arguments that calls are given (document 01, "Writer": "integers are signed 64-bit, tags and counts unsigned 64-bit,
+-- variant indexes unsigned 32-bit"). The bits of a float are a number of 32 or 64 bits, a text or byte string consists of
+-- bytes and its length fits in 64 bits, and an offset may be any number. The parameters of the calls in src/lib.rt are of
+-- these types, so that every call of a program has such arguments.
 --
 --   Given c    the arguments of the call c have these widths
 use Prim.Native.Nat.{_<_, _^_}
@@ -11,7 +12,7 @@ use Rattle.writer.specs.Step.{Call, scalar, integer, float32, float64, t
 
 abbrev pub Given : Call → Type 0
 Given (scalar s) = Unit {0}
--- from -2^63 to 2^63 - 1: `mag z` is z, and -z - 1 of a negative z
+-- from -2^63 to 2^63 - 1: `mag z` is z, or -z - 1 if z is negative
 Given (integer z) = mag z < 2 ^ 63
 Given (float32 b) = b < 2 ^ 32
 Given (float64 b) = b < 2 ^ 64

@@ -1,20 +1,24 @@
--- What the steps inside a call ask for and leave. No public contract cites this file.
+-- What the steps inside a call need and leave. No public contract cites this file.
 --
 --   ListedTest g x s table
---                         g tells whether x is listed, of a state that fits
+--                         g is whether x is listed; nothing is said if s has written more than LIMIT bytes, or lists more
+--                         starts than the table has words
+--   IfElse b A B          A if b is true, else B
 --   ArgumentTest g k b x s table
---                         g tells whether the target x is listed, of a kind that names one; whether the body b is text, of a text; and is true of others
---   tokenFlagsBy row k g
---                         what a token of kind k, whose rule is `row`, asks of the state, where g tells so of its text or target
+--                         for a kind k that names a target, g is whether the target x is listed; for a text, whether the
+--                         body b is text; for all others it is true
+--   tokenFlagsBy row k g  the flags of a token of kind k with the rule `row`; g is false if its text or target is wrong
 --   FitOf t x s out table r
---                         r is what the token t with the target x asks for
---   Advanced r s table s′ words
---                         a token that asks for r leaves the state s′ and the table `words`
---   Refused q s n m r     r refuses the request q, for want of room where there is no other reason
+--                         the `Fit` r is right for the token t with the target x
+--   Advanced r s table next words
+--                         a token with the `Fit` r, once written, leaves the state `next` and the table `words`
+--   Refused q s n m r     r refuses a call with the flags q, for NO_ROOM if there is no other reason, and keeps the state
 --   WroteDelta d s out r o
---                         the delta byte d leaves the state r and the output o, whatever the table
---   closeNear, closeFar ..
---                         a close by the delta byte, and by a pointer and its delta byte
+--                         writing the delta byte d leaves the state r and the output o, and any table as it was
+--   closeNear e d s out table
+--                         a close at e by the delta byte d alone, written or refused
+--   closeFar e back s out table
+--                         a close at e by a pointer of that distance and its delta byte, written or refused
 use mathlib.Core.Path.{_≡_}
 use mathlib.Core.Bool.{Bool, true, false, not, _&&_}
 use mathlib.Core.List.{List, []}
@@ -52,7 +56,7 @@ tokenFlagsBy row k g = record { alone = not (immediate row); text = eqb k 4 && n
 pub record FitOf (t : Token) (x : ℕ) (s : State) (out table : List ℕ) (r : Fit) : Type 0 where
   pub kind : t .kind < 16
   pub fits : r .fits ≡ isOk (tokenRefusal (opens t) t x s out table)
-  -- one that does not fit is refused as its request is, without room
+  -- a token that does not fit is refused for the first reason of its flags, NO_ROOM if there is no other
   pub reason : r .fits ≡ false
       → refusalOf (tokenFlagsBy (rule (t .kind)) (t .kind) (r .good)) true s (length out) (length table) ≡ tokenRefusal (opens t) t x s out table
   pub second : r .second ≡ rule (t .kind) .args

@@ -2,7 +2,7 @@
 pub mod Step
 -- the widths of their arguments
 pub mod Given
--- what the code's answers mean
+-- what the answers of the code mean
 pub mod Answers
 -- the steps inside a call
 pub mod Internal

@@ -1,24 +1,42 @@
--- What each call of the writer does (document 01, "Writer"): one definition over all calls, for any state, output and table.
+-- What each call of the writer does (document 01, "Writer"): one definition for all calls, for any state, output and table.
 --
---   Call               the calls with their arguments; targets and closes name the offset of a value
---   fresh              the state of a new writer: no bytes, starts or items pending, not closed
---   moveOf c w         what a call comes to with w bytes written: a token and the target that it names (0 where it names none), or the close
---   opens t            t's kind may have items, so that it is no immediate
---   pendingOf t        how many items the token t brings
---   bytesNeeded t s    the bytes of t, with one for each item then pending
+--   Call               the calls with their arguments; a reference, a pointer and a close name a value by its offset
+--   scalarOf v         the number of a scalar
+--   integerOf z        the token of an integer: kind 1 and z, or kind 2 and -z - 1 if z is negative
+--   Move               what a call asks for: a token and the offset that it names, or a close at an offset
+--   moveOf c w         what the call c asks for, with w bytes written; the offset is 0 if the token names none. `-` stops
+--                      at 0: a target that is not below w has the distance 0, and is not listed (BAD_TARGET)
+--   fresh              the state of a new writer: no bytes, no starts, no items pending, not closed
+--   opens t            t's kind may have items (or is reserved), so that t is not an immediate
+--   pendingOf t        how many items the token t has
+--   bytesNeeded t s    the bytes of t, and one for each item that is then pending
 --   tokenFlags alone t target s table
---                      what the token t asks of the state; `alone` of an opening, or of a close by a pointer
+--                      the flags of a call that writes the token t; `alone` is true for an opening, and for a close by
+--                      a pointer
 --   deltaFlags e s table
---                      what a close at e asks that needs no pointer
---   tokenRefusal, deltaRefusal ..
---                      the first reason to refuse them, by `refusalOf` of judge/specs/Refusal.antt
---   write, writeDelta ..
---                      answer, state, output and table after a token, and after the delta byte; `writePointerDelta` after both. Where no items are
---                      pending, the state's `start` means nothing
---   putToken, closeAt ..
---                      a token, and a close, refused or written. `-` stops at 0: a target or close that is not below the bytes written is
---                      reckoned with a distance of 0, and is BAD_TARGET
---   step c s out table what a call answers and leaves; a refused one leaves all as it was
+--                      the flags of a close at e by the delta byte alone
+--   tokenRefusal alone t target s out table, deltaRefusal e s out table
+--                      the first reason to refuse such a call, by `refusalOf` of writer_refusal/specs/Refusal.antt;
+--                      ok if there is none
+--   Result, result v s out table
+--                      what a call leaves: its answer, the state, the output and the table
+--   startOf s          the start of the value that the next token belongs to: after all bytes written if no items are pending
+--   write t s out table
+--                      the result of writing the token t. If it leaves no items pending, the value's start is listed,
+--                      and the state's `start` means nothing
+--   writeDelta d s out table
+--                      the result of writing the delta byte d, which closes
+--   writePointerDelta t s out table
+--                      the result of writing the pointer t and then the delta byte that names it
+--   settled v s out table r
+--                      r if v is ok; if v is an error, that error, with state, output and table as they were
+--   putToken t target s out table
+--                      the token t, written or refused
+--   closeAt e s out table
+--                      a close at e, by the delta byte alone if that reaches back to e, else by a pointer and its delta
+--                      byte; written or refused. An e that is not below the bytes written has the distance 0, and is not listed
+--   move m s out table what is asked for, written or refused
+--   step c s out table what the call c answers and leaves; if it is refused, it changes nothing
 use Prim.Native.Nat.{ℕ, _+_, _-_}
 use mathlib.Core.Bool.{Bool, true, false, not, _&&_}
 use mathlib.Core.List.{List, [], _∷_}
@@ -66,7 +84,7 @@ abbrev pub integerOf : ℤ → Token
 integerOf (pos n) = token 1 n 0 []
 integerOf (negsuc n) = token 2 n 0 []
 
--- what a call comes to: a token, with the offset that a reference or pointer names, or the close
+-- what a call asks for: a token, with the offset that a reference or pointer names, or a close at an offset
 pub data Move : Type 0 where
   puts : Token → ℕ → Move
   closes : ℕ → Move
@@ -131,11 +149,11 @@ pub record Result : Type 0 where
 abbrev pub result : Verdict → State → List ℕ → List ℕ → Result
 result v s out table = record { answer = v; writer = s; out = out; table = table }
 
--- where the value starts that the next token belongs to
+-- the start of the value that the next token belongs to
 abbrev pub startOf : State → ℕ
 startOf s = pick (eqb (s .pending) 0) (s .written) (s .start)
 
--- the start is listed where no item is left pending: the value is finished
+-- if no item is left pending, the value is finished and its start is listed
 unfoldable pub write : Token → State → List ℕ → List ℕ → Result
 write t s out table =
     let left = due (s .pending) (pendingOf t) in
@@ -156,7 +174,7 @@ writeDelta d s out table =
     result (ok tt) (record { written = s .written + 1; count = s .count; pending = s .pending; start = s .start; closed = true })
     (sets out (s .written) (d ∷ [])) table
 
--- a pointer, and the delta byte that names it
+-- the pointer t, and the delta byte that names it
 unfoldable pub writePointerDelta : Token → State → List ℕ → List ℕ → Result
 writePointerDelta t s out table = let r = write t s out table in writeDelta (length (emit t) - 1) (r .writer) (r .out) (r .table)
 

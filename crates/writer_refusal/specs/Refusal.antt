@@ -1,13 +1,15 @@
--- Why a call is refused (document 01, "Writer"): by the writer's state s, the output's n bytes and the table's m words, and what the call asks for.
+-- Why a call is refused (document 01, "Writer"): by the writer's state s, the output's n bytes, the table's m words, and the call's flags.
 --
---   limit n            the bytes that may be written into an output of n bytes
---   room s n           the bytes left there for tokens: one for the delta is held back
---   badState s n m     BAD_STATE
---   isListed s table x x is below the bytes written, and one of the table's first `count` words
+--   limit n            n, or LIMIT if n is more; of an output of n bytes, as many may be written
+--   room s n           the bytes of the output that are left for tokens: one is held back for the delta
+--   badState s n m     s is BAD_STATE: it has more bytes written than n or than LIMIT, or lists more than m starts; or it has an
+--                      open value without a free word, or one that does not start below the bytes written
+--   isListed s table x whether x is below the bytes written, and one of the table's first `count` words
 --   Verdict            a call is accepted, or refused with an error's number
---   isOk v             it is accepted
+--   isOk v             whether it is accepted
 --   refusalOf q short s n m
---                      the first reason to refuse the request q, in document 01's order; `short` is true of a call that has no room
+--                      the first reason to refuse a call with the flags q, in document 01's order; ok if there is none.
+--                      `short`: the output has no room for the call
 use Prim.Native.Nat.{ℕ, _-_, min}
 use mathlib.Core.Bool.{Bool, true, false, _&&_, _||_}
 use mathlib.Core.List.{List}
