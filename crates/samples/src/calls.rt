@@ -51,14 +51,14 @@ fn scalar_of(letter: u8) -> Scalar {
     }
 }
 
-// A text of the bytes that s has in hex.
+// A text of the bytes that s spells in hex.
 fn call_text(w: Writer, s: &[u8], out: &mut [u8], starts: &mut [u32]) -> WriteResult {
     let mut space = [0u8; 1024];
     let n = parse_hex(s, &mut space);
     w.text(&space[..n], out, starts)
 }
 
-// The bytes that s has in hex.
+// The bytes that s spells in hex.
 fn call_bytes(w: Writer, s: &[u8], out: &mut [u8], starts: &mut [u32]) -> WriteResult {
     let mut space = [0u8; 1024];
     let n = parse_hex(s, &mut space);
@@ -71,7 +71,7 @@ fn call_zeros(w: Writer, n: usize, out: &mut [u8], starts: &mut [u32]) -> WriteR
     w.bytes(first_bytes(&space, n), out, starts)
 }
 
-// The call of a letter and its arguments s; returns the next state.
+// Makes the call of a letter and its arguments s; returns the next state.
 fn call_letter(w: Writer, letter: u8, s: &[u8], out: &mut [u8], starts: &mut [u32]) -> Writer {
     match letter {
         b'f' | b't' | b'n' => call_done(w.scalar(scalar_of(letter), out, starts)),
@@ -126,7 +126,7 @@ fn call_open_or_close(
     }
 }
 
-// The call that a word is; returns the next state.
+// Makes the call that a word spells; returns the next state.
 fn call_word(w: Writer, s: &[u8], out: &mut [u8], starts: &mut [u32]) -> Writer {
     if s.len() == 0 {
         return w;
@@ -152,7 +152,7 @@ fn call_lent(w: Writer, s: &[u8], out: &mut [u8], starts: &mut [u32]) -> Writer 
 
 // ---- all calls of a line
 
-// The calls that the words of s are; returns the last state.
+// Makes the calls that the words of s spell; returns the last state.
 fn call_each(s: &[u8], out: &mut [u8], starts: &mut [u32]) -> Writer {
     let mut w = Writer::new();
     let mut at: usize = 0;

@@ -7,9 +7,9 @@
 //   follow AT FILE        the offset that pointers lead to, and the pointers met
 //   lookup AT KEY FILE    the offset of the value of a key
 //   body AT FILE          the first offset and the length of a body, and its bytes
-//   check WORDS FILE      `ok`, the count of values and the entry, or the error; then what a table of WORDS words has: the starts
+//   check WORDS FILE      `ok`, the count of values and the entry, or the error; then the words of a table of WORDS words: the starts
 //   depths WORDS WORDS FILE
-//                         the same, then what a second table has: the depths
+//                         the same, then the words of a second table: the depths
 //   write ROOM WORDS CALL CALL ..
 //                         the answers of a new writer's calls, given ROOM bytes and WORDS words: `ok` or the error; then what it has
 //                         written and the starts listed, `!` if the calls changed any other byte or word, and for a closed file the
@@ -19,7 +19,7 @@
 //
 // FILE, KEY and the bytes of a body are in hex, FILE and KEY `-` for no bytes; AT and INDEX are decimal, a larger one counts as 2^64-1.
 // WORDS are decimal, a larger one counts as 32; ROOM and the N of z count as 1024 at most.
-// An error is its name and its place, for a CALL its name. The answer to any other query or CALL is `?`. A line that begins with # is printed
+// An error is printed as its name and place, for a CALL as its name. The answer to any other query or CALL is `?`. A line that begins with # is printed
 // as it is.
 mod calls;
 mod parts;
@@ -127,7 +127,7 @@ fn answer_tokens(region: &[u8]) {
     print_text(b" end");
 }
 
-// A lookup of the key that s has in hex.
+// A lookup of the key that s spells in hex.
 fn answer_lookup(file: &[u8], at: usize, s: &[u8]) {
     let mut space = [0u8; 16384];
     let n = parse_hex(s, &mut space);

@@ -1,4 +1,4 @@
-// The words of a line, and the numbers and bytes that they are.
+// The words of a line, and the numbers and bytes that they spell.
 ghost use Prim.Native.Nat.{_≤_, _<_, _^_};
 ghost use lib.ListN.{length};
 ghost use Rattle.io.specs.Counts.{Counts};
@@ -75,7 +75,7 @@ fn parse_digit(b: u8) -> u8
     0
 }
 
-// Writes the bytes that s has in hex into out, as many as fit; returns how many.
+// Writes the bytes that s spells in hex into out, as many as fit; returns how many.
 pub(crate) fn parse_hex(s: &[u8], out: &mut [u8]) -> usize
     ensures { λ r. ⌜ Counts r (now (out .exit)) ⌝ }
 {
@@ -105,7 +105,7 @@ fn add_digit(n: usize, d: u8) -> usize {
     n * 10 + d
 }
 
-// The number that the first word of s is.
+// The number that the first word of s spells.
 pub(crate) fn parse_number(s: &[u8]) -> usize {
     let end = find_byte(s, 0, b' ');
     let mut i: usize = 0;

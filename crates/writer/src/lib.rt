@@ -14,7 +14,7 @@ ghost use Rattle.writer.specs.Step.{Call, scalarOf, integerOf, startOf, 
 ghost use Rattle.writer.specs.Answers.{wrote};
 ghost use Rattle.writer.specs.Internal.{ListedTest, ArgumentTest, tokenFlagsBy, FitOf, Advanced, Refused, WroteDelta, closeNear, closeFar};
 
-// A writer of a file. It goes in with each call and comes back as the next; output and table are lent each time.
+// A writer of a file. Each call takes it and returns the next one; output and table are lent to each call.
 pub struct Writer {
     pub state: State,
 }
@@ -30,27 +30,27 @@ pub enum WriteAnswer {
     Err(ErrorKind),
 }
 
-// The next state, which is the same where the call was refused.
+// The next writer, which is the same if the call was refused, and the answer.
 pub struct WriteResult {
     pub writer: Writer,
     pub answer: WriteAnswer,
 }
 
-// What a token asks for.
+// What `fit` finds about a token before it is written or refused.
 struct Fit {
-    // Whether its text, or its target, is as it should be.
+    // Whether its text or its target is right; true if it has neither.
     good: bool,
-    // Whether it is written.
+    // Whether it is accepted.
     fits: bool,
     // Whether its kind has a second number.
     second: bool,
     // Its bytes.
     size: usize,
-    // The items then pending; its own, where it has more than LIMIT, are LIMIT.
+    // The items pending after it; its own count as LIMIT if they are more.
     left: u64,
 }
 
-// x where the test passes, and else y.
+// x if the test passes, else y.
 fn pick(test: bool, x: usize, y: usize) -> usize
     ensures { λ r. ⌜ r ≡ pick test x y ⌝ }
 {
@@ -73,7 +73,7 @@ fn number(value: Scalar) -> u64
     }
 }
 
-// The kind of an integer: 1 for z, and 2 for a negative one.
+// The kind of an integer: 1, or 2 if it is negative.
 fn sign(z: i64) -> u8
     ensures { λ r. ⌜ (r ≡ integerOf z .kind) × (r < 4) ⌝ }
 {
@@ -83,7 +83,7 @@ fn sign(z: i64) -> u8
     kind::KIND_INTEGER
 }
 
-// The number of an integer: z, and -z - 1 of a negative one.
+// The number of an integer: z, or -z - 1 if it is negative.
 fn magnitude(z: i64) -> u64
     ensures { λ r. ⌜ r ≡ integerOf z .n ⌝ }
 {
@@ -93,7 +93,7 @@ fn magnitude(z: i64) -> u64
     z as u64
 }
 
-// How far back the value at `at` is from a header at the offset w; 0 where it is not before.
+// How far the value at `at` is before a header at the offset w, as the file stores it; 0 if it is not before it.
 fn distance(w: usize, at: usize) -> u64
     ensures { λ r. ⌜ r ≡ w - at - 1 ⌝ }
 {
@@ -103,7 +103,7 @@ fn distance(w: usize, at: usize) -> u64
     0
 }
 
-// What a token asks of the state; `good` tells of its text or target, `row` is the rule of its kind.
+// The flags of a token. `good`: its text or target is right; `row`: the rule of its kind.
 fn token_request(row: Rule, kind: u8, good: bool) -> CallFlags
     ensures { λ r. ⌜ r ≡ tokenFlagsBy row kind good ⌝ }
 {
@@ -119,7 +119,7 @@ fn token_request(row: Rule, kind: u8, good: bool) -> CallFlags
 impl Writer {
     // ---- a token
 
-    // Whether `at` is a listed start; nothing is said of a state that is BAD_STATE.
+    // Whether `at` is a listed start; for a state that is BAD_STATE the answer means nothing.
     fn is_listed(self, starts: &[u32], at: usize) -> bool
         ensures { λ r. ⌜ ListedTest r at (self .state) (now (starts .entry)) ⌝ }
     {
@@ -136,7 +136,8 @@ impl Writer {
         writer_listing::is_among(&starts[..count], at as u32)
     }
 
-    // What a token asks for that names the offset `target`; `good` tells of its text or target, `row` is the rule of its kind.
+    // Whether a token that names the offset `target` is accepted, and what it takes. `good`: its text or target is right;
+    // `row`: the rule of its kind.
     fn fit(
         self,
         good: bool,
@@ -171,7 +172,7 @@ impl Writer {
         }
     }
 
-    // The state behind a token that is written; lists the start of a value that it finishes.
+    // The writer after a token is written; lists the start of the value if the token finishes it.
     fn advance(self, ask: Fit, starts: &mut [u32]) -> Writer
         requires { ⌜ (startOf (self .state) < 2 ^ 32) × (self .state .count < length (now starts)) × (self .state .written + ask .size < 2 ^ 64) ⌝ }
         ensures { λ r. ⌜ Advanced ask (self .state) (now (starts .entry)) (r .state) (now (starts .exit)) ⌝ }
@@ -191,7 +192,7 @@ impl Writer {
         }
     }
 
-    // A refused call leaves the state as it was.
+    // Refuses a call: the writer stays as it was.
     fn refuse(self, request: CallFlags, bytes: usize, words: usize) -> WriteResult
         ensures { λ r. ⌜ Refused request (self .state) bytes words r ⌝ }
     {
@@ -202,8 +203,8 @@ impl Writer {
         }
     }
 
-    // Refuses a token; `good` tells of its text or target. It finds the rule anew, and is a function apart, so that `put_token` stays small enough to be
-    // inlined into the calls.
+    // Refuses a token. `good`: its text or target is right. It looks the rule up again, and is a function of its own, so that
+    // `put_token` stays small enough to be inlined into the calls.
     fn refuse_token(self, good: bool, kind: u8, bytes: usize, words: usize) -> WriteResult
         ensures { λ r. ⌜ Refused (tokenFlagsBy (rule kind) kind good) (self .state) bytes words r ⌝ }
     {
@@ -211,7 +212,7 @@ impl Writer {
         self.refuse(request, bytes, words)
     }
 
-    // Puts a token that has no body.
+    // Writes or refuses a token that has no body.
     fn put_token(
         self,
         ask: Fit,
@@ -223,7 +224,8 @@ impl Writer {
         starts: &mut [u32],
     ) -> WriteResult
         requires { ⌜ FitOf (token kind n args []) target (self .state) (now out) (now starts) ask ⌝ }
-        ensures { λ r. ⌜ wrote r (now (out .exit)) (now (starts .exit)) ≡ putToken (token kind n args []) target (self .state) (now (out .entry)) (now (starts .entry)) ⌝ }
+        ensures { λ r. ⌜ wrote r (now (out .exit)) (now (starts .exit))
+            ≡ putToken (token kind n args []) target (self .state) (now (out .entry)) (now (starts .entry)) ⌝ }
     {
         if ask.fits {
             let written = self.state.written;
@@ -236,7 +238,7 @@ impl Writer {
         self.refuse_token(ask.good, kind, out.len(), starts.len())
     }
 
-    // Puts a token that has a body.
+    // Writes or refuses a token that has a body.
     fn put_body(
         self,
         ask: Fit,
@@ -247,7 +249,8 @@ impl Writer {
         starts: &mut [u32],
     ) -> WriteResult
         requires { ⌜ FitOf (token kind n 0 (now body)) 0 (self .state) (now out) (now starts) ask ⌝ }
-        ensures { λ r. ⌜ wrote r (now (out .exit)) (now (starts .exit)) ≡ putToken (token kind n 0 (now (body .entry))) 0 (self .state) (now (out .entry)) (now (starts .entry)) ⌝ }
+        ensures { λ r. ⌜ wrote r (now (out .exit)) (now (starts .exit))
+            ≡ putToken (token kind n 0 (now (body .entry))) 0 (self .state) (now (out .entry)) (now (starts .entry)) ⌝ }
     {
         if ask.fits {
             let written = self.state.written;
@@ -262,7 +265,7 @@ impl Writer {
 
     // ---- the close
 
-    // Writes the delta byte.
+    // Writes the delta byte, which closes.
     fn write_delta(self, delta: u8, out: &mut [u8]) -> Writer
         requires { ⌜ self .state .written < length (now out) ⌝ }
         ensures { λ r. ⌜ WroteDelta delta (self .state) (now (out .entry)) (r .state) (now (out .exit)) ⌝ }
@@ -279,7 +282,7 @@ impl Writer {
         }
     }
 
-    // Closes by the delta byte; `good` tells whether `at` is listed.
+    // Closes by the delta byte alone. `good`: `at` is listed.
     fn close_near(
         self,
         good: bool,
@@ -306,7 +309,7 @@ impl Writer {
         self.refuse(request, out.len(), starts.len())
     }
 
-    // Closes by a pointer and its delta byte.
+    // Closes by a pointer of the distance `back` and its delta byte. `good`: `at` is listed.
     fn close_far(
         self,
         good: bool,
@@ -385,7 +388,7 @@ impl Writer {
         self.put_token(ask, kind, n, 0, 0, out, starts)
     }
 
-    // Bits, never computed with.
+    // Takes the bits, which are never computed with.
     pub fn float32(self, bits: u32, out: &mut [u8], starts: &mut [u32]) -> WriteResult
         ensures { λ r. ⌜ wrote r (now (out .exit)) (now (starts .exit)) ≡ step (Call.float32 bits) (self .state) (now (out .entry)) (now (starts .entry)) ⌝ }
     {
@@ -407,7 +410,8 @@ impl Writer {
     }
 
     pub fn text(self, body: &[u8], out: &mut [u8], starts: &mut [u32]) -> WriteResult
-        ensures { λ r. ⌜ wrote r (now (out .exit)) (now (starts .exit)) ≡ step (Call.text (now (body .entry))) (self .state) (now (out .entry)) (now (starts .entry)) ⌝ }
+        ensures { λ r. ⌜ wrote r (now (out .exit)) (now (starts .exit))
+            ≡ step (Call.text (now (body .entry))) (self .state) (now (out .entry)) (now (starts .entry)) ⌝ }
     {
         let kind = kind::KIND_TEXT;
         let rule = kind::rule_of(kind);
@@ -418,7 +422,8 @@ impl Writer {
     }
 
     pub fn bytes(self, body: &[u8], out: &mut [u8], starts: &mut [u32]) -> WriteResult
-        ensures { λ r. ⌜ wrote r (now (out .exit)) (now (starts .exit)) ≡ step (Call.bytes (now (body .entry))) (self .state) (now (out .entry)) (now (starts .entry)) ⌝ }
+        ensures { λ r. ⌜ wrote r (now (out .exit)) (now (starts .exit))
+            ≡ step (Call.bytes (now (body .entry))) (self .state) (now (out .entry)) (now (starts .entry)) ⌝ }
     {
         let kind = kind::KIND_BYTES;
         let rule = kind::rule_of(kind);
@@ -471,7 +476,7 @@ impl Writer {
         self.put_token(ask, kind, n, 0, 0, out, starts)
     }
 
-    // A map of n pairs, key and value by turns.
+    // A map of n pairs, whose keys and values, alternating, are the next immediates.
     pub fn open_map(self, n: u64, out: &mut [u8], starts: &mut [u32]) -> WriteResult
         ensures { λ r. ⌜ wrote r (now (out .exit)) (now (starts .exit)) ≡ step (Call.openMap n) (self .state) (now (out .entry)) (now (starts .entry)) ⌝ }
     {
@@ -493,7 +498,8 @@ impl Writer {
 
     // A variant whose one argument is the next immediate.
     pub fn open_variant1(self, index: u32, out: &mut [u8], starts: &mut [u32]) -> WriteResult
-        ensures { λ r. ⌜ wrote r (now (out .exit)) (now (starts .exit)) ≡ step (Call.openVariant1 index) (self .state) (now (out .entry)) (now (starts .entry)) ⌝ }
+        ensures { λ r. ⌜ wrote r (now (out .exit)) (now (starts .exit))
+            ≡ step (Call.openVariant1 index) (self .state) (now (out .entry)) (now (starts .entry)) ⌝ }
     {
         let kind = kind::KIND_VARIANT1;
         let rule = kind::rule_of(kind);
@@ -501,7 +507,7 @@ impl Writer {
         self.put_token(ask, kind, index as u64, 0, 0, out, starts)
     }
 
-    // A variant of n arguments.
+    // A variant whose n arguments are the next immediates.
     pub fn open_variant_n(
         self,
         index: u32,
@@ -509,7 +515,8 @@ impl Writer {
         out: &mut [u8],
         starts: &mut [u32],
     ) -> WriteResult
-        ensures { λ r. ⌜ wrote r (now (out .exit)) (now (starts .exit)) ≡ step (Call.openVariantN index n) (self .state) (now (out .entry)) (now (starts .entry)) ⌝ }
+        ensures { λ r. ⌜ wrote r (now (out .exit)) (now (starts .exit))
+            ≡ step (Call.openVariantN index n) (self .state) (now (out .entry)) (now (starts .entry)) ⌝ }
     {
         let kind = kind::KIND_VARIANTN;
         let rule = kind::rule_of(kind);
@@ -517,7 +524,8 @@ impl Writer {
         self.put_token(ask, kind, index as u64, n, 0, out, starts)
     }
 
-    // Closes at the value that starts at `at`: the file's entry is that value, or a pointer to it, added where one delta byte does not reach it.
+    // Closes at the value that starts at `at`: the file's entry is that value, or, if one delta byte does not reach back to it,
+    // a pointer to it, which is added.
     pub fn close(self, at: usize, out: &mut [u8], starts: &mut [u32]) -> WriteResult
         ensures { λ r. ⌜ wrote r (now (out .exit)) (now (starts .exit)) ≡ step (Call.close at) (self .state) (now (out .entry)) (now (starts .entry)) ⌝ }
     {

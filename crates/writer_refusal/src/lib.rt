@@ -16,28 +16,28 @@ pub struct State {
     pub written: usize,
     // The starts listed: how many values are finished.
     pub count: usize,
-    // The items that the open value still has to get; 0 where none is open.
+    // The items that the open value still has to get; 0 if none is open.
     pub pending: u64,
-    // Where the open value starts; without meaning where none is open.
+    // Where the open value starts; without meaning if none is open.
     pub start: usize,
     pub closed: bool,
 }
 
-// What a call asks of the state; each flag may be a reason to refuse it.
+// What a call needs from the state, and what is wrong with its argument; each flag may be a reason to refuse it.
 pub struct CallFlags {
     // It may not come while items are pending: an opening, or a close.
     pub alone: bool,
-    // Its text is not text.
+    // Its argument is to be text, and is not.
     pub text: bool,
     // Its target is not listed.
     pub target: bool,
-    // It is a token, which needs a free word where it begins a value.
+    // It writes a token, which needs a free word if it begins a value.
     pub adds: bool,
 }
 
-// ---- what a token asks for
+// ---- what a token needs
 
-// n, or LIMIT where n is more.
+// n, or LIMIT if n is more.
 fn limit(n: u64) -> u64
     ensures { λ r. ⌜ r ≡ limit n ⌝ }
 {
@@ -47,14 +47,14 @@ fn limit(n: u64) -> u64
     error::LIMIT as u64
 }
 
-// The bytes that may be written into an output of so many.
+// How many bytes may be written into an output of that many.
 fn end(bytes: usize) -> usize
     ensures { λ r. ⌜ r ≡ limit bytes ⌝ }
 {
     limit(bytes as u64) as usize
 }
 
-// How many items a token has, or LIMIT where they are more: map(2^63) has 2^64.
+// How many items a token has, or LIMIT if they are more: map(2^63) has 2^64.
 fn items(rule: Rule, n: u64, args: u64) -> u64
     requires { ⌜ (rule .single ≤ 1) × (rule .each ≤ 4) ⌝ }
     ensures { λ r. ⌜ r ≡ limit (pending rule n args) ⌝ }
@@ -62,7 +62,7 @@ fn items(rule: Rule, n: u64, args: u64) -> u64
     limit(rule.single + rule.each * limit(n) + limit(args))
 }
 
-// The items pending after a token; its own, where it has more than LIMIT, are LIMIT.
+// The items pending after a token; its own count as LIMIT if they are more.
 pub fn left(before: u64, rule: Rule, n: u64, args: u64) -> u64
     requires { ⌜ (rule .single ≤ 1) × (rule .each ≤ 4) ⌝ }
     ensures { λ r. ⌜ r ≡ due before (limit (pending rule n args)) ⌝ }
@@ -73,7 +73,7 @@ pub fn left(before: u64, rule: Rule, n: u64, args: u64) -> u64
     before - 1
 }
 
-// The bytes left for tokens: one for the delta is held back.
+// The bytes left for tokens: one is held back for the delta.
 fn room(state: State, bytes: usize) -> usize
     ensures { λ r. ⌜ r ≡ room state bytes ⌝ }
 {
@@ -84,7 +84,7 @@ fn room(state: State, bytes: usize) -> usize
     end - 1 - state.written
 }
 
-// Whether a token of some bytes and the items left after it exceed the room.
+// Whether a token of `size` bytes, with a byte for each item left after it, exceeds the room.
 fn exceeds(room: usize, size: usize, left: u64) -> bool
     ensures { λ r. ⌜ r ≡ ltb room (size + left) ⌝ }
 {
@@ -94,7 +94,7 @@ fn exceeds(room: usize, size: usize, left: u64) -> bool
     ((room - size) as u64) < left
 }
 
-// Whether a token has no room with the items left after it.
+// Whether the output has no room for a token and the items left after it.
 fn is_short(state: State, size: usize, left: u64, bytes: usize) -> bool
     ensures { λ r. ⌜ r ≡ ltb (room state bytes) (size + left) ⌝ }
 {
@@ -103,16 +103,17 @@ fn is_short(state: State, size: usize, left: u64, bytes: usize) -> bool
 
 // ---- whether a call is refused
 
-// Whether a state does not fit an output of so many bytes and a table of so many words.
+// Whether a state does not fit an output of that many bytes and a table of that many words.
 fn is_bad_state(state: State, bytes: usize, words: usize) -> bool
     ensures { λ r. ⌜ r ≡ badState state bytes words ⌝ }
 {
-    // an open value without a free word, or that does not start before the bytes written
+    // an open value without a free word, or that does not start below the bytes written
     let astray = (0 < state.pending) & ((words <= state.count) | (state.written <= state.start));
     (bytes < state.written) | ((error::LIMIT < state.written) | ((words < state.count) | astray))
 }
 
-// Whether a token of some bytes is accepted, with the items left after it. A state that has room for it is within the output.
+// Whether a token of `size` bytes is accepted, with the items left after it. If there is room for it, the state is within the
+// output; so that is not tested.
 pub fn may_write(
     state: State,
     request: CallFlags,
@@ -142,7 +143,7 @@ pub fn may_close(state: State, request: CallFlags, bytes: usize, words: usize) -
     !bad & !state.closed & !late & !wrong & !full
 }
 
-// The first reason to refuse a call, NO_ROOM where there is no other.
+// The first reason to refuse a call, NO_ROOM if there is no other.
 pub fn refusal(state: State, request: CallFlags, bytes: usize, words: usize) -> ErrorKind
     ensures { λ r. ⌜ error (numberOf r) ≡ refusalOf request true state bytes words ⌝ }
 {
