@@ -10,7 +10,7 @@
 --                             the same, if the writer answers v and its result is r: 0 and what r leaves, or the
 --                             error and no change
 --   stepC c state out table   what the call c returns and leaves
---   settleC a w state         the number for the answer a, and the state's words after it: those of the next writer w,
+--   settleC a w state         the number for the answer a, and the state's words after it: those of the next state w,
 --                             or on an error those of before. No contract of a C function cites it
 use Prim.Native.Nat.{ℕ}
 use mathlib.Core.Bool.{Bool, true, false, not}

@@ -19,8 +19,8 @@
 //
 // FILE, KEY and the bytes of a body are in hex, FILE and KEY `-` for no bytes; AT and INDEX are decimal, a larger one counts as 2^64-1.
 // WORDS are decimal, a larger one counts as 32; ROOM and the N of z count as 1024 at most.
-// An error is printed as its name and place, for a CALL as its name. The answer to any other query or CALL is `?`. A line that begins with # is printed
-// as it is.
+// An error is printed as its name and place, for a CALL as its name. The answer to any other query or CALL is `?`. A line that
+// begins with # is printed as it is.
 mod calls;
 mod parts;
 mod print;

@@ -1,4 +1,4 @@
--- What is known of a call that is accepted: a token, and a close by the delta byte.
+-- What is known of a call that is accepted: a token, and a close by the delta byte alone.
 use mathlib.Core.Path.{_≡_, refl}
 use mathlib.Core.Bool.{Bool, false}
 use mathlib.Core.List.{List}
@@ -49,7 +49,7 @@ module _ (alone : Bool) (t : Token) (target : ℕ) (s : State) (out table : List
     pub free-word : s .count < length table
     free-word = word-free _ _ s (length out) (length table) refl (a .granted)
 
-    -- a byte for the delta is left behind it
+    -- a byte for the delta is left after it
     pub room-after : s .written + length (emit t) < limit (length out)
     room-after = omega (arith, token-fits, emit-pos t)
 

@@ -1,4 +1,4 @@
--- The two closes, as the code makes them: by the delta byte, and by a pointer and its delta byte.
+-- The two closes, as the code makes them: by the delta byte alone, and by a pointer and its delta byte.
 use mathlib.Core.Path.{_≡_, refl, sym, ap, _∙_}
 use mathlib.Core.Bool.{Bool, true, false, not}
 use mathlib.Core.List.{List, []}
@@ -31,7 +31,7 @@ use Rattle.writer.proofs.Settled.{refused-settled}
 -- ---- by the delta byte
 
 module _ (g : Bool) (e : ℕ) (s : State) (out table : List ℕ) (h : ListedTest g e s table) where
-  -- the code's request
+  -- the flags that the code passes
   abbrev request : CallFlags
   request = record { alone = true; text = false; target = not g; adds = false }
 
@@ -44,7 +44,7 @@ module _ (g : Bool) (e : ℕ) (s : State) (out table : List ℕ) (h : ListedTest
       refusal-same request (deltaFlags e s table) full s (length out) (length table) (λ q. let d = sound s _ _ q in
       λ i. record { alone = true; text = false; target = not (h (d .short) (d .listed) i); adds = false })
 
-  -- what `may_close` told
+  -- by what `may_close` returned
   module _ (may : Bool) (is : may ≡ isOk (refusalOf request full s (length out) (length table))) where
     module _ (q : may ≡ true) where
       accepted : deltaRefusal e s out table ≡ ok tt
@@ -59,7 +59,8 @@ module _ (g : Bool) (e : ℕ) (s : State) (out table : List ℕ) (h : ListedTest
     pub near-refused : may ≡ false → (d : ℕ) (w : WriteResult) → Refused request s (length out) (length table) w
         → wrote w out table ≡ closeNear e d s out table
     near-refused q d w k =
-        refused-settled request s out table w k _ (refusal-short request full s (length out) (length table) (sym is ∙ q) ∙ flags-same) (writeDelta d s out table)
+        refused-settled request s out table w k _ (refusal-short request full s (length out) (length table) (sym is ∙ q) ∙ flags-same)
+        (writeDelta d s out table)
 
 -- ---- by a pointer and its delta byte
 
@@ -68,13 +69,13 @@ unfolding putIf
 length-putIf true n = length-put-le 9 n
 length-putIf false n = omega arith
 
--- a pointer from w up to `next`, in an output of n bytes: its delta is a byte, and has room
+-- a pointer from w up to `next`, in an output of n bytes: its delta fits in a byte, and has room
 pub record Far (w next n : ℕ) : Type 0 where
   pub after : w < next
   pub delta : next - w < 256
   pub room : next < n
 
--- what a token that is written leaves
+-- what a written token leaves
 module _ (t : Token) (s : State) (out table : List ℕ) (next : State) (o words : List ℕ) (w : result (ok tt) next o words ≡ write t s out table) where
   written-is : next .written ≡ s .written + length (emit t)
   unfolding write
@@ -84,7 +85,7 @@ module _ (t : Token) (s : State) (out table : List ℕ) (next : State) (o words 
   unfolding write
   length-is = ap (λ (r : Result). length (r .out)) w ∙ length-sets out (s .written) (emit t)
 
--- what a call that was settled told
+-- a result, by the answer that a call returned: an error is the refusal, and ok means that there was none
 settled-error : (v : Verdict) (s : State) (out table : List ℕ) (w x : Result) → w .answer ≡ ok tt
     → (f : ℕ) (n : State) (o words : List ℕ) → result (error f) n o words ≡ settled v s out table w → result (error f) n o words ≡ settled v s out table x
 settled-error (ok u) s out table w x k f n o words e =
@@ -109,7 +110,7 @@ module _ (e back : ℕ) (s : State) (out table : List ℕ) where
   far-refused q a p w k =
       refused-settled q s out table w k _ (refusal-owed q (tokenFlags true pointer e s table) _ _ s _ _ a refl p) (writePointerDelta pointer s out table)
 
-  -- with no items pending a close is refused as its pointer is
+  -- while no items are pending, a close is refused for the same reason as its pointer
   module _ (z : s .pending ≤ 0) (r : WriteResult) (o words : List ℕ) (j : wrote r o words ≡ putToken pointer e s out table) where
     alone-is : tokenRefusal true pointer e s out table ≡ tokenRefusal (opens pointer) pointer e s out table
     unfolding tokenRefusal refusalOf
@@ -119,8 +120,8 @@ module _ (e back : ℕ) (s : State) (out table : List ℕ) where
     unfolding putToken write
     far-error f q =
         rw alone-is
-        (settled-error (tokenRefusal (opens pointer) pointer e s out table) s out table (write pointer s out table) (writePointerDelta pointer s out table) refl _ _ o words
-        (rw q at j))
+        (settled-error (tokenRefusal (opens pointer) pointer e s out table) s out table (write pointer s out table) (writePointerDelta pointer s out table) refl
+        _ _ o words (rw q at j))
 
     module _ (q : r .answer ≡ Ok) where
       taken : (tokenRefusal (opens pointer) pointer e s out table ≡ ok tt) × (result (ok tt) (r .writer .state) o words ≡ write pointer s out table)

@@ -1,4 +1,4 @@
--- What becomes of a token, by what the code finds of its text and its target: it is accepted, or refused for the same reason as its own request.
+-- What becomes of a token, by what the code finds about its text and its target: it is accepted, or refused for the first reason of its flags.
 use mathlib.Core.Path.{_≡_, refl, sym, ap, _∙_}
 use mathlib.Core.Bool.{Bool, true, false, not, _&&_}
 use mathlib.Core.List.{List}
@@ -28,7 +28,8 @@ module _ (g : Bool) (k : ℕ) (b : List ℕ) (x : ℕ) (s : State) (table : List
   argument-text : eqb k 4 && not g ≡ eqb k 4 && not (isText b)
   argument-text = by-cases (leb 14 k) (eqb k 4) (not-four k) h
     where
-      by-cases : (c d : Bool) → (c ≡ true → d ≡ false) → IfElse c (ListedTest g x s table) (IfElse d (g ≡ isText b) (g ≡ true)) → d && not g ≡ d && not (isText b)
+      by-cases : (c d : Bool) → (c ≡ true → d ≡ false) → IfElse c (ListedTest g x s table) (IfElse d (g ≡ isText b) (g ≡ true))
+          → d && not g ≡ d && not (isText b)
       by-cases true d f h = rw (f refl)
       by-cases false true f h = rw h
       by-cases false false f h = refl
@@ -53,7 +54,7 @@ module _ (t : Token) (x : ℕ) (s : State) (out table : List ℕ) (g : Bool) (h 
         adds = true;
       })
 
--- what `ask` answers, by what it learns of the request, the size, the items left, and whether it may be written
+-- what `fit` returns, by what it learns of the flags, the size, the items left, and whether the token may be written
 pub fit-is : (t : Token) (x : ℕ) (s : State) (out table : List ℕ) (g : Bool) (row : Rule) (q : CallFlags) (fits : Bool) (size left : ℕ)
     → t .kind < 16 → row ≡ rule (t .kind) → ArgumentTest g (t .kind) (t .body) x s table → q ≡ tokenFlagsBy row (t .kind) g
     → size ≡ 1 + length (putIf (leb 15 (t .n)) (t .n - 15)) + length (putIf (row .args) (t .args)) + length (t .body)

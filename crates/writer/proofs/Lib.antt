@@ -2,9 +2,9 @@
 mod Room
 -- what is known of a call that is accepted
 pub mod Accepted
--- a refused request
+-- a refused call, by its flags
 mod Settled
--- what becomes of a token, by what it asks for
+-- what becomes of a token, by what the code finds about it
 mod Fits
 -- what a token leaves
 mod Writes

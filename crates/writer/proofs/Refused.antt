@@ -1,6 +1,6 @@
 -- Any call of the writer, for any state, output and table.
 --
--- In order: it is refused or accepted, and settled so (`settled-by`); a refused one changes nothing (`refused-same`).
+-- In order: each call is settled by a refusal or by its own result (`settled-by`); a refused one changes nothing (`refused-same`).
 use mathlib.Core.Path.{_≡_, refl, ap}
 use mathlib.Core.Bool.{Bool, true}
 use mathlib.Core.List.{List, []}
@@ -14,7 +14,7 @@ use Rattle.writer_refusal.specs.Refusal.{Verdict}
 use Rattle.writer_refusal.specs.declared.State.{State}
 use Rattle.writer.specs.Step.{Call, Move, puts, closes, moveOf, opens, tokenRefusal, deltaRefusal, Result, result, write, writeDelta, writePointerDelta, settled, putToken, closeAt, move, step}
 
--- a pointer to x behind the bytes written
+-- a pointer to x, after the bytes written
 abbrev pub pointerTo : ℕ → State → Token
 pointerTo x s = token 15 (s .written - x - 1) 0 []
 

@@ -1,4 +1,4 @@
--- The room, which is less than LIMIT, so that items counted up to LIMIT are counted exactly where they matter.
+-- The room, which is less than LIMIT: so a count of items that stops at LIMIT is exact whenever the items have room.
 use mathlib.Core.Path.{_≡_, refl}
 use mathlib.Core.Bool.{Bool, true, false}
 use Prim.Native.Nat.{ℕ, _+_, _≤_, _<_}

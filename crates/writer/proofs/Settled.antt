@@ -1,4 +1,4 @@
--- A refused request, as the call that was refused is settled.
+-- A call that the code refuses, by its flags, is settled by that refusal.
 use mathlib.Core.Path.{_≡_}
 use mathlib.Core.Bool.{true, true≢false}
 use mathlib.Core.List.{List}

@@ -32,7 +32,7 @@ module _ (t : Token) (x : ℕ) (s : State) (out table : List ℕ) (r : Fit) (a :
     pub fits-rest : length (emit t) ≤ length (take (length out - s .written) (drop (s .written) out))
     fits-rest = rw length-part (omega (arith, room-after (opens t) t x s out table accepted))
 
-    -- what `advance` asks for
+    -- what `advance` requires
     pub start-word : startOf s < 2 ^ 32
     start-word = omega (arith, room-after (opens t) t x s out table accepted, start-lt (opens t) t x s out table accepted)
 
@@ -61,7 +61,7 @@ module _ (t : Token) (x : ℕ) (s : State) (out table : List ℕ) (r : Fit) (a :
   unfolding putToken
   put-refused e w k = refused-settled (tokenFlagsBy (rule (t .kind)) (t .kind) (r .good)) s out table w k _ (a .reason e) (write t s out table)
 
--- what a call puts, by the number or the body that a callee made of its argument
+-- what a call writes, by the number or the body that a callee made of its argument
 module _ (k x : ℕ) (s : State) (out table : List ℕ) (r : Result) where
   pub put-number : (n m a : ℕ) → r ≡ putToken (token k n a []) x s out table → n ≡ m → r ≡ putToken (token k m a []) x s out table
   put-number n m a e h = rw h at e

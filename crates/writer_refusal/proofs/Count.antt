@@ -1,4 +1,4 @@
--- Items, as code counts them in 64 bits: up to LIMIT.
+-- Items, as the code counts them in 64 bits: up to LIMIT.
 use mathlib.Core.Path.{_≡_}
 use Prim.Native.Nat.{ℕ, zero, suc, _+_, _*_, _≤_}
 use native.Mathlib.Omega.{arith}

@@ -1,6 +1,6 @@
 -- What is known of a call that is not refused, and of one that is.
 --
--- In order: a state that is not bad (`Sound`); a request that is granted (`Granted`), both ways; what decides a refusal.
+-- In order: a state that is not bad (`Sound`); flags that are granted (`Granted`), both ways; what decides a refusal.
 use mathlib.Core.Path.{_≡_, refl, sym}
 use mathlib.Core.Bool.{Bool, true, false, _&&_, _||_, true≢false}
 use Prim.Native.Nat.{ℕ, _≤_, _<_}
@@ -21,7 +21,7 @@ pub record Sound (s : State) (n m : ℕ) : Type 0 where
   pub inside : s .written ≤ n
   pub short : s .written ≤ LIMIT
   pub listed : s .count ≤ m
-  -- the open value has a free word, and starts before the bytes written
+  -- the open value has a free word, and starts below the bytes written
   pub free : 0 < s .pending → s .count < m
   pub begun : 0 < s .pending → s .start < s .written
 
@@ -47,9 +47,9 @@ not-bad s n m h =
     (λ p. rw (lt-ltb 0 (s .pending) p, lt-leb m (s .count) (h .free p), lt-leb (s .written) (s .start) (h .begun p)))
     (λ p. rw (le-ltb 0 (s .pending) p)))
 
--- ---- a request that is granted
+-- ---- flags that are granted
 
--- none of the reasons holds, in their order
+-- no reason to refuse holds; in their order
 pub record Granted (q : CallFlags) (short : Bool) (s : State) (n m : ℕ) : Type 0 where
   pub good : badState s n m ≡ false
   pub unclosed : s .closed ≡ false
@@ -94,18 +94,19 @@ module _ (q : CallFlags) (short : Bool) (s : State) (n m : ℕ) where
 
 -- ---- what decides a refusal
 
--- in a bad state nothing of the request does
-pub refusal-same : (q r : CallFlags) (short : Bool) (s : State) (n m : ℕ) → (badState s n m ≡ false → q ≡ r) → refusalOf q short s n m ≡ refusalOf r short s n m
+-- in a bad state, the flags do not matter
+pub refusal-same : (q r : CallFlags) (short : Bool) (s : State) (n m : ℕ) → (badState s n m ≡ false → q ≡ r)
+    → refusalOf q short s n m ≡ refusalOf r short s n m
 unfolding refusalOf
 refusal-same q r short s n m h = pick-cong (badState s n m) (λ _. refl) (λ e. rw (h e))
 
--- while items are pending, of a call that may not come then, nothing else of it does
+-- while items are pending, for a call that may not come then, the other flags and the room do not matter
 pub refusal-owed : (q r : CallFlags) (a b : Bool) (s : State) (n m : ℕ) → q .alone ≡ true → r .alone ≡ true → 0 < s .pending
     → refusalOf q a s n m ≡ refusalOf r b s n m
 unfolding refusalOf
 refusal-owed q r a b s n m e f h = rw (e, f, lt-ltb 0 (s .pending) h)
 
--- of a refused call the room does not, but where it has no other reason
+-- a refused call has the same reason as if it had no room
 pub refusal-short : (q : CallFlags) (short : Bool) (s : State) (n m : ℕ) → isOk (refusalOf q short s n m) ≡ false
     → refusalOf q true s n m ≡ refusalOf q short s n m
 unfolding refusalOf

@@ -1,4 +1,4 @@
--- `abi_error::spell_error` meets its contract: of each name, the text that is told is the name with zeros behind it.
+-- `abi_error::spell_error` meets its contract: for each name, the text that is stored is the name with zeros after it.
 use mathlib.Core.Path.{_≡_, sym, _∙_}
 use Prim.Native.Nat.{ℕ}
 use mathlib.Core.List.{List, []}

@@ -1,4 +1,4 @@
--- `emit::put_head` meets its contract: header, number and second number, one behind the other.
+-- `emit::put_head` meets its contract: header, number and second number, one after the other.
 use mathlib.Core.Path.{_≡_, refl, _∙_}
 use mathlib.Core.List.{List, [], _∷_, append-nil}
 use Prim.Native.Nat.{ℕ, _+_, _-_, _*_, _≤_}
@@ -13,7 +13,7 @@ use Rattle.token.proofs.Laws.{length-emit}
 use Rattle.emit.proofs.put_head.Statement.{statement}
 use Rattle.emit.proofs.put_head.Tie as tie
 
--- the number behind the header, and the second one
+-- the number after the header, and the second one
 abbrev number : tie.Start → List ℕ
 number c = putIf (leb 15 (c .args .n)) (c .args .n - 15)
 
@@ -26,7 +26,7 @@ room c = rw length-emit at (c .pre .2)
 abbrev start : tie.After-nibble → tie.Start
 start c = c .before .before .before
 
--- out with the header, the number behind it, and the second number
+-- out with the header, the number after it, and the second number
 abbrev headed : tie.After-nibble → List ℕ
 headed c = set (start c .args .out .now) 0 (start c .args .kind * 16 + c .nibble .result)
 

@@ -1,4 +1,4 @@
--- `emit::put_within` meets its contract: the body behind the header and its numbers.
+-- `emit::put_within` meets its contract: the body after the header and its numbers.
 use mathlib.Core.Path.{_≡_}
 use mathlib.Core.List.{List, [], _++_, append-assoc, append-nil}
 use Prim.Native.Nat.{ℕ, _+_, _≤_}

@@ -8,7 +8,7 @@ use Rattle.prelude.proofs.Tests.{split}
 use Rattle.writer_refusal.proofs.exceeds.Statement.{statement}
 use Rattle.writer_refusal.proofs.exceeds.Tie as tie
 
--- a sum that is too large, told by a difference
+-- whether a sum is too large, by a difference
 ltb-sub : (a b c : ℕ) → b ≤ a → ltb (a - b) c ≡ ltb a (b + c)
 ltb-sub a b c h =
     split (a - b) c

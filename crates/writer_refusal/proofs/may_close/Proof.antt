@@ -1,4 +1,4 @@
--- `writer_refusal::may_close` meets its contract: its tests pass just where no reason holds, by a table of them.
+-- `writer_refusal::may_close` meets its contract: its tests pass exactly if no reason to refuse holds, by a table of them.
 use mathlib.Core.Path.{_≡_, refl}
 use mathlib.Core.Bool.{Bool, true, false, not, _&&_, _||_}
 use Prim.Native.Nat.{ℕ}

@@ -1,4 +1,5 @@
--- `writer_refusal::may_write` meets its contract: its tests pass just where no reason holds. A token that has room is in a state within the output.
+-- `writer_refusal::may_write` meets its contract: its tests pass exactly if no reason to refuse holds. If a token has room, the state is within the
+-- output.
 use mathlib.Core.Path.{_≡_, refl, sym, _∙_}
 use mathlib.Core.Bool.{Bool, true, false, not, _&&_, _||_}
 use Prim.Native.Nat.{ℕ, _+_, _≤_, _<_}

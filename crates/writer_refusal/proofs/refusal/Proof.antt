@@ -1,4 +1,4 @@
--- `writer_refusal::refusal` meets its contract: past each test that failed the next is the definition's.
+-- `writer_refusal::refusal` meets its contract: after each test that failed comes the definition's next one.
 use mathlib.Core.Path.{_≡_}
 use mathlib.Core.Bool.{Bool, true, false, _&&_}
 use Prim.Native.Nat.{ℕ}

@@ -1,4 +1,4 @@
--- `samples::print::absolute` is safe: neither form of a number of 64 bits is out of reach.
+-- `samples::print::absolute` is safe: neither branch overflows for a number of 64 bits.
 use native.Mathlib.Omega.{arith}
 use borrow.Author.Needs.{needs}
 use Rattle.prelude.proofs.Signs.{flipped, kept, reread}

@@ -1,4 +1,4 @@
--- `samples::print::print_name` is safe: a name has its place in its ten bytes.
+-- `samples::print::print_name` is safe: a name fits in its eleven bytes.
 use mathlib.Core.Path.{sym}
 use borrow.Author.Needs.{needs}
 use lib.Seq.{length-take-le}

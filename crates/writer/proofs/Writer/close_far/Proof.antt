@@ -7,7 +7,7 @@ use Rattle.writer.proofs.Closes.{Far, far-refused, far-error, far-room,
 use Rattle.writer.proofs.Writer.close_far.Statement.{statement}
 use Rattle.writer.proofs.Writer.close_far.Tie as tie
 
--- the places after the pointer is put, after it is asked for, and where no items are pending
+-- the places after `put_token`, after `fit`, and after the test that no items are pending
 abbrev putToken : tie.After-enum-told → tie.After-put-token
 putToken c = let known = c .before .before .before in known .before .before .before .before
 

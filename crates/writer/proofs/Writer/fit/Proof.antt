@@ -1,4 +1,4 @@
--- `writer::Writer::ask` meets its contract.
+-- `writer::Writer::fit` meets its contract.
 use mathlib.Core.Path.{refl}
 use native.Mathlib.Omega.{arith}
 use borrow.Author.Needs.{needs}

@@ -1,4 +1,4 @@
--- `writer::Writer::put_body` meets its contract, as `put` does.
+-- `writer::Writer::put_body` meets its contract, as `put_token` does.
 use borrow.Author.Needs.{needs}
 use Rattle.writer.proofs.Writes.{inside, fits-rest, may-advance, put-ok, put-refused}
 use Rattle.writer.proofs.Writer.put_body.Statement.{statement}

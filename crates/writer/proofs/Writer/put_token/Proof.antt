@@ -1,4 +1,4 @@
--- `writer::Writer::put` meets its contract: a token that is not refused fits.
+-- `writer::Writer::put_token` meets its contract: a token that is not refused has room.
 use borrow.Author.Needs.{needs}
 use Rattle.writer.proofs.Writes.{inside, fits-rest, may-advance, put-ok, put-refused}
 use Rattle.writer.proofs.Writer.put_token.Statement.{statement}

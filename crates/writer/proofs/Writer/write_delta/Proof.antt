@@ -1,4 +1,4 @@
--- `writer::Writer::shut` meets its contract.
+-- `writer::Writer::write_delta` meets its contract.
 use mathlib.Core.Path.{refl}
 use borrow.Author.Needs.{needs}
 use Rattle.writer.specs.Step.{writeDelta}
