@@ -15,7 +15,8 @@ use lib.ListN.{length, take, replicate, getD}
 use Rattle.error.specs.declared.Error.{Error}
 use Rattle.error.specs.declared.ErrorName.{ErrorName}
 use Rattle.error.specs.declared.ErrorKind.{ErrorKind}
-use Rattle.error.specs.declared.ErrorKind.the-variants.{Empty, TooLong, Trunc, Reserved, Overlong, Range, Nested, BadText, BadTarget, Full, BadEntry, Outside, NoItem, WrongKind, NoRoom, Owed, Closed, BadState}
+use Rattle.error.specs.declared.ErrorKind.the-variants.{Empty, TooLong, Trunc, Reserved, Overlong, Range, Nested, BadText, BadTarget}
+use Rattle.error.specs.declared.ErrorKind.the-variants.{Full, BadEntry, Outside, NoItem, WrongKind, NoRoom, Owed, Closed, BadState}
 
 abbrev pub LIMIT : ℕ
 LIMIT = 16777216

@@ -23,7 +23,8 @@ use Rattle.values.specs.Values.{tokens, bytes, region, starts, Each, Sound, Ite
 use Rattle.values.proofs.Members.{each-imp}
 use Rattle.writer.specs.Step.{Call}
 use Rattle.writer.specs.Given.{Given}
-use Rattle.guarantees.specs.Model.{Part, requestOf, ModelValue, formOf, formsOf, valueAt, valuesAt, Model, model, emptyModel, pendingIn, Request, adds, ends}
+use Rattle.guarantees.specs.Model.{Part, requestOf, ModelValue, formOf, formsOf, valueAt, valuesAt}
+use Rattle.guarantees.specs.Model.{Model, model, emptyModel, pendingIn, Request, adds, ends}
 use Rattle.guarantees.specs.History.{modelRun}
 use Rattle.guarantees.specs.ReadsBack.{endOf}
 use Rattle.guarantees.proofs.Models.{pending-form, length-forms, region-snoc, starts-snoc, start-lt, end-le}

@@ -19,7 +19,8 @@ use Rattle.token.specs.Token.{Token, token, emit}
 use Rattle.kind.specs.Kind.{due}
 use Rattle.writer_refusal.specs.Refusal.{limit, Verdict}
 use Rattle.writer_refusal.specs.declared.State.{State}
-use Rattle.writer.specs.Step.{Call, Move, puts, closes, moveOf, opens, pendingOf, tokenRefusal, deltaRefusal, Result, result, startOf, write, writeDelta, writePointerDelta, settled, putToken, closeAt, move, step}
+use Rattle.writer.specs.Step.{Call, Move, puts, closes, moveOf, opens, pendingOf, tokenRefusal, deltaRefusal, Result, result}
+use Rattle.writer.specs.Step.{startOf, write, writeDelta, writePointerDelta, settled, putToken, closeAt, move, step}
 use Rattle.writer.proofs.Accepted.{Accepted, token-inv, room-after, emit-pos, Near, delta-inv, delta-fits}
 use Rattle.writer.proofs.Refused.{pointerTo}
 

@@ -22,7 +22,8 @@ use Rattle.writer_refusal.specs.Refusal.{badState, Verdict, refusalOf}
 use Rattle.writer_refusal.specs.declared.State.{State}
 use Rattle.writer_refusal.specs.declared.CallFlags.{CallFlags}
 use Rattle.writer_refusal.proofs.Refusals.{not-bad}
-use Rattle.writer.specs.Step.{Call, scalar, integer, float32, float64, text, bytes, variant, reference, pointer, openArray, openMap, openTag, openVariant1, openVariantN, close, Move, puts, closes, moveOf, fresh, tokenRefusal, deltaRefusal, Result, settled, step}
+use Rattle.writer.specs.Step.{Call, scalar, integer, float32, float64, text, bytes, variant, reference, pointer, openArray, openMap, openTag, openVariant1}
+use Rattle.writer.specs.Step.{openVariantN, close, Move, puts, closes, moveOf, fresh, tokenRefusal, deltaRefusal, Result, settled, step}
 use Rattle.writer.specs.Given.{Given}
 use Rattle.writer.specs.declared.Scalar.the-variants.{False, True, Null}
 use Rattle.writer.proofs.Refused.{pointerTo, settled-by}

@@ -24,17 +24,22 @@ use Rattle.values.specs.Values.{bytes, region, starts}
 use Rattle.writer_refusal.specs.Refusal.{badState, isListed, limit, Verdict, refusalOf}
 use Rattle.writer_refusal.specs.declared.State.{State}
 use Rattle.writer_refusal.proofs.Refusals.{sound, not-bad}
-use Rattle.writer.specs.Step.{Call, scalar, integer, float32, float64, text, bytes as byteString, variant, reference, pointer, openArray, openMap, openTag, openVariant1, openVariantN, close, Move, puts, closes, moveOf, fresh, opens, pendingOf, tokenRefusal, deltaRefusal, Result, startOf, write, writeDelta, writePointerDelta, settled, putToken, closeAt, move, step}
+use Rattle.writer.specs.Step.{Call, scalar, integer, float32, float64, text, bytes as byteString, variant, reference, pointer, openArray, openMap}
+use Rattle.writer.specs.Step.{openTag, openVariant1, openVariantN, close, Move, puts, closes, moveOf, fresh, opens, pendingOf, tokenRefusal}
+use Rattle.writer.specs.Step.{deltaRefusal, Result, startOf, write, writeDelta, writePointerDelta, settled, putToken, closeAt, move, step}
 use Rattle.writer.specs.declared.Scalar.the-variants.{False, True, Null}
 use Rattle.writer.proofs.Accepted.{Accepted, token-inv, free-word, room-after, none-pending, delta-inv, delta-fits}
 use Rattle.writer.proofs.Refused.{refused-same}
 use Rattle.guarantees.proofs.Calls.{accepted-only}
 use Rattle.guarantees.proofs.Results.{write-open}
 use Rattle.guarantees.proofs.Errors.{fresh-not-bad}
-use Rattle.guarantees.specs.Model.{Part, part, Request, adds, ends, requestOf, formOf, ModelValue, modelValue, valuesAt, Stage, between, within, closed, Model, model, emptyModel, modelBytes, modelStarts, isClosed, pendingIn, pendingAt, grown, settle, modelAnswer, modelAfter, backTo}
+use Rattle.guarantees.specs.Model.{Part, part, Request, adds, ends, requestOf, formOf, ModelValue, modelValue, valuesAt}
+use Rattle.guarantees.specs.Model.{Stage, between, within, closed, Model, model, emptyModel, modelBytes, modelStarts}
+use Rattle.guarantees.specs.Model.{isClosed, pendingIn, pendingAt, grown, settle, modelAnswer, modelAfter, backTo}
 use Rattle.guarantees.specs.History.{runs, modelRun, unlessRefused, Agree}
 use Rattle.guarantees.specs.ReadsBack.{endOf}
-use Rattle.guarantees.proofs.Models.{pending-form, length-startsOf, starts-snoc, start-lt, bytes-between, bytes-closed, end-le, bytes-grown, bytes-settle}
+use Rattle.guarantees.proofs.Models.{pending-form, length-startsOf, starts-snoc, start-lt, bytes-between}
+use Rattle.guarantees.proofs.Models.{bytes-closed, end-le, bytes-grown, bytes-settle}
 
 -- ---- a call of the writer is a request to the model
 

@@ -36,7 +36,9 @@ use Rattle.values.proofs.Laws.{emit-pos, length-starts, start-of}
 use Rattle.writer_refusal.specs.Refusal.{Verdict}
 use Rattle.writer_refusal.proofs.Refusals.{past}
 use Rattle.writer.specs.Step.{Call}
-use Rattle.guarantees.specs.Model.{Part, part, Request, adds, ends, requestOf, ModelValue, modelValue, formOf, valueAt, valuesAt, Stage, between, within, closed, isClosed, Model, model, emptyModel, modelBytes, modelStarts, pendingIn, pendingAt, grown, firstOf, modelRoom, backTo, modelAnswer, settle, modelAfter}
+use Rattle.guarantees.specs.Model.{Part, part, Request, adds, ends, requestOf, ModelValue, modelValue, formOf, valueAt, valuesAt}
+use Rattle.guarantees.specs.Model.{Stage, between, within, closed, isClosed, Model, model, emptyModel, modelBytes, modelStarts}
+use Rattle.guarantees.specs.Model.{pendingIn, pendingAt, grown, firstOf, modelRoom, backTo, modelAnswer, settle, modelAfter}
 use Rattle.guarantees.specs.History.{modelRun, unlessRefused}
 use Rattle.guarantees.specs.ReadsBack.{endOf, Holds}
 use Rattle.guarantees.proofs.Models.{values-snoc, start-lt, bytes-between, bytes-closed, bytes-grown, bytes-settle}

@@ -193,7 +193,8 @@ emit-scan = token.emit-scan
 
 -- ---- document 01's samples
 
-pub the-samples : map (λ (x : (List ℕ) × Query × SampleAnswer). sampleAnswer (x .0) (x .1)) samples ≡ map (λ (x : (List ℕ) × Query × SampleAnswer). x .2) samples
+pub the-samples : map (λ (x : (List ℕ) × Query × SampleAnswer). sampleAnswer (x .0) (x .1)) samples
+    ≡ map (λ (x : (List ℕ) × Query × SampleAnswer). x .2) samples
 the-samples = sampled.the-samples
 
 pub the-written : map writes written ≡ map expects written

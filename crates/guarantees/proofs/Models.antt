@@ -22,7 +22,8 @@ use Rattle.token.specs.Token.{emit}
 use Rattle.values.specs.Values.{tokens, bytes, region, starts}
 use Rattle.values.proofs.Laws.{bytes-append, region-append, starts-append, starts-lt, length-starts}
 use Rattle.writer.specs.Step.{pendingOf}
-use Rattle.guarantees.specs.Model.{Part, formOf, formsOf, ModelValue, modelValue, valueAt, valuesAt, Stage, between, within, closed, isClosed, Model, model, modelBytes, modelStarts, pendingIn, grown, settle}
+use Rattle.guarantees.specs.Model.{Part, formOf, formsOf, ModelValue, modelValue, valueAt, valuesAt, Stage, between, within}
+use Rattle.guarantees.specs.Model.{closed, isClosed, Model, model, modelBytes, modelStarts, pendingIn, grown, settle}
 use Rattle.guarantees.specs.ReadsBack.{endOf}
 
 -- ---- parts

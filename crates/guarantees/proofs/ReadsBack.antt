@@ -30,7 +30,8 @@ use Rattle.writer.specs.Given.{Given}
 use Rattle.checker.specs.Check.{checked, filled, checkOf}
 use Rattle.guarantees.specs.TokenValues.{tokenEnd, valueOfToken}
 use Rattle.guarantees.specs.Places.{TokenAt}
-use Rattle.guarantees.specs.Model.{Part, ends, ModelValue, formOf, formsOf, valueAt, valuesAt, closed, Model, model, emptyModel, modelBytes, backTo, modelAnswer, modelAfter}
+use Rattle.guarantees.specs.Model.{Part, ends, ModelValue, formOf, formsOf, valueAt, valuesAt, closed, Model}
+use Rattle.guarantees.specs.Model.{model, emptyModel, modelBytes, backTo, modelAnswer, modelAfter}
 use Rattle.guarantees.specs.History.{modelRun}
 use Rattle.guarantees.specs.ReadsBack.{endOf, Holds, valueOfPart, GivesBack, ReadsBack}
 use Rattle.guarantees.proofs.Accepts.{accepts}

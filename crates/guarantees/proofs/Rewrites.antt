@@ -29,7 +29,9 @@ use Rattle.values.proofs.Members.{each-append, each-imp}
 use Rattle.values.proofs.Laws.{bytes-append, region-append, starts-append, items-room}
 use Rattle.writer.specs.Step.{Call, close}
 use Rattle.writer.specs.Given.{Given}
-use Rattle.guarantees.specs.Model.{Part, ModelValue, modelValue, formOf, formsOf, valuesAt, Request, adds, ends, requestOf, between, within, closed, Model, model, emptyModel, modelRoom, backTo, modelBytes, modelStarts, pendingIn, pendingAt, grown, isClosed, firstOf, modelAnswer, settle, modelAfter}
+use Rattle.guarantees.specs.Model.{Part, ModelValue, modelValue, formOf, formsOf, valuesAt, Request, adds, ends, requestOf}
+use Rattle.guarantees.specs.Model.{between, within, closed, Model, model, emptyModel, modelRoom, backTo, modelBytes, modelStarts}
+use Rattle.guarantees.specs.Model.{pendingIn, pendingAt, grown, isClosed, firstOf, modelAnswer, settle, modelAfter}
 use Rattle.guarantees.specs.History.{modelRun}
 use Rattle.guarantees.specs.Rewrites.{callOf, callsAt, callsOf, rewriting, AllOk}
 use Rattle.guarantees.specs.ReadsBack.{endOf}

@@ -25,12 +25,14 @@ use Rattle.little_endian.specs.LittleEndian.{fromLittle}
 use Rattle.token.specs.Token.{Token, emit}
 use Rattle.values.specs.Values.{Value, tokens, bytes, starts, Each, WellFormed}
 use Rattle.writer_refusal.specs.Refusal.{Verdict}
-use Rattle.writer.specs.Step.{Call, scalar, integer, float32, float64, text, bytes as byteString, variant, reference, pointer, openArray, openMap, openTag, openVariant1, openVariantN, close, fresh}
+use Rattle.writer.specs.Step.{Call, scalar, integer, float32, float64, text, bytes as byteString, variant, reference}
+use Rattle.writer.specs.Step.{pointer, openArray, openMap, openTag, openVariant1, openVariantN, close, fresh}
 use Rattle.writer.specs.Given.{Given}
 use Rattle.writer.specs.declared.Scalar.the-variants.{False, True, Null}
 use Rattle.guarantees.specs.History.{runs}
 use Rattle.reader_value.specs.declared.Value.{Value as ReadValue}
-use Rattle.reader_value.specs.declared.Value.the-variants.{False as ReadFalse, True as ReadTrue, Null as ReadNull, Integer, Float32, Float64, Text, Bytes, Array, Map, Tag, Variant, Variant1, VariantN, Reference, Pointer}
+use Rattle.reader_value.specs.declared.Value.the-variants.{False as ReadFalse, True as ReadTrue, Null as ReadNull, Integer, Float32, Float64}
+use Rattle.reader_value.specs.declared.Value.the-variants.{Text, Bytes, Array, Map, Tag, Variant, Variant1, VariantN, Reference, Pointer}
 
 abbrev pub callRows : ℕ → Token → List Call
 callRows q t =

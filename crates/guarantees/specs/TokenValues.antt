@@ -13,7 +13,8 @@ use Rattle.prelude.specs.Pick.{pick}
 use Rattle.little_endian.specs.LittleEndian.{fromLittle}
 use Rattle.token.specs.Token.{Token, emit}
 use Rattle.reader_value.specs.declared.Value.{Value}
-use Rattle.reader_value.specs.declared.Value.the-variants.{False, True, Null, Integer, Float32, Float64, Text, Bytes, Array, Map, Tag, Variant, Variant1, VariantN, Reference, Pointer}
+use Rattle.reader_value.specs.declared.Value.the-variants.{False, True, Null, Integer, Float32, Float64, Text, Bytes, Array}
+use Rattle.reader_value.specs.declared.Value.the-variants.{Map, Tag, Variant, Variant1, VariantN, Reference, Pointer}
 
 abbrev pub tokenEnd : ℕ → Token → ℕ
 tokenEnd q t = q + length (emit t)

@@ -20,7 +20,8 @@ use Rattle.little_endian.specs.LittleEndian.{load}
 use Rattle.scan.specs.declared.Head.{Head}
 use Rattle.reader_region.specs.Region.{inRegion, peekIn}
 use Rattle.reader_value.specs.declared.Value.{Value}
-use Rattle.reader_value.specs.declared.Value.the-variants.{False, True, Null, Integer, Float32, Float64, Text, Bytes, Array, Map, Tag, Variant, Variant1, VariantN, Reference, Pointer}
+use Rattle.reader_value.specs.declared.Value.the-variants.{False, True, Null, Integer, Float32, Float64, Text, Bytes, Array}
+use Rattle.reader_value.specs.declared.Value.the-variants.{Map, Tag, Variant, Variant1, VariantN, Reference, Pointer}
 
 abbrev pub scalar : ℕ → Value
 scalar n = pick (eqb n 0) False (pick (eqb n 1) True Null)

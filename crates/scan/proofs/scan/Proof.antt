@@ -11,7 +11,8 @@ use Rattle.leb128.specs.declared.GetResult.{GetResult}
 use Rattle.leb128.specs.declared.GetResult.the-variants.{Ok}
 use Rattle.kind.specs.Kind.{size}
 use Rattle.kind.specs.declared.Rule.{Rule}
-use Rattle.scan.proofs.Steps.{AfterNumber, Counted, ruled-row, scan-past, scan-reserved, scan-nested, scan-number, scan-second, scan-bare, scan-full, scan-sized}
+use Rattle.scan.proofs.Steps.{AfterNumber, Counted, ruled-row, scan-past, scan-reserved, scan-nested}
+use Rattle.scan.proofs.Steps.{scan-number, scan-second, scan-bare, scan-full, scan-sized}
 use Rattle.scan.proofs.scan.Statement.{statement}
 use Rattle.scan.proofs.scan.Tie as tie
 
