@@ -28,12 +28,15 @@ use Rattle.values.proofs.Depths as paths
 use Rattle.reader_region.specs.Region.{regionLen, peekIn}
 use Rattle.reader_value.specs.Value.{readOf}
 use Rattle.reader_items.specs.Items.{itemOf}
+use Rattle.checker_value.specs.Walk.{nextToken}
 use Rattle.checker.specs.Check.{checked, filled, checkOf}
 use Rattle.depths.specs.Depths.{deepened, depthsOf}
 use Rattle.writer.specs.Step.{Call, close, puts, moveOf, fresh, opens, result, step}
 use Rattle.writer.specs.Given.{Given}
 use Rattle.writer_refusal.specs.declared.State.{State}
 use Rattle.writer.proofs.Refused as writer
+use Rattle.guarantees_faults.specs.Faults.{RefusedToken}
+use Rattle.guarantees_faults.proofs.Refused as faults
 use Rattle.guarantees.specs.Accepts.{Accepted, Overfull}
 use Rattle.guarantees.specs.Refused.{Unnamed, Faulty}
 use Rattle.guarantees.specs.TokenValues.{tokenEnd, valueOfToken}
@@ -92,6 +95,10 @@ one-reading = unique.one-reading
 pub fault-exactly : (file : List ℕ) (cap : ℕ) (f : Fault) → Bytes file → TRUNC ≤ f .number → f .number ≤ FULL
     → (checkOf file cap .answer ≡ error f) ↔ Faulty file cap (f .place) f
 fault-exactly = refused.fault-exactly
+
+pub refused-exactly : (s : List ℕ) (cap : ℕ) (done : List ℕ) (pending q : ℕ) (f : Fault)
+    → (nextToken s cap done pending q ≡ error f) ↔ RefusedToken s cap done pending q f
+refused-exactly = faults.refused-exactly
 
 pub full-exactly : (file : List ℕ) (cap p : ℕ) → Bytes file → (checkOf file cap .answer ≡ error (fault FULL p)) ↔ Overfull file cap p
 full-exactly = full.full-exactly
