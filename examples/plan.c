@@ -3,7 +3,7 @@
  *
  * usage: plan FILE; examples/plan builds and runs it.
  *
- * An error is a line "plan: WHAT: NAME PLACE" on standard error. The status is 0, 1 for an error, 2 where the file can't be read.
+ * An error is a line "plan: WHAT: NAME PLACE" on standard error. The status is 0, 1 for an error, 2 if the file can't be read.
  */
 #include <errno.h>
 #include <inttypes.h>
@@ -21,7 +21,7 @@ struct file {
     size_t len;
 };
 
-/* Tells whether there is no error, and prints the one that there is, with the place that the call left in out[0]. */
+/* Returns whether there is no error; if there is one, prints it, with the place that the call left in out[0]. */
 static bool ok(const char *what, uint32_t error, const uint64_t *out) {
     if (error == TWINE_OK) {
         return true;
@@ -32,7 +32,7 @@ static bool ok(const char *what, uint32_t error, const uint64_t *out) {
 
 /* ---- reading: each function answers false after it has printed an error */
 
-/* The value that the one at `at` is, or that pointers lead to: its offset and out of twine_read. WRONG_KIND where it is not of the kind. */
+/* The value that the one at `at` is, or that pointers lead to: its offset and out of twine_read. WRONG_KIND if it is not of the kind. */
 static bool read_as(const struct file *f, uint64_t at, uint64_t kind, uint64_t *end, uint64_t out[4]) {
     uint64_t followed[2] = {0};
     if (!ok(f->name, twine_follow(f->bytes, f->len, at, followed), followed)) {
@@ -225,7 +225,7 @@ static bool written_plan(void) {
 
 /* ---- the program */
 
-/* Reads a file into memory of its own, at most a byte more than the limit, which is enough to be told too long. NULL where it can't be read. */
+/* Reads a file into memory of its own, at most a byte more than the limit, which is enough for TOO_LONG. NULL if it can't be read. */
 static uint8_t *load(const char *name, size_t *len) {
     uint8_t *bytes = malloc(TWINE_LIMIT + 1);
     FILE *stream = fopen(name, "rb");

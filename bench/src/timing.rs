@@ -1,4 +1,4 @@
-//! The shortest times of two programs, taken by turns.
+//! The shortest times of two programs, which alternate.
 
 use std::fs::File;
 use std::os::unix::fs::FileExt;
@@ -16,7 +16,7 @@ const ROUNDS: usize = 7;
 /// A clock that does not count the time in which another process has the processor.
 #[derive(Debug)]
 pub struct Clock {
-    /// Where Linux tells how long this thread has waited for a processor.
+    /// Where Linux reports how long this thread has waited for a processor.
     waits: Option<File>,
     begin: Instant,
 }
@@ -76,7 +76,7 @@ impl Clock {
         runs
     }
 
-    /// The nanoseconds of a run, on the average of so many.
+    /// The nanoseconds of a run, on the average of that many.
     fn time(&self, run: &mut dyn FnMut() -> bool, runs: u32) -> f64 {
         // The waits are asked for within the time that is taken, so that no wait from without makes it shorter.
         let begin = Instant::now();

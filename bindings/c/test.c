@@ -1,5 +1,5 @@
 /* Runs the samples of document 01 through the C ABI, and calls of the writer on states that hold anything. Prints
-   what differs, a line each, and exits with 1 where anything does. */
+   what differs, a line each, and exits with 1 if anything does. */
 #include <stdio.h>
 #include <string.h>
 
@@ -26,7 +26,7 @@ static void expect(int line, const char *what, uint64_t got, uint64_t want) {
 
 /* ---- check and depths */
 
-/* What check and depths are to tell: the answer, out, and the first words of the tables; the others are 0. */
+/* What check and depths are to return: the answer, out, and the first words of the tables; the others are 0. */
 struct checked {
     uint32_t error;
     uint64_t out[2];
@@ -122,7 +122,7 @@ static void read_at(int line, const uint8_t *file, size_t len, size_t at, uint32
     } while (0)
 
 static void queries(void) {
-    /* every kind, with a number in the header and with one behind it */
+    /* every kind, with a number in the header and with one after it */
     READ("\x02\x00", 0, TWINE_KIND_SCALAR, 2, 1, 0);
     READ("\x13\x00", 0, TWINE_KIND_INTEGER, 3, 1, 0);
     READ("\x1f\x1b\x00", 0, TWINE_KIND_INTEGER, 42, 2, 0);
@@ -183,7 +183,7 @@ static uint64_t state[TWINE_STATE];
 static uint8_t output[ROOM];
 static uint32_t table[WORDS];
 
-/* The lengths that a call is told. */
+/* The lengths that a call is given. */
 static size_t room = ROOM, words = WORDS;
 
 enum call {
@@ -214,7 +214,7 @@ static uint32_t call(enum call c, uint64_t n, const uint8_t *body, size_t len) {
     }
 }
 
-/* A call, held to what the header says of every call: refused, it leaves all as it was; accepted, it changes the
+/* A call, compared with what the header says of every call: refused, it leaves all as it was; accepted, it changes the
    state, the bytes from the old to the new `written`, and at most the word `count`. */
 static uint32_t held(int line, enum call c, uint64_t n, const uint8_t *body, size_t len) {
     uint64_t old_state[TWINE_STATE];
@@ -301,7 +301,7 @@ static void hello(void) {
     EXPECT(table[3], 11);
 }
 
-/* Every call, as `twine_read` tells it back. */
+/* Every call, as `twine_read` reads it back. */
 static void back(void) {
     fresh(ROOM, WORDS);
     CALL(BOOL, 0, TWINE_OK);

@@ -1,4 +1,4 @@
-//! Links libtwine.a, from the directory that TWINE_LIB_DIR names or else from target/staticlib of the repository that the package stands in.
+//! Links libtwine.a, from the directory that TWINE_LIB_DIR names or else from target/staticlib of the repository that the package is in.
 //! `differential` and `bench` are built by this file too.
 
 use std::env;

@@ -53,7 +53,7 @@ impl<P: Product> Comparer<P> {
         }
     }
 
-    /// Asks something of a file, and sees then that it is as it was. `guard` is the byte around the file, which must not
+    /// Asks something of a file, and then checks that it is as it was. `guard` is the byte around the file, which must not
     /// matter.
     pub fn of_file(
         &mut self,
@@ -75,7 +75,7 @@ impl<P: Product> Comparer<P> {
         }
     }
 
-    /// `twine_check`, with a table of this length. Tells the count of an accepted file.
+    /// `twine_check`, with a table of this length. Returns the count of an accepted file.
     pub fn check(&mut self, words: usize) -> Result<Option<usize>, Difference> {
         self.starts.fill(words, JUNK);
         self.depths.fill(0, JUNK);
@@ -106,7 +106,7 @@ impl<P: Product> Comparer<P> {
         self.judge(number, checked(expected), self.are_tables_same(), question)
     }
 
-    /// `twine_read`. Tells the kind and the count of items of a value that can be read.
+    /// `twine_read`. Returns the kind and the count of items of a value that can be read.
     pub fn read(&mut self, at: u64) -> Result<Option<Read>, Difference> {
         self.out.fill(4, JUNK_OUT);
         let out = array(self.out.slice_mut());
@@ -160,7 +160,7 @@ impl<P: Product> Comparer<P> {
         self.judge(number, offset(expected), true, question)
     }
 
-    /// `twine_body`. That the part of the file which it tells is the body follows from the two numbers.
+    /// `twine_body`. That the part of the file which it returns is the body follows from the two numbers.
     pub fn body(&mut self, at: u64) -> Result<(), Difference> {
         self.out.fill(2, JUNK_OUT);
         let out = array(self.out.slice_mut());
@@ -316,7 +316,7 @@ impl<P: Product> Comparer<P> {
     }
 }
 
-/// What reading tells that other questions are made from.
+/// What reading returns that other questions are made from.
 #[derive(Clone, Copy, Debug, PartialEq, Eq)]
 pub struct Read {
     /// How many items the value has.
@@ -445,9 +445,9 @@ fn offset(answer: Result<usize, Error>) -> Told<2> {
     told(answer, |offset| [offset as u64, 0])
 }
 
-/// What `twine_read` tells of a value that `skip` tells the end of: kind, number, offset behind the numbers, count.
+/// What `twine_read` returns for a value whose end `skip` returns: kind, number, offset after the numbers, count.
 fn read(answer: Result<Value, Error>, at: u64, end: Result<usize, Error>) -> Told<4> {
-    // A value without body and items ends behind its numbers, and is skipped where it is read.
+    // A value without body and items ends after its numbers, and can be skipped if it can be read.
     let end = end.map_or(u64::MAX, |end| end as u64);
     told(answer, |value| match value {
         Value::Scalar(scalar) => [0, scalar as u64, end, 0],

@@ -1,4 +1,4 @@
-//! What is told of a difference.
+//! What is reported of a difference.
 
 use std::fmt::{self, Debug, Display, Write};
 

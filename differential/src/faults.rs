@@ -16,7 +16,7 @@ enum Fault {
     Answer,
     /// A fault's place is one byte off.
     Place,
-    /// The word behind the last start is not zeroed.
+    /// The word after the last start is not zeroed.
     Word,
     /// A depth is one too deep.
     Depth,
@@ -28,7 +28,7 @@ enum Fault {
     Key,
     /// A refused call leaves 1 for any other word that is closed.
     Closed,
-    /// An accepted call writes a byte behind those that it should.
+    /// An accepted call writes a byte after those that it should.
     Byte,
     /// A target is searched for in the whole table.
     Listed,

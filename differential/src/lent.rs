@@ -5,7 +5,7 @@ use std::fmt::Debug;
 /// The elements of a guard.
 const GUARD: usize = 8;
 
-/// A slice of any length with guards before and behind it, which no call may touch.
+/// A slice of any length with guards before and after it, which no call may touch.
 #[derive(Debug)]
 pub struct Lent<T> {
     guard: T,

@@ -59,7 +59,7 @@ fn run<P: Product>(product: P, options: &Options) -> Result<(), Failed> {
     let mut shares: u32 = sections.iter().map(|section| section.share).sum();
     for section in &sections {
         let begin = Instant::now();
-        // What a section leaves of its time is for those behind it.
+        // What a section leaves of its time is for those after it.
         let time = end.saturating_duration_since(begin) * section.share / shares;
         shares -= section.share;
         let cases = run_section(&mut comparer, section, options, begin + time)?;
@@ -75,7 +75,7 @@ fn run<P: Product>(product: P, options: &Options) -> Result<(), Failed> {
     Ok(())
 }
 
-/// Runs a section until its time is over or its cases are, and tells how many there were.
+/// Runs a section until its time is over or its cases are, and returns how many there were.
 fn run_section<P: Product>(
     comparer: &mut Comparer<P>,
     section: &Section<P>,
@@ -100,7 +100,7 @@ fn run_section<P: Product>(
     }
 }
 
-/// The case that is compared. Its command is printed also where one of the programs panics.
+/// The case that is compared. Its command is printed also if one of the programs panics.
 #[derive(Debug)]
 struct Repeat {
     seed: u64,

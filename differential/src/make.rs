@@ -120,7 +120,7 @@ pub fn call(random: &mut Random, starts: &[u32], is_open: bool) -> Call<'static>
     }
 }
 
-/// A call of the second program's writer, which would be compiled anew, and slowly, at each place where it is made.
+/// A call of the second program's writer, which would be compiled anew, and slowly, at each place that makes it.
 #[inline(never)]
 pub fn step(writer: Writer, call: Call<'_>, out: &mut [u8], starts: &mut [u32]) -> (Result<(), ErrorKind>, Writer) {
     writer.step(call, out, starts)
@@ -169,7 +169,7 @@ struct Builder<'r> {
     random: &'r mut Random,
     bytes: Vec<u8>,
     starts: Vec<usize>,
-    /// One in so many tokens is made odd; none if it is 0.
+    /// One in this many tokens is made odd; none if it is 0.
     odd: u64,
 }
 
@@ -371,7 +371,7 @@ fn damage(random: &mut Random, file: &mut Vec<u8>) {
         }
         8 => file[last] = random.pick(&[0, 1, file[last].wrapping_add(1), file[last].wrapping_sub(1), 0xff]),
         9 => {
-            // A number behind a header of low 15 is padded.
+            // A number after a header of low 15 is padded.
             let header = file.iter().skip(place).position(|byte| byte & 15 == 15);
             let number = place + header.unwrap_or(0) + 1;
             let length = file.iter().skip(number).position(|byte| *byte < 0x80);

@@ -33,7 +33,7 @@ impl Random {
         self.below(bound as u64) as usize
     }
 
-    /// True once in so many times.
+    /// True once in that many times.
     pub fn one_in(&mut self, times: u64) -> bool {
         self.below(times) == 0
     }

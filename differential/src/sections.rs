@@ -19,7 +19,7 @@ pub struct Section<P> {
     pub cases: Option<u64>,
     /// Its part of the time, beside the parts of the others.
     pub share: u32,
-    /// Between so many cases the clock is looked at.
+    /// How many cases are run between two looks at the clock.
     pub stride: u64,
     /// Compares a case.
     pub run: fn(&mut Comparer<P>, Case) -> Result<(), Difference>,
@@ -139,7 +139,7 @@ fn whole<P: Product>(comparer: &mut Comparer<P>, random: &mut Random, file: &[u8
     })
 }
 
-/// Check and depths with tables from no words to two more than `count`; where those are many, with some of them.
+/// Check and depths with tables from no words to two more than `count`; if those are many, with some of them.
 fn tables<P: Product>(comparer: &mut Comparer<P>, random: &mut Random, count: usize) -> Result<(), Difference> {
     if count <= 8 {
         for words in 0..=count + 2 {
@@ -159,7 +159,7 @@ fn tables<P: Product>(comparer: &mut Comparer<P>, random: &mut Random, count: us
     comparer.depths(count, random.index(count))
 }
 
-/// The queries at offsets of a file: at all of them and behind them if it is small, else at some.
+/// The queries at offsets of a file: at all of them and past them if it is small, else at some.
 fn offsets<P: Product>(comparer: &mut Comparer<P>, random: &mut Random, file: &[u8], some: usize) -> Result<(), Difference> {
     let length = file.len() as u64;
     let mut offsets: Vec<u64> = if length <= 100 {
@@ -239,7 +239,7 @@ fn long<P: Product>(comparer: &mut Comparer<P>, mut case: Case) -> Result<(), Di
 
 /// A file of exactly `length` bytes.
 fn long_file(random: &mut Random, length: usize) -> Vec<u8> {
-    // Two bytes behind the long part: a value, and the delta.
+    // Two bytes after the long part: a value, and the delta.
     let (region, part) = (length - 2, length - 40);
     let mut file = Vec::with_capacity(length);
     let head = |file: &mut Vec<u8>, kind: u8, n: usize| {

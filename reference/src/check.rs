@@ -183,7 +183,7 @@ mod tests {
         refused("42 e2 82 02", BadText, 0);
         refused("41 c2 80 00", BadText, 0);
         refused("61 41 ff 02", BadText, 1);
-        // The same with bytes behind, which are passed quickly.
+        // The same with bytes after it, which are passed quickly.
         let behind = "10".repeat(16);
         refused(&format!("42 c1 bf {behind} 00"), BadText, 0);
         refused(&format!("41 c2 {behind} 00"), BadText, 0);
@@ -246,7 +246,7 @@ mod tests {
 
     #[test]
     fn a_target_inside_a_holder_of_many_blocks() {
-        // The last item targets an item before it, none or more blocks behind the array's start.
+        // The last item targets an item before it, none or more blocks after the array's start.
         for distance in [15, 4000, 5000, 9000, 13000] {
             let mut file = vec![0x10];
             file.extend(long_header(6, 14_000));

@@ -3,7 +3,7 @@
 use crate::error::{Error, ErrorKind};
 use crate::scan::{scan, Checked, Note};
 
-/// Checks a file and tells the depth of each value.
+/// Checks a file and finds the depth of each value.
 ///
 /// "Depths is lent a second such table; it gives check's refusals first, then FULL if the second is shorter than the count
 /// (place: the start of the first value without a word). Accepted: one depth a value, the rest 0. Refused: both tables all

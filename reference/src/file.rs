@@ -1,4 +1,4 @@
-//! The outer form of a file: the region and the delta byte behind it.
+//! The outer form of a file: the region and the delta byte after it.
 
 use crate::error::{Error, ErrorKind};
 

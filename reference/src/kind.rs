@@ -41,10 +41,10 @@ pub enum Scalar {
     Null = 2,
 }
 
-/// The low nibble behind which a number stands: "at low 15 a LEB128 number follows the header and n = 15 + that number".
+/// The low nibble that means that a number follows: "at low 15 a LEB128 number follows the header and n = 15 + that number".
 pub(crate) const LONG: u8 = 15;
 
-/// What stands behind the header and its number.
+/// What follows the header and its number.
 #[derive(Clone, Copy, Debug, PartialEq, Eq)]
 pub(crate) enum Body {
     /// Nothing.
@@ -111,7 +111,7 @@ pub(crate) static KINDS: [Kind; 16] = {
 pub(crate) enum Class {
     /// An immediate without a LEB128 number or a target. Its size is that of [`Header::size`], and it may be a text.
     Plain,
-    /// An integer or a variant index with a LEB128 number and nothing behind it.
+    /// An integer or a variant index with a LEB128 number and nothing after it.
     Number,
     /// A text whose length is a LEB128 number.
     LongText,
@@ -138,7 +138,7 @@ pub(crate) struct Header {
     pub class: Class,
     /// The bytes of header and body, if the class is [`Class::Plain`].
     pub size: u8,
-    /// The bytes of text behind the header, if the class is [`Class::Plain`]: at most 14.
+    /// The bytes of text after the header, if the class is [`Class::Plain`]: at most 14.
     pub text: u8,
     /// The number of items, if the class is [`Class::Items`].
     pub items: u8,

@@ -5,7 +5,7 @@ use crate::error::ErrorKind;
 /// The high bits of four bytes: set on those that another byte follows.
 const MORE: u32 = 0x8080_8080;
 
-/// Reads the number at `at` and tells the offset behind it.
+/// Reads the number at `at`; returns it and the offset after it.
 ///
 /// The faults come in the order "TRUNC, then RANGE of the tenth byte, OVERLONG".
 #[inline]
@@ -66,7 +66,7 @@ pub(crate) const fn size(number: u64) -> usize {
     (70 - (number | 1).leading_zeros() as usize) / 7
 }
 
-/// Writes a number into the first bytes of `out`, which are as many as [`size`] tells.
+/// Writes a number into the first bytes of `out`, which are as many as [`size`] returns.
 #[inline(always)]
 pub(crate) fn write(out: &mut [u8], number: u64) {
     let byte = |index: u32| (number >> (7 * index)) as u8;

@@ -1,7 +1,7 @@
 //! A second program for Twine plan files, written from the papers alone.
 //!
 //! Documents 000 and 001 describe the format; document 01, "Build requirements and exact rules for plan files", decides. What
-//! stands in quotation marks in this crate is a sentence of document 01.
+//! is in quotation marks in this crate is a sentence of document 01.
 //!
 //! Nothing but [`model`] takes memory of its own: files, outputs and tables are lent by the caller.
 

@@ -1,4 +1,4 @@
-//! The reference model, document 01's "plain book": what a writer's calls mean, told without a state of offsets.
+//! The reference model, document 01's "plain book": what a writer's calls mean, stated without a state of offsets.
 //!
 //! "Demand 3's plain book is fed the calls with their arguments, and told beforehand only the lengths of output and table; it
 //! refuses by the order above, judged by its own bytes, starts, owed items and close." Bytes and starts are derived from the
@@ -205,7 +205,7 @@ impl Value {
         self.head.items() - self.items.len() as u128
     }
 
-    /// Appends the value's bytes behind those of the values before it.
+    /// Appends the value's bytes after those of the values before it.
     fn append_to(&self, bytes: &mut Vec<u8>) {
         for token in std::iter::once(&self.head).chain(&self.items) {
             bytes.extend(token.bytes(bytes.len()));
@@ -250,7 +250,7 @@ impl Token {
         }
     }
 
-    /// Its bytes "in the row's form", its header standing at `at`.
+    /// Its bytes "in the row's form", with its header at `at`.
     fn bytes(&self, at: usize) -> Vec<u8> {
         match self {
             Self::Scalar(low) => header(0, (*low).into()),

@@ -9,7 +9,7 @@ use crate::kind::{
 };
 use crate::token::{self, Token};
 
-/// A value as its header, its numbers and its fixed body tell it.
+/// A value as its header, its numbers and its fixed body describe it.
 #[derive(Clone, Copy, Debug, PartialEq, Eq)]
 pub enum Value {
     /// False, true or null.
@@ -78,7 +78,7 @@ pub enum Value {
     },
 }
 
-/// Where the body of a text or byte string stands.
+/// Where the body of a text or byte string is.
 #[derive(Clone, Copy, Debug, PartialEq, Eq)]
 pub struct Body {
     /// Its first offset.
@@ -90,7 +90,7 @@ pub struct Body {
 /// Where pointers lead.
 #[derive(Clone, Copy, Debug, PartialEq, Eq)]
 pub struct Followed {
-    /// The offset of the first value that is no pointer.
+    /// The offset of the first value that is not a pointer.
     pub offset: usize,
     /// The pointers met.
     pub hops: u64,
@@ -156,7 +156,7 @@ fn value(region: &[u8], token: Token) -> Value {
     }
 }
 
-/// Tells where the value at an offset ends.
+/// Where the value at an offset ends.
 ///
 /// "Skipping tells where the value ends and does examine items, but neither text nor targets beyond 0."
 pub fn skip(file: &[u8], at: u64) -> Result<usize, Error> {
@@ -183,7 +183,7 @@ fn start_of_item(region: &[u8], at: usize) -> Result<usize, Error> {
     }
 }
 
-/// Tells the offset of an item of the value at an offset, which is not followed.
+/// The offset of an item of the value at an offset, which is not followed.
 ///
 /// "`NO_ITEM` first; then the items before it are examined as skipping does; the item itself only has to start in the
 /// region (TRUNC)."
@@ -221,7 +221,7 @@ fn follow_in(region: &[u8], at: usize) -> Result<(Token, u64), Error> {
     Ok((token, hops))
 }
 
-/// Tells the offset of the value of a key in the map at an offset, which is not followed.
+/// The offset of the value of a key in the map at an offset, which is not followed.
 ///
 /// "Pair by pair the key is examined as skipping the map does (TRUNC and NESTED too), then followed; the first text key with
 /// equal bytes gives its value item's offset, which has to be in the region (TRUNC); else the value is examined likewise.

@@ -14,7 +14,7 @@
 //! ```
 //!
 //! Bytes are in hex, none of them are `-`; numbers are decimal, and one that is too large counts as the largest. A line that
-//! begins with `#` is its own answer, and a line that is no query is answered by `?`.
+//! begins with `#` is its own answer, and a line that is not a query is answered by `?`.
 
 mod calls;
 mod words;
@@ -31,7 +31,7 @@ const MOST_WORDS: u64 = 32;
 /// What each word of a table holds before it is lent.
 const JUNK_WORD: u32 = 0xaaaa_aaaa;
 
-/// A line's answer, behind the line itself.
+/// A line's answer, after the line itself.
 pub fn answer(line: &str) -> String {
     if line.starts_with('#') {
         return line.to_owned();
@@ -95,7 +95,7 @@ fn tokens(region: &[u8]) -> String {
     answer + "end"
 }
 
-/// A value's name and its numbers: n, the items, where they begin; of a body its first offset and its length.
+/// A value's name and its numbers: n, the items, where they begin; for a body its first offset and its length.
 fn value(value: &Value) -> String {
     match *value {
         Value::Scalar(Scalar::False) => "false".to_owned(),
@@ -144,7 +144,7 @@ fn table(words: &str) -> Option<Vec<u32>> {
     Some(vec![JUNK_WORD; number_of_words(words)?])
 }
 
-/// The words of a table, each behind a space.
+/// The words of a table, each after a space.
 fn list(words: &[u32]) -> String {
     words.iter().map(|word| format!(" {word}")).collect()
 }

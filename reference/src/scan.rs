@@ -16,7 +16,7 @@ const BLOCK: usize = 4096;
 /// Regions up to this length make do with a short table of blocks.
 const SMALL: usize = 16 * BLOCK;
 
-/// What an accepted file tells.
+/// What is found in an accepted file.
 #[derive(Clone, Copy, Debug, PartialEq, Eq)]
 pub struct Checked {
     /// The number of values of the row.
@@ -57,7 +57,7 @@ struct Row<'t> {
     starts: &'t mut [u32],
     /// How many of its words are in use.
     count: usize,
-    /// How many starts lie before each block; kept up to one behind `block`.
+    /// How many starts lie before each block; kept up to one after `block`.
     before: &'t mut [u32],
     /// The block of the last start.
     block: usize,
@@ -82,7 +82,7 @@ impl Row<'_> {
         let block = offset / BLOCK;
         let from = self.before[block] as usize;
         let to = self.before[block + 1] as usize;
-        // No range, if the block begins behind the last start.
+        // No range, if the block begins after the last start.
         let starts = self.starts.get(from..to)?;
         let index = starts.binary_search(&(offset as u32)).ok()?;
         Some(from + index)
@@ -179,7 +179,7 @@ fn quick_immediate<N: Note>(region: &[u8], at: usize, row: &Row<'_>, note: &mut 
     (end <= region.len()).then_some(end)
 }
 
-/// Ends the decision on a token: "`BAD_TEXT`, `BAD_TARGET`, then the items in order". Tells the items and where they begin.
+/// Ends the decision on a token: "`BAD_TEXT`, `BAD_TARGET`, then the items in order". Returns the items and where they begin.
 #[inline(always)]
 fn thorough<N: Note>(region: &[u8], token: Token, row: &Row<'_>, note: &mut N) -> Result<(u64, usize), Error> {
     if token.kind == TEXT && !utf8::is_text(&region[token.first..token.end]) {

@@ -4,7 +4,7 @@ use crate::error::{Error, ErrorKind};
 use crate::kind::{Body, KINDS, LONG, POINTER, REFERENCE};
 use crate::leb128;
 
-/// What a header and its numbers tell.
+/// What a header and its numbers say.
 #[derive(Clone, Copy, Debug, PartialEq, Eq)]
 pub struct Token {
     /// The offset of the header.
@@ -15,9 +15,9 @@ pub struct Token {
     pub n: u64,
     /// "Kinds 6, 7, 8, 11, 12 have n, 2n, 1, 1 and the argument count"; the others have none.
     pub items: u64,
-    /// The offset behind the numbers, where the body begins.
+    /// The offset after the numbers, where the body begins.
     pub first: usize,
-    /// The offset behind the body's bytes, where the items begin.
+    /// The offset after the body's bytes, where the items begin.
     pub end: usize,
 }
 
@@ -87,7 +87,7 @@ fn decide(region: &[u8], at: usize, header: u8, item: bool) -> Result<Token, Err
         }
         _ => (behind, 0),
     };
-    // The bytes left; a body of bytes or a count is held against them before it is used.
+    // The bytes left; a body of bytes or a count is compared with them before it is used.
     let left = (region.len() - first) as u64;
     let (bytes, items) = match kind.body {
         Body::None | Body::Target => (0, 0),
@@ -107,7 +107,7 @@ fn decide(region: &[u8], at: usize, header: u8, item: bool) -> Result<Token, Err
     Ok(Token { at, kind: high, n, items, first, end: first + bytes as usize })
 }
 
-/// The number of a header at `at`, and the offset behind it.
+/// The number of a header at `at`, and the offset after it.
 #[inline(always)]
 fn number(region: &[u8], at: usize, low: u8, most: u64) -> Result<(u64, usize), ErrorKind> {
     if low < LONG {

@@ -4,7 +4,7 @@
 /// The high bits of eight bytes.
 const HIGH: u64 = 0x8080_8080_8080_8080;
 
-/// Tells whether bytes are a text.
+/// Whether bytes are a text.
 #[inline]
 pub(crate) fn is_text(bytes: &[u8]) -> bool {
     is_plain(bytes) || is_mixed(bytes)
@@ -21,13 +21,13 @@ static FIRST: [u128; 16] = {
     first
 };
 
-/// Tells whether the first `length` of sixteen bytes are below 80; they are less than sixteen.
+/// Whether the first `length` of sixteen bytes are below 80; they are less than sixteen.
 #[inline(always)]
 pub(crate) fn begins_plain(bytes: &[u8; 16], length: u8) -> bool {
     u128::from_le_bytes(*bytes) & FIRST[usize::from(length % 16)] == 0
 }
 
-/// Tells whether all bytes are below 80, the last ones by a look that overlaps the one before.
+/// Whether all bytes are below 80, the last ones by a look that overlaps the one before.
 #[inline(always)]
 fn is_plain(bytes: &[u8]) -> bool {
     match (bytes.first_chunk::<8>(), bytes.last_chunk::<8>()) {
@@ -44,7 +44,7 @@ fn is_plain(bytes: &[u8]) -> bool {
     }
 }
 
-/// Tells whether bytes are a text, character by character, eight plain ones at a time.
+/// Whether bytes are a text, character by character, eight plain ones at a time.
 #[inline(never)]
 fn is_mixed(bytes: &[u8]) -> bool {
     let mut rest = bytes;

@@ -34,7 +34,7 @@ impl Writer {
         Self { written: 0, count: 0, pending: 0, start: 0, closed: false }
     }
 
-    /// Makes a call and tells the next state; "a refused call changes nothing".
+    /// Makes a call and returns the next state; "a refused call changes nothing".
     ///
     /// The refusals come in the order "`BAD_STATE`, CLOSED, OWED (opening or closing while items are owed), `BAD_TEXT`,
     /// `BAD_TARGET`, FULL (a new value only), `NO_ROOM`". "Accepted calls change only the bytes from old to new w and the
@@ -136,7 +136,7 @@ impl Writer {
         Ok(self.advance(size, start, pending, starts))
     }
 
-    /// Opens a value that owes `items`, or more than 64 bits tell if that is none.
+    /// Opens a value that owes `items`; `None` stands for more than 64 bits can count.
     #[inline(always)]
     fn open(
         self,
@@ -188,7 +188,7 @@ impl Writer {
         Ok(Self { written: last.written + 1, closed: true, ..last })
     }
 
-    /// Tells the items owed, if they and `size` bytes find room: "an opening is `NO_ROOM` if its bytes plus items owed
+    /// The items owed, if they and `size` bytes find room: "an opening is `NO_ROOM` if its bytes plus items owed
     /// exceed the room; an immediate if its bytes plus the items owed after it do."
     #[inline(always)]
     fn keep_room(&self, size: usize, items: Option<u64>, out: &[u8]) -> Result<u64, ErrorKind> {
@@ -211,7 +211,7 @@ impl Writer {
     }
 }
 
-/// Tells whether an offset below 16,777,216 is among the listed words.
+/// Whether an offset below 16,777,216 is among the listed words.
 ///
 /// In a table in rising order, as runs from a new writer have it, a word is found by bisection, near the end first: most
 /// targets are near. That no word is found so means nothing in another table; then all of them are looked at.
@@ -251,7 +251,7 @@ const fn head_size(n: u64) -> usize {
     }
 }
 
-/// Writes a header and its number into as many bytes as [`head_size`] tells.
+/// Writes a header and its number into as many bytes as [`head_size`] returns.
 #[inline(always)]
 fn write_head(head: &mut [u8], kind: u8, n: u64) {
     match head {

@@ -67,7 +67,7 @@ pub fn version() -> u32 {
     unsafe { declared::twine_abi_1() }
 }
 
-/// The letters of an error's name, and zeros behind them.
+/// The letters of an error's name, and zeros after them.
 #[allow(dead_code, reason = "the crate itself calls it in tests alone")]
 pub fn error_name(number: u32, name: &mut [u8; NAME]) -> u32 {
     // SAFETY: slices
@@ -106,7 +106,7 @@ pub fn item(file: &[u8], at: usize, index: usize, out: &mut [u64; 2]) -> u32 {
     unsafe { declared::twine_item(file.as_ptr(), file.len(), at, index, out.as_mut_ptr()) }
 }
 
-/// The offset of the value that is no pointer, and the pointers met.
+/// The offset of the value that is not a pointer, and the pointers met.
 pub fn follow(file: &[u8], at: usize, out: &mut [u64; 2]) -> u32 {
     // SAFETY: slices
     unsafe { declared::twine_follow(file.as_ptr(), file.len(), at, out.as_mut_ptr()) }
@@ -130,7 +130,7 @@ pub fn writer_new(state: &mut [u64; STATE]) -> u32 {
     unsafe { declared::twine_writer_new(state.as_mut_ptr()) }
 }
 
-/// The writer's functions: the state, what the call says, then the output and the table. Behind each, what it hands to C of what the call says.
+/// The writer's functions: the state, what the call says, then the output and the table. After each, how that is handed to C.
 macro_rules! writer {
     ($($name:ident is $function:ident($($argument:ident: $type:ty),*) of $($handed:expr),*;)*) => {$(
         #[inline(always)]

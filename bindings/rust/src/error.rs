@@ -22,7 +22,7 @@ pub enum ErrorKind {
     Nested = 7,
     /// A text that is not text.
     BadText = 8,
-    /// A reference or pointer to no value that ended before; of the writer, to no value finished.
+    /// A reference or pointer to something that is not a value that ended before; in the writer, not a finished value.
     BadTarget = 9,
     /// One value more than the table has words.
     Full = 10,
@@ -34,13 +34,13 @@ pub enum ErrorKind {
     NoItem = 13,
     /// The query does not fit the kind.
     WrongKind = 14,
-    /// Of the writer: the output has no room.
+    /// In the writer: the output has no room.
     NoRoom = 15,
-    /// Of the writer: the open value still has to get items.
+    /// In the writer: the open value still has to get items.
     Owed = 16,
-    /// Of the writer: already closed.
+    /// In the writer: already closed.
     Closed = 17,
-    /// Of the writer: a state that the output or the table does not fit. A [`Writer`](crate::Writer) never has one.
+    /// In the writer: a state that the output or the table does not fit. A [`Writer`](crate::Writer) never has one.
     BadState = 18,
 }
 
@@ -72,7 +72,7 @@ impl ErrorKind {
         self as u32
     }
 
-    /// The error of a number, or none where no error has it.
+    /// The error of a number, or none if no error has it.
     pub fn from_number(number: u32) -> Option<ErrorKind> {
         let index = number.checked_sub(1)?;
         Self::ALL.get(index as usize).copied()

@@ -16,7 +16,7 @@ fn always<T>(answer: Result<T, Error>) -> T {
 
 /// A file that was checked: every value and item in it can be read, and no pointer leads astray or around in a loop.
 ///
-/// It borrows the bytes and owns the list of offsets where the values start.
+/// It borrows the bytes and owns the list of the offsets at which the values start.
 #[derive(Clone)]
 pub struct File<'a> {
     bytes: &'a [u8],
@@ -25,7 +25,7 @@ pub struct File<'a> {
 }
 
 impl<'a> File<'a> {
-    /// Checks a file, or tells the first error from the left. While it checks it takes four bytes of memory for each byte of the file, and
+    /// Checks a file, or returns the first error from the left. While it checks, it takes four bytes of memory for each byte of the file, and
     /// keeps four for each value.
     ///
     /// ```
@@ -60,7 +60,7 @@ impl<'a> File<'a> {
         self.starts.len()
     }
 
-    /// The value where a reader starts.
+    /// The value at which a reader starts.
     pub fn entry(&self) -> Node<'a> {
         self.node(self.entry)
     }
@@ -70,14 +70,14 @@ impl<'a> File<'a> {
         self.starts.iter().map(|start| self.node(*start as usize))
     }
 
-    /// The value that starts at an offset, or none where none does. An item is no value of its own.
+    /// The value that starts at an offset, or none if none does. An item is not a value of its own.
     pub fn value_at(&self, offset: usize) -> Option<Node<'a>> {
         let start = u32::try_from(offset).ok()?;
         self.starts.binary_search(&start).ok()?;
         Some(self.node(offset))
     }
 
-    /// How deep each value is, in file order: the number of values on the longest way from it along pointers and references, itself
+    /// How deep each value is, in file order: the number of values on the longest path from it along pointers and references, itself
     /// counted.
     ///
     /// ```
@@ -154,9 +154,9 @@ impl<'a> Node<'a> {
         self.to(always(query::follow(self.file, self.at)).0)
     }
 
-    /// Its items, keys and values of a map by turns. Going through all of them takes time with their bytes.
+    /// Its items; for a map, keys and values alternate. Going through all of them takes time in proportion to their bytes.
     ///
-    /// WRONG_KIND where it has none by its kind. It is not followed.
+    /// WRONG_KIND if its kind has none. It is not followed.
     pub fn items(self) -> Result<Items<'a>, Error> {
         let token = query::read(self.file, self.at)?;
         if token.kind.has_items() {
@@ -166,16 +166,16 @@ impl<'a> Node<'a> {
         }
     }
 
-    /// An item by its index. It takes time with the items before it; [`items`](Node::items) is better for all.
+    /// An item by its index. Its time grows with the items before it; [`items`](Node::items) is better for all.
     ///
-    /// NO_ITEM at or past the count, WRONG_KIND where it has none by its kind. It is not followed.
+    /// NO_ITEM at or past the count, WRONG_KIND if its kind has none. It is not followed.
     pub fn item(self, index: usize) -> Result<Node<'a>, Error> {
         Ok(self.to(query::item(self.file, self.at, index)?))
     }
 
-    /// The value of a key in a map: of the first pair whose key, followed, is a text of these bytes.
+    /// The value of a key in a map: that of the first pair whose key, followed, is a text of these bytes.
     ///
-    /// NO_ITEM where no key is it, WRONG_KIND where this is no map. It is not followed.
+    /// NO_ITEM if there is no such key, WRONG_KIND if this is not a map. It is not followed.
     pub fn lookup(self, key: impl AsRef<[u8]>) -> Result<Node<'a>, Error> {
         Ok(self.to(query::lookup(self.file, self.at, key)?))
     }
@@ -194,7 +194,7 @@ impl<'a> Node<'a> {
 
     /// The bytes of the text or byte string that it is or that pointers lead to.
     ///
-    /// WRONG_KIND where they lead to another kind.
+    /// WRONG_KIND if they lead to another kind.
     pub fn body(self) -> Result<&'a [u8], Error> {
         query::body(self.file, self.at)
     }
@@ -253,7 +253,7 @@ pub enum Value<'a> {
 /// The items of a value, in order.
 #[derive(Clone, Debug)]
 pub struct Items<'a> {
-    /// The next item; where none is left, without meaning.
+    /// The next item; without meaning if none is left.
     next: Node<'a>,
     left: usize,
 }

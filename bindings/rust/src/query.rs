@@ -1,6 +1,6 @@
 //! Queries at any offset of any bytes, checked or not.
 //!
-//! Each answers or tells an error. First come EMPTY, TOO_LONG and OUTSIDE, then the value's own errors. Of a checked file,
+//! Each returns an answer or an error. First come EMPTY, TOO_LONG and OUTSIDE, then the value's own errors. On a checked file,
 //! [`Node`](crate::Node) asks them.
 //!
 //! ```
@@ -74,7 +74,7 @@ impl Kind {
         }
     }
 
-    /// Whether a value of the kind has items. Such a value is no item itself.
+    /// Whether a value of the kind has items. Such a value is not an item itself.
     pub const fn has_items(self) -> bool {
         matches!(self, Kind::Array | Kind::Map | Kind::Tag | Kind::Variant1 | Kind::VariantN)
     }
@@ -102,7 +102,7 @@ pub struct Token {
     pub kind: Kind,
     /// By the kind, see the table.
     pub number: u64,
-    /// The offset just after the numbers: where the body starts, or the first item would.
+    /// The offset just after the numbers, at which the body starts, or the first item would.
     pub first: usize,
     /// By the kind, see the table.
     pub count: usize,
@@ -114,19 +114,19 @@ pub fn read(file: &[u8], at: usize) -> Result<Token, Error> {
     Ok(Token { kind: Kind::from_number(kind), number, first: first as usize, count: count as usize })
 }
 
-/// Tells the offset just after the value at `at`. Its items are read too.
+/// The offset just after the value at `at`. Its items are read too.
 pub fn skip(file: &[u8], at: usize) -> Result<usize, Error> {
     Ok(sys::skip(file, at)?[0] as usize)
 }
 
-/// Tells the offset of an item of the value at `at`, which is not followed; keys and values of a map by turns.
+/// The offset of an item of the value at `at`, which is not followed; for a map keys and values alternate.
 ///
-/// NO_ITEM of an index at or past the count, WRONG_KIND of a kind without items. It takes time with the items before it.
+/// NO_ITEM for an index at or past the count, WRONG_KIND for a kind without items. Its time grows with the items before it.
 pub fn item(file: &[u8], at: usize, index: usize) -> Result<usize, Error> {
     Ok(sys::item(file, at, index)?[0] as usize)
 }
 
-/// Follows pointers from the value at `at` to one that is no pointer: its offset, and how many pointers were met.
+/// Follows pointers from the value at `at` to one that is not a pointer: its offset, and how many pointers were met.
 ///
 /// References are not followed.
 pub fn follow(file: &[u8], at: usize) -> Result<(usize, usize), Error> {
@@ -134,17 +134,17 @@ pub fn follow(file: &[u8], at: usize) -> Result<(usize, usize), Error> {
     Ok((at as usize, met as usize))
 }
 
-/// Tells the offset of a key's value in the map at `at`, which is not followed: of the first pair whose key, followed, is a text of these
+/// The offset of a key's value in the map at `at`, which is not followed: that of the first pair whose key, followed, is a text of these
 /// bytes.
 ///
-/// NO_ITEM where no key is it, WRONG_KIND of another kind than a map.
+/// NO_ITEM if there is no such key, WRONG_KIND for another kind than a map.
 pub fn lookup(file: &[u8], at: usize, key: impl AsRef<[u8]>) -> Result<usize, Error> {
     Ok(sys::lookup(file, at, key.as_ref())?[0] as usize)
 }
 
-/// The bytes of the text or byte string that the value at `at` is or that pointers lead to. They are not examined to be text.
+/// The bytes of the text or byte string that the value at `at` is or that pointers lead to. They are not checked to be text.
 ///
-/// WRONG_KIND where they lead to another kind.
+/// WRONG_KIND if they lead to another kind.
 pub fn body(file: &[u8], at: usize) -> Result<&[u8], Error> {
     let [first, len] = sys::body(file, at)?;
     Ok(&file[first as usize..][..len as usize])

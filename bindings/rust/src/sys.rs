@@ -1,4 +1,4 @@
-//! What the archive answers, as the crate tells it: an error by its kind, and where it has one its place.
+//! What the archive answers, as the crate returns it: an error by its kind, with its place if it has one.
 
 use crate::c;
 use crate::error::{Error, ErrorKind};
@@ -27,7 +27,7 @@ fn ask<const N: usize>(question: impl FnOnce(&mut [u64; N]) -> u32) -> Result<[u
     }
 }
 
-/// The letters of an error's name, and zeros behind them.
+/// The letters of an error's name, and zeros after them.
 #[cfg(test)]
 pub(crate) fn error_name(number: u32) -> [u8; c::NAME] {
     let mut name = [0; c::NAME];
@@ -60,7 +60,7 @@ pub(crate) fn item(file: &[u8], at: usize, index: usize) -> Result<[u64; 2], Err
     ask(|out| c::item(file, at, index, out))
 }
 
-/// The offset of the value that is no pointer, and the pointers met.
+/// The offset of the value that is not a pointer, and the pointers met.
 pub(crate) fn follow(file: &[u8], at: usize) -> Result<[u64; 2], Error> {
     ask(|out| c::follow(file, at, out))
 }

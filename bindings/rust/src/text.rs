@@ -7,7 +7,7 @@ use std::str::Utf8Error;
 /// The bytes of a text.
 ///
 /// The format's rule for text lets some bytes pass that are not UTF-8: surrogates, and three- and four-byte forms that are longer than
-/// need be or beyond U+10FFFF. So a text is bytes first, and a `str` where it can be one.
+/// need be or beyond U+10FFFF. So a text is bytes first, and a `str` if it can be one.
 ///
 /// ```
 /// use twine::{File, Value};
@@ -27,7 +27,7 @@ impl<'a> Text<'a> {
         self.0
     }
 
-    /// The text as a `str`, where it is UTF-8.
+    /// The text as a `str`, if it is UTF-8.
     pub fn to_str(self) -> Result<&'a str, Utf8Error> {
         std::str::from_utf8(self.0)
     }

@@ -11,10 +11,10 @@ use crate::LIMIT;
 ///
 /// A call writes an immediate (a scalar, integer, float, text, byte string, variant without arguments, reference or pointer) or opens a
 /// value with items (an array, map, tag or variant with arguments). The items are the next immediates, as many as said; immediates outside
-/// are values of their own. Each call tells the offset where it wrote.
+/// are values of their own. Each call returns the offset at which it wrote.
 ///
 /// A reference or pointer takes the offset of a finished value; so does [`close`](Writer::close), which ends the file. Offsets of items are
-/// no targets.
+/// not targets.
 ///
 /// A refused call changes nothing, and the writer can be used further. Its errors have no place.
 ///
@@ -99,7 +99,7 @@ impl Writer {
         self.text_bytes(text.as_bytes())
     }
 
-    /// Writes a text, by its bytes. BAD_TEXT where the format does not take them for text; see [`Text`](crate::Text).
+    /// Writes a text, by its bytes. BAD_TEXT if the format does not take them for text; see [`Text`](crate::Text).
     pub fn text_bytes(&mut self, text: &[u8]) -> Result<usize, Error> {
         self.call(Call::Text(text))
     }
@@ -114,12 +114,12 @@ impl Writer {
         self.call(Call::Variant(index))
     }
 
-    /// Writes a reference to a finished value. BAD_TARGET where none starts at `target`.
+    /// Writes a reference to a finished value. BAD_TARGET if none starts at `target`.
     pub fn reference(&mut self, target: usize) -> Result<usize, Error> {
         self.call(Call::Reference(target))
     }
 
-    /// Writes a pointer to a finished value. BAD_TARGET where none starts at `target`.
+    /// Writes a pointer to a finished value. BAD_TARGET if none starts at `target`.
     pub fn pointer(&mut self, target: usize) -> Result<usize, Error> {
         self.call(Call::Pointer(target))
     }
@@ -129,7 +129,7 @@ impl Writer {
         self.call(Call::OpenArray(items))
     }
 
-    /// Opens a map. Its items are two for each pair, key and value by turns.
+    /// Opens a map. Its items are two for each pair, keys and values alternating.
     pub fn open_map(&mut self, pairs: u64) -> Result<usize, Error> {
         self.call(Call::OpenMap(pairs))
     }
@@ -150,9 +150,9 @@ impl Writer {
     }
 
     /// Ends the file and hands out its bytes. The entry is the finished value that starts at `entry`, or a pointer to it, which is added
-    /// where the last byte does not reach back so far.
+    /// if the last byte does not reach back to it.
     ///
-    /// OWED while items are pending, BAD_TARGET where no finished value starts at `entry`. Every later call is CLOSED.
+    /// OWED while items are pending, BAD_TARGET if no finished value starts at `entry`. Every later call is CLOSED.
     pub fn close(&mut self, entry: usize) -> Result<Vec<u8>, Error> {
         self.call(Call::Close(entry))?;
         let mut file = mem::take(&mut self.out);
@@ -174,7 +174,7 @@ impl Writer {
         self.state[1] as usize
     }
 
-    /// How many items the open value still has to get, 0 where none is open.
+    /// How many items the open value still has to get, 0 if none is open.
     pub fn pending(&self) -> u64 {
         self.state[2]
     }
@@ -184,8 +184,8 @@ impl Writer {
         self.state[4] != 0
     }
 
-    /// Makes a call, again with more memory where it is short of it: a refused call has changed nothing, and what is added lies behind all
-    /// that the writer has written.
+    /// Makes a call, and again with more memory if it had too little: a refused call has changed nothing, and the memory is added after
+    /// all that the writer has written.
     fn call(&mut self, call: Call<'_>) -> Result<usize, Error> {
         let at = self.state[0] as usize;
         loop {
@@ -214,7 +214,7 @@ fn room(call: Call<'_>) -> usize {
     }
 }
 
-/// Makes a memory at least twice as long, and longer by `more`, as far as the limit lets; false where it has the limit already.
+/// Makes a memory at least twice as long, and longer by `more`, as far as the limit lets; false if it is at the limit already.
 fn grow<T: Clone + Default>(memory: &mut Vec<T>, more: usize) -> bool {
     let len = memory.len();
     let wanted = len.max(32).saturating_mul(2).max(len.saturating_add(more));

@@ -3,7 +3,7 @@
 //! A call is a letter and its arguments: `f` `t` `n` (false, true, null); `iZ` `sBITS` `dBITS` (an integer, the bits of a
 //! float32 and of a float64); `"HEX` `#HEX` `zN` (a text, bytes, N zero bytes); `vINDEX` `rAT` `pAT` (a variant without an
 //! argument, a reference, a pointer); `aN` `mN` `gTAG` `oINDEX` `xINDEX,N` (open an array, a map, a tag, a variant of one and
-//! of N); `cAT` (close). With `@ROOM,WORDS` behind it a call is lent no more than those bytes and words.
+//! of N); `cAT` (close). With `@ROOM,WORDS` after it a call is lent no more than those bytes and words.
 
 use reference::{check, Call, Scalar, Writer};
 
@@ -66,7 +66,7 @@ impl Lent {
     }
 }
 
-/// Tells whether anything but the part from one offset to another has changed.
+/// Whether anything but the part from one offset to another has changed.
 fn has_strayed<T: PartialEq>(old: &[T], new: &[T], from: u64, to: u64) -> bool {
     let (from, to) = (from as usize, to as usize);
     old[..from] != new[..from] || old[to..] != new[to..]

@@ -36,7 +36,7 @@ pub fn parse_hex(word: &str) -> Option<Vec<u8>> {
     rest.is_empty().then(|| pairs.iter().map(|[high, low]| high << 4 | low).collect())
 }
 
-/// Bytes as hex behind a space, if there are any.
+/// Bytes as hex after a space, if there are any.
 pub fn hex(bytes: &[u8]) -> String {
     let mut hex = String::new();
     if !bytes.is_empty() {

@@ -9,7 +9,7 @@ use crate::rewrite::calls_of;
 const JUNK_BYTE: u8 = 0xaa;
 const JUNK_WORD: u32 = 0xaaaa_aaaa;
 
-/// Feeds both the same calls, and tells the refusals met.
+/// Feeds both the same calls, and returns the refusals met.
 fn compare(random: &mut Random, room: usize, words: usize, calls: usize) -> Vec<ErrorKind> {
     let mut out = vec![JUNK_BYTE; room];
     let mut starts = vec![JUNK_WORD; words];

@@ -11,7 +11,7 @@ const DECLARED: &str = include_str!("../../src/c.rs");
 /// Functions by name, each with the types of its parameters and its answer as Rust spells them.
 type Functions = BTreeMap<String, (Vec<String>, bool)>;
 
-/// The text between the first `from` and the next `to` behind it.
+/// The text between the first `from` and the next `to` after it.
 fn between<'a>(text: &'a str, from: &str, to: &str) -> &'a str {
     let rest = text.split_once(from).expect(from).1;
     rest.split_once(to).expect(to).0
