@@ -3,6 +3,6 @@ pub mod Laws
 -- how many bytes `put` yields
 pub mod Sizes
 -- the steps of `get`, as the code takes them
-pub mod Steps
+mod Steps
 -- the definitions on examples
 mod Samples

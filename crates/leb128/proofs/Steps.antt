@@ -1,6 +1,6 @@
 -- The steps of `get`, as the code takes them: on a list known by its first element, with the bytes left counted.
 --
--- In order: each way through `get_from`; what is read has room for the bits below it.
+-- In order: each way through `get_from` and `get`; what is read has room for the bits below it.
 use mathlib.Core.Path.{_≡_, refl}
 use mathlib.Core.List.{List, [], _∷_}
 use Prim.Native.Nat.{ℕ, zero, suc, _-_, _*_, _+_, _%_, _^_, _<_, _≤_}
@@ -9,9 +9,9 @@ use native.Mathlib.Numerals.{sub-one}
 use native.Mathlib.Omega.{arith}
 use lib.Dec.{ltb, lit<}
 use lib.ListN.{length, getD, drop}
-use borrow.Author.Tests.{lt-ltb, le-ltb}
+use borrow.Author.Tests.{lt-ltb, le-ltb, le-leb}
 use Rattle.prelude.specs.Pick.{pick}
-use Rattle.prelude.specs.Answer.{Res, got, bad, then, error, measured}
+use Rattle.prelude.specs.Answer.{Res, got, bad, then, ok, error, measured}
 use Rattle.prelude.proofs.Tests.{split}
 use Rattle.prelude.proofs.Readers.{measured-guard, measured-ok}
 use Rattle.error.specs.Error.{TRUNC}
@@ -48,6 +48,15 @@ get-step zero least (b ∷ s) ne nk = absurd (nk refl)
 get-step (suc k) least (b ∷ s) ne nk =
     rw (sub-one (suc k), sub-one (suc (length s)))
     (split b 128 (λ small. rw (lt-ltb b 128 small, measured-guard)) (λ large. rw (le-ltb b 128 large, raised-then)))
+
+-- the first byte: the last one, or followed by more
+module _ (s : List ℕ) (pos : 0 < length s) where
+  pub get-one : getD s 0 0 < 128 → ok (getD s 0 0, length s - 1) ≡ measured (get 9 0 s)
+  unfolding last
+  get-one h = rw (get-step 9 0 s (λ e. omega arith) (λ e. omega arith), lt-ltb _ _ h, le-leb 0 (getD s 0 0) (omega arith))
+
+  pub get-more : 128 ≤ getD s 0 0 → measured (get 9 0 s) ≡ raised (getD s 0 0 % 128) 128 (measured (get 8 1 (drop 1 s)))
+  get-more h = rw (get-step 9 0 s (λ e. omega arith) (λ e. omega arith), le-ltb _ _ h)
 
 -- with at most j bytes after the first
 pub get-small : (k least : ℕ) (s : List ℕ) (r : GetResult) → answerOf r ≡ measured (get k least s) → (j : ℕ) → k ≤ j → valueOf r < 2 * 128 ^ j

@@ -18,34 +18,29 @@ pub enum GetResult {
     Err(ErrorKind),
 }
 
-fn wide(b: u8) -> u64
-    ensures { λ r. ⌜ r ≡ b ⌝ }
+// A last byte after others.
+fn last_byte(b: u8, left: usize) -> GetResult
+    ensures { λ r. ⌜ answerOf r ≡ last 1 b left ⌝ }
 {
-    b as u64
-}
-
-// A last byte, which must be at least `least`: 0 if it is also the first byte, else 1.
-fn last_byte(b: u8, least: u8, left: usize) -> GetResult
-    ensures { λ r. ⌜ answerOf r ≡ last least b left ⌝ }
-{
-    // OVERLONG: a last byte of 0 after others
-    if b < least {
+    // OVERLONG: it is 0
+    if b < 1 {
         return GetResult::Err(ErrorKind::Overlong);
     }
     GetResult::Ok {
-        value: wide(b),
+        value: b as u64,
         left,
     }
 }
 
-fn tenth_byte(b: u8, least: u8, left: usize) -> GetResult
-    ensures { λ r. ⌜ answerOf r ≡ tenth least b left ⌝ }
+// The tenth byte.
+fn tenth_byte(b: u8, left: usize) -> GetResult
+    ensures { λ r. ⌜ answerOf r ≡ tenth 1 b left ⌝ }
 {
-    // RANGE: the tenth byte is over 1
+    // RANGE: it is over 1
     if 1 < b {
         return GetResult::Err(ErrorKind::Range);
     }
-    last_byte(b, least, left)
+    last_byte(b, left)
 }
 
 // The answer `high` with its number times `unit`, plus `low`.
@@ -62,10 +57,10 @@ fn with_low(low: u64, unit: u64, high: GetResult) -> GetResult
     }
 }
 
-// Reads a number that may have k bytes after its first.
-fn get_from(s: &[u8], k: usize, least: u8) -> GetResult
-    requires { ⌜ k ≤ 9 ⌝ }
-    ensures { λ r. ⌜ answerOf r ≡ measured (get k least (now (s .entry))) ⌝ }
+// Reads the rest of a number after a continuation byte: a byte, and at most k after it, which it calls itself on.
+fn get_from(s: &[u8], k: usize) -> GetResult
+    requires { ⌜ k ≤ 8 ⌝ }
+    ensures { λ r. ⌜ answerOf r ≡ measured (get k 1 (now (s .entry))) ⌝ }
 {
     // TRUNC: a byte is wanted at the end
     if s.len() == 0 {
@@ -74,19 +69,31 @@ fn get_from(s: &[u8], k: usize, least: u8) -> GetResult
     let b = s[0];
     let left = s.len() - 1;
     if k == 0 {
-        return tenth_byte(b, least, left);
+        return tenth_byte(b, left);
     }
     if b < 128 {
-        return last_byte(b, least, left);
+        return last_byte(b, left);
     }
-    with_low((b % 128) as u64, 128, get_from(&s[1..], k - 1, 1))
+    with_low((b % 128) as u64, 128, get_from(&s[1..], k - 1))
 }
 
-// Reads the number at the front of s.
+// Reads the number at the front of s, of at most ten bytes. A number of one byte is read here, in code that is short
+// enough to be inlined; after a continuation byte `get_from` reads the rest.
 pub fn get(s: &[u8]) -> GetResult
     ensures { λ r. ⌜ answerOf r ≡ measured (get 9 0 (now (s .entry))) ⌝ }
 {
-    get_from(s, 9, 0)
+    if 0 < s.len() {
+        let b = s[0];
+        if b < 128 {
+            return GetResult::Ok {
+                value: b as u64,
+                left: s.len() - 1,
+            };
+        }
+        return with_low((b % 128) as u64, 128, get_from(&s[1..], 8));
+    }
+    // TRUNC: the first byte is wanted at the end
+    GetResult::Err(ErrorKind::Trunc)
 }
 
 // How many bytes n takes.

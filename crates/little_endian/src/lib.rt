@@ -1,4 +1,4 @@
-// Numbers as little-endian bytes: the bits of floats (document 01, "Row of a file", the body of kind 3), and words of a file.
+// Numbers as little-endian bytes: the bits of floats (document 01, "Row of a file", the body of kind 3).
 ghost use mathlib.Core.Path.{_≡_};
 ghost use mathlib.Core.List.{[], _∷_};
 ghost use Prim.Native.Nat.{_^_, _<_};

@@ -63,7 +63,7 @@ pub fn scan(region: &[u8], at: usize, inner: bool) -> ScanResult
             let first = len - left;
             // items that a second number counts, and no body
             if rule.args {
-                return match leb128_word::get_wide(&region[first..]) {
+                return match leb128::get(&region[first..]) {
                     GetResult::Ok { value, left } => {
                         // TRUNC: the items exceed the bytes left
                         if (left as u64) < value {

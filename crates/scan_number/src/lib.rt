@@ -21,7 +21,7 @@ pub fn number(low: u8, most: u64, s: &[u8]) -> GetResult
             left: s.len(),
         };
     }
-    match leb128_word::get(s) {
+    match leb128::get(s) {
         GetResult::Ok { value, left } => {
             // RANGE: n is over its kind's bound
             if most - kind::EXTENDED < value {

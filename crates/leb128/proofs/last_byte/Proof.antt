@@ -1,5 +1,4 @@
 -- `leb128::last_byte` meets its contract.
-use borrow.Author.Tests.{le-leb}
 use Rattle.prelude.proofs.Tests.{ladder}
 use Rattle.leb128.specs.Internal.{last}
 use Rattle.leb128.proofs.last_byte.Statement.{statement}
@@ -7,4 +6,4 @@ use Rattle.leb128.proofs.last_byte.Tie as tie
 
 pub last-byte-spec : {M : Type 1} → statement M
 unfolding last
-last-byte-spec = tie.close (tie.spec (λ c. search ladder) (λ c κs. search ladder) (λ c. rw (le-leb _ _ (c .before .if1 .left), c .wide .ensures)))
+last-byte-spec = tie.close (tie.spec (λ c. search ladder) (λ c. search ladder))

@@ -50,12 +50,12 @@ number w = first (read w) _ (w .before .value .given .1)
 left-lt : (w : tie.After-known-told) → left w < 2 ^ 63
 left-lt w = omega (arith, number w .short, start (read w) .good .0 .1)
 
-second : (c : tie.After-get-wide) (x : GetResult) → c .get-wide .result ≡ x → let w = c .before .before .before in
+second : (c : tie.After-get) (x : GetResult) → c .get .result ≡ x → let w = c .before .before .before in
     let a = start (read w) .args in
     Counted (a .inner) (a .region .now) (a .at) (getD (a .region .now) (a .at) 0 / 16) (n w) x
 second c x is =
     let e = c .before .before in
-    scan-second (number (e .before)) (e .if4 .taken) (c .get-wide .result) x (rw part-from at (c .get-wide .ensures)) is
+    scan-second (number (e .before)) (e .if4 .taken) (c .get .result) x (rw part-from at (c .get .ensures)) is
 
 -- the place after n, if there is no second number
 abbrev alone : tie.After-has-room → tie.Else4

@@ -1,2 +1,0 @@
--- several bytes at once
-pub mod Internal
