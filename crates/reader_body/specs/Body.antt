@@ -6,7 +6,11 @@
 --   bodyPlaceOf file at  the same in a file; it begins with `inRegion`: EMPTY, TOO_LONG, OUTSIDE
 --   bodyPart file a      the bytes at such a place; none on an error
 --   bodyOf file at       the bytes of the body that `at` leads to; none on an error
-use Prim.Native.Nat.{ℕ, _-_}
+--   Placed whole a part  a part of a file starts at such a place: `whole` and `part` are where file and part start in
+--                        memory, a block and an offset in it. Where the empty part of an error starts is left free, as
+--                        document 01 leaves it
+use Prim.Native.Nat.{ℕ, _+_, _-_}
+use mathlib.Core.Path.{_≡_}
 use mathlib.Core.Bool.{_||_}
 use mathlib.Core.List.{List, []}
 use lib.Dec.{eqb}
@@ -33,3 +37,7 @@ bodyPart file (error e) = []
 
 abbrev pub bodyOf : List ℕ → ℕ → List ℕ
 bodyOf file at = bodyPart file (bodyPlaceOf file at)
+
+abbrev pub Placed : ℕ × ℕ → Answer Fault (ℕ × ℕ) → ℕ × ℕ → Type 0
+Placed whole (ok p) part = part ≡ (whole .0, p .0 + whole .1)
+Placed whole (error e) part = Unit {0}

@@ -5,7 +5,7 @@ use reader_follow::FollowHeadResult;
 use scan::Head;
 ghost use mathlib.Core.Path.{_≡_};
 ghost use Prim.Native.Nat.{_≤_};
-ghost use Rattle.reader_body.specs.Body.{bodyPlaceOn, bodyPlaceOf, bodyOf};
+ghost use Rattle.reader_body.specs.Body.{bodyPlaceOn, bodyPlaceOf, bodyOf, Placed};
 ghost use Rattle.reader_body.specs.Answers.{bodyAnswer};
 
 // The answer of `body_place`.
@@ -44,15 +44,15 @@ pub fn body_place(file: &[u8], at: usize) -> BodyResult
     }
 }
 
-// The same as a part of the file; no bytes on an error, which `body_place` reports.
+// The same as the part of the file that lies there; no bytes on an error, which `body_place` reports.
 pub fn body(file: &[u8], at: usize) -> &[u8]
-    ensures { λ r. ⌜ now r ≡ bodyOf (now (file .entry)) at ⌝ }
+    ensures { λ r. ⌜ Placed (file .entry .ptr) (bodyPlaceOf (now (file .entry)) at) (r .ptr) × (now r ≡ bodyOf (now (file .entry)) at) ⌝ }
 {
     match body_place(file, at) {
         BodyResult::Ok { first, len } => {
             let end = first + len;
             &file[first..end]
         }
-        BodyResult::Err(e) => &file[..0],
+        BodyResult::Err(e) => &file[0..0],
     }
 }

@@ -1,4 +1,5 @@
 -- `reader_body::body` meets its contract: the part that `body_place` names is in the file.
+use mathlib.Core.Path.{refl}
 use native.Mathlib.Omega.{arith}
 use borrow.Author.Needs.{needs}
 use Rattle.reader_body.proofs.Laws.{body-within, body-part, body-none}
@@ -14,8 +15,14 @@ body-spec =
     (λ c. omega (arith, body-within _ _ _ _ (rw (c .before .first .given .1) at (c .before .before .before .body-place .ensures))))
     (λ c. search needs)
     (λ c. search needs)
-    (λ c. body-within _ _ _ _ (rw (c .before .first .given .1) at (c .before .before .before .body-place .ensures)))
+    (λ c. omega (arith, body-within _ _ _ _ (rw (c .before .first .given .1) at (c .before .before .before .body-place .ensures))))
     (λ c. search needs)
     (λ c. search needs)
-    (λ c. let t = c .before .before in body-part _ _ _ _ (rw (t .first .given .1) at (t .before .before .body-place .ensures)))
-    (λ c. let t = c .before .before in body-none _ _ _ (rw (t .e .given .1) at (t .before .before .body-place .ensures))))
+    (λ c. search needs)
+    (λ c. search needs)
+    (λ c. let t = c .before .before in
+    let e = rw (t .first .given .1) at (t .before .before .body-place .ensures) in
+    (rw (← e) refl, body-part _ _ _ _ e))
+    (λ c. let t = c .before .before in
+    let e = rw (t .e .given .1) at (t .before .before .body-place .ensures) in
+    (rw (← e) tt, body-none _ _ _ e)))
