@@ -1,17 +1,19 @@
--- Laws of lookup: bytes compared; pairs one after the other.
-use mathlib.Core.Path.{_≡_, refl, ap}
+-- Laws of lookup: bytes held against each other, and that it is equality (`same-is`); pairs one after the other.
+use mathlib.Core.Path.{_≡_, refl, ap, subst}
+use mathlib.Core.Logic.{_↔_}
 use Prim.Native.Nat.{ℕ, zero, suc, _+_, _-_, _≤_, _<_}
-use mathlib.Core.Bool.{Bool, true, false, _&&_}
+use mathlib.Core.Bool.{Bool, true, false, _&&_, false≢true}
 use mathlib.Core.List.{List, [], _∷_}
 use native.Mathlib.Nat.{not-suc-le-zero}
 use native.Mathlib.Numerals.{sub-one, add-one}
 use lib.Dec.{eqb}
 use lib.ListN.{length, drop, getD, drop-of-length-le}
 use lib.Seq.{drop-cons}
-use borrow.Author.Tests.{eq-eqb, ne-eqb}
+use borrow.Author.Tests.{eq-eqb, ne-eqb, eqb-true}
 use Rattle.prelude.specs.Pick.{pick}
 use Rattle.prelude.specs.Loop.{Turn, go, stop, follow}
 use Rattle.prelude.specs.Answer.{Answer, ok, error, bind}
+use Rattle.prelude.proofs.Tests.{and-l, and-r}
 use Rattle.error.specs.Error.{Fault, fault, NO_ITEM}
 use Rattle.reader_lookup.specs.Lookup.{same, pairs}
 use Rattle.reader_lookup.specs.Internal.{orStop, pairOf}
@@ -43,6 +45,21 @@ module _ (a b : List ℕ) (i : ℕ) (ia : i < length a) (ib : i < length b) wher
 pub same-all : (a b : List ℕ) (i : ℕ) → length a ≤ i → length b ≤ i → true ≡ same (drop i a) (drop i b)
 unfolding same
 same-all a b i ia ib = rw (drop-of-length-le a {i = i} ia, drop-of-length-le b {i = i} ib)
+
+same-self : (a : List ℕ) → same a a ≡ true
+unfolding same
+same-self [] = refl
+same-self (x ∷ a) = rw (eq-eqb x x refl) (same-self a)
+
+same-by : (a b : List ℕ) → same a b ≡ true → a ≡ b
+unfolding same
+same-by [] [] e = refl
+same-by [] (y ∷ b) e = absurd (false≢true e)
+same-by (x ∷ a) [] e = absurd (false≢true e)
+same-by (x ∷ a) (y ∷ b) e = rw (eqb-true x y (and-l (eqb x y) (same a b) e), same-by a b (and-r (eqb x y) (same a b) e))
+
+pub same-is : (a b : List ℕ) → (same a b ≡ true) ↔ (a ≡ b)
+same-is a b = (same-by a b, λ e. subst (λ c. same a c ≡ true) e (same-self a))
 
 -- ---- pairs
 

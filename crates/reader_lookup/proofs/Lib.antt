@@ -1,2 +1,2 @@
--- laws of pairs, and of bytes compared
-mod Laws
+-- laws of pairs, and of bytes held against each other
+pub mod Laws
