@@ -4,7 +4,7 @@
 -- (`scanAt-emit`), and what is read at an offset is what would be emitted there, with the bytes from `first` to `end`
 -- as its body (`emit-scanAt`); an item also reads as a value (`scanAt-item`).
 use mathlib.Core.Path.{_≡_, refl, sym, ap, _∙_}
-use Prim.Native.Nat.{ℕ, suc, _+_, _-_, _≤_, _<_}
+use Prim.Native.Nat.{ℕ, suc, _+_, _-_, _*_, _≤_, _<_}
 use mathlib.Core.Bool.{Bool, true, false}
 use mathlib.Core.List.{List, _++_}
 use native.Mathlib.Omega.{arith}
@@ -30,6 +30,7 @@ pub record Within (s : List ℕ) (at : ℕ) (h : Head) : Type 0 where
   pub items : h .items ≤ suc (length s - h .end)
   pub used : 0 < rule (h .kind) .lows
   pub most : h .n ≤ rule (h .kind) .most
+  pub counted : rule (h .kind) .args ≡ false → h .items ≡ rule (h .kind) .single + rule (h .kind) .each * h .n
 
 seen-bad : {X : Type 0} (len : ℕ) (h : Head) (f : Fault) → ok h ≡ headOf len (bad f) → X
 unfolding headOf
@@ -55,6 +56,7 @@ within-left s at h (got t rest) left e =
       items = omega (arith, l .after, l .count);
       used = l .used;
       most = l .most;
+      counted = λ f. rw (l .alone f) (omega arith);
     })
 within-left s at h (bad f) left e = seen-bad (length s) h f e
 

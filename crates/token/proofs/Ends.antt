@@ -45,14 +45,22 @@ number-short : (at : ℕ) (w : Bool) (s : List ℕ) (v : ℕ) (rest : List ℕ) 
 unfolding number
 number-short at w s v rest e = orError-by _ _ e (λ e₁. getIf-end w s v rest e₁ .short)
 
+-- a number that is not there is 0
+number-none : (at : ℕ) (w : Bool) (s : List ℕ) (v : ℕ) (rest : List ℕ) → w ≡ false → number at w s ≡ got v rest → v ≡ 0
+unfolding number getIf
+number-none at true s v rest f e = absurd (true≢false f)
+number-none at false s v rest f e = orError-by _ _ e (λ e₁. cc)
+
 -- ---- what `scan` leaves
 
--- the body and the rest are shorter than s, the counted items have a byte each, the kind is in use, and n is within its bound
+-- the body and the rest are shorter than s, the counted items have a byte each, the kind is in use, n is within its bound, and a second number is
+-- there only of a kind that has one
 pub record Left (s : List ℕ) (t : Token) (rest : List ℕ) : Type 0 where
   pub after : length (t .body) + length rest < length s
   pub count : pending (rule (t .kind)) (t .n) (t .args) ≤ suc (length rest)
   pub used : 0 < rule (t .kind) .lows
   pub most : t .n ≤ rule (t .kind) .most
+  pub alone : rule (t .kind) .args ≡ false → t .args ≡ 0
 
 pub scan-left : (inner : Bool) (at : ℕ) (s : List ℕ) (t : Token) (rest : List ℕ) → scan inner at s ≡ got t rest → Left s t rest
 unfolding scan scanKind
@@ -71,15 +79,10 @@ scan-left inner at (h ∷ s) t rest e =
       count = omega (arith, rule-row (h / 16) .single);
       used = omega facts;
       most = omega facts;
+      alone = λ f. number-none _ _ s₁ a s₂ f ea;
     })))))))
 
 -- ---- items
-
--- a number that is not there is 0
-number-none : (at : ℕ) (w : Bool) (s : List ℕ) (v : ℕ) (rest : List ℕ) → w ≡ false → number at w s ≡ got v rest → v ≡ 0
-unfolding number getIf
-number-none at true s v rest f e = absurd (true≢false f)
-number-none at false s v rest f e = orError-by _ _ e (λ e₁. cc)
 
 -- what is read as an item is read as a value
 pub scan-item : (at : ℕ) (s : List ℕ) (t : Token) (rest : List ℕ) → scan true at s ≡ got t rest → scan false at s ≡ got t rest
