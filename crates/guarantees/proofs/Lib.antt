@@ -14,6 +14,10 @@ pub mod Accepted
 pub mod Full
 -- what a refusal of check says
 pub mod Refused
+-- the number and the place of what scan refuses
+pub mod Faults
+-- which errors each reading call can give
+pub mod ReadErrors
 -- what the queries promise, for every file
 pub mod Queries
 -- a token in a region

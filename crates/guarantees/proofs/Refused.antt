@@ -43,13 +43,13 @@ numbers e = ap (λ (x : Fault). x .number) e
 places : {f g : Fault} → f ≡ g → f .place ≡ g .place
 places e = ap (λ (x : Fault). x .place) e
 
-walk-number : (s : List ℕ) (cap : ℕ) (f : Fault) → error f ≡ startsFrom s cap (between 0 []) → (TRUNC ≤ f .number) × (f .number ≤ FULL)
+pub walk-number : (s : List ℕ) (cap : ℕ) (f : Fault) → error f ≡ startsFrom s cap (between 0 []) → (TRUNC ≤ f .number) × (f .number ≤ FULL)
 walk-number s cap f e =
     let r = subst (Ends s cap (λ v. Unit {0})) (sym e) (walk-ends s cap (λ v. Unit {0}) (λ v h t u. tt) tt) in
     r .refusal .number
 
 module _ (file : List ℕ) (cap : ℕ) where
-  fails : (f : Fault) → checkOf file cap .answer ≡ error f → Failed file cap f
+  pub fails : (f : Fault) → checkOf file cap .answer ≡ error f → Failed file cap f
   unfolding checkOf
   fails f e = failed file cap f (answer-error cap f (checkIn file cap) e)
 

@@ -6,6 +6,8 @@ pub mod Refused
 pub mod TokenValues
 -- the tokens of a file's values by their place, and where following leads
 pub mod Places
+-- which errors each reading call can give
+pub mod Errors
 -- document 01's samples
 pub mod Samples
 -- the reference model of the writer
