@@ -30,6 +30,8 @@ pub mod ReadsFile
 pub mod Hops
 -- depths of a well-formed file
 pub mod Depths
+-- paths, depths and hops of every file that check accepts
+pub mod Descends
 -- document 01's samples, proved of the definitions
 pub mod Samples
 -- the writer's calls: what a refused one and an accepted one change

@@ -8,6 +8,8 @@ pub mod TokenValues
 pub mod Places
 -- which errors each reading call can give
 pub mod Errors
+-- what is so of the paths in a file that check accepts
+pub mod Descended
 -- document 01's samples
 pub mod Samples
 -- the reference model of the writer
