@@ -18,8 +18,14 @@ pub mod Refused
 pub mod Faults
 -- which errors each reading call can give
 pub mod ReadErrors
--- what the queries promise, for every file
+-- the row of a kind
+pub mod Rows
+-- what a value that was read says of the head there
+pub mod Heads
+-- what the queries promise, of every file
 pub mod Queries
+-- items by what reading returns
+pub mod Items
 -- a token in a region
 pub mod Tokens
 -- a pointer leads where its target leads

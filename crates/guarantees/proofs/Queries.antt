@@ -16,7 +16,7 @@ use lib.Dec.{eqb, leb, ltb}
 use borrow.Author.Tests.{le-leb, lt-leb, lt-ltb, ltb-true, eqb-true}
 use Rattle.prelude.specs.Answer.{Answer, ok, error, bind}
 use Rattle.prelude.specs.Pick.{pick}
-use Rattle.prelude.proofs.Tests.{pick-elim, or-true}
+use Rattle.prelude.proofs.Tests.{pick-elim, or-true, facts}
 use Rattle.prelude.proofs.Readers.{bind-ok}
 use Rattle.error.specs.Error.{Fault, fault, LIMIT, BAD_TARGET, NO_ITEM}
 use Rattle.kind.specs.Kind.{rule, immediate}
@@ -53,7 +53,7 @@ module _ (s : List ℕ) where
       bind-ok _ (bind-ok _ (i .value) peeked) (walk-none s (h .end) (h .items) (omega (arith, i .none)))
 
   -- one item more
-  walk-suc : (k q : ℕ) → skipItems s (suc k) q ≡ bind (skipItems s k q) (λ p. bind (peekIn true s p) (λ h. ok (h .end)))
+  pub walk-suc : (k q : ℕ) → skipItems s (suc k) q ≡ bind (skipItems s k q) (λ p. bind (peekIn true s p) (λ h. ok (h .end)))
   unfolding skipItems bind
   walk-suc zero q = refl
   walk-suc (suc k) q = by-cases (peekIn true s q) (walk-suc k)
@@ -91,42 +91,49 @@ module _ (s : List ℕ) where
       by-cases (ok h) l e′ = let w = scan-within true s q h (peek-scan true s q h (sym l)) in omega (arith, w .numbers, w .body, w .end)
       by-cases (error f) l e′ = let z : _≡_ {A = ℕ} 0 1 = cc in absurd (omega arith)
 
-  -- what an item's offset says
-  record Found (at i p : ℕ) : Type 0 where
-    head : Head
-    peeked : ok head ≡ peekIn false s at
-    holds : immediate (rule (head .kind)) ≡ false
-    walked : ok p ≡ skipItems s i (head .end)
+  -- what an item's offset rests on
+  pub record ItemFound (at i p : ℕ) : Type 0 where
+    pub head : Head
+    pub peeked : ok head ≡ peekIn false s at
+    pub holds : immediate (rule (head .kind)) ≡ false
+    pub less : i < head .items
+    pub walked : ok p ≡ skipItems s i (head .end)
+    pub inside : p < length s
 
   abbrev Finds : ℕ → ℕ → Answer Fault ℕ → Type 0
-  Finds at i (ok p) = Found at i p
+  Finds at i (ok p) = ItemFound at i p
   Finds at i (error e) = Unit {0}
 
   finds : (at i : ℕ) → Finds at i (itemIn s at i)
   unfolding itemIn itemOn startsIn bind
   finds at i = by-head (peekIn false s at) refl
     where
-      by-walk : (h : Head) → ok h ≡ peekIn false s at → immediate (rule (h .kind)) ≡ false → (a : Answer Fault ℕ)
-          → a ≡ skipItems s i (h .end) → Finds at i (bind a (startsIn (length s)))
-      by-walk h e k (ok p) w =
-          pick-elim (Finds at i) (ltb p (length s)) (λ t. record { head = h; peeked = e; holds = k; walked = w }) (λ t. tt)
-      by-walk h e k (error f) w = tt
+      by-walk : (h : Head) → ok h ≡ peekIn false s at → immediate (rule (h .kind)) ≡ false → i < h .items → (a : Answer Fault ℕ) → a ≡ skipItems s i (h .end)
+          → Finds at i (bind a (startsIn (length s)))
+      by-walk h e k l (ok p) w =
+          pick-elim (Finds at i) (ltb p (length s))
+          (λ t. record { head = h; peeked = e; holds = k; less = l; walked = w; inside = ltb-true p (length s) t }) (λ t. tt)
+      by-walk h e k l (error f) w = tt
 
       by-head : (a : Answer Fault Head) → peekIn false s at ≡ a → Finds at i (bind a (itemOn s at i))
       by-head (ok h) e =
           pick-elim (Finds at i) (immediate (rule (h .kind))) (λ t. tt)
-          (λ t. pick-elim (Finds at i) (leb (h .items) i) (λ u. tt) (λ u. by-walk h (sym e) t (skipItems s i (h .end)) refl))
+          (λ t. pick-elim (Finds at i) (leb (h .items) i) (λ u. tt) (λ u. by-walk h (sym e) t (omega facts) (skipItems s i (h .end)) refl))
       by-head (error f) e = tt
 
-  found : (at i p : ℕ) → ok p ≡ itemIn s at i → Found at i p
-  found at i p e = subst (Finds at i) (sym e) (finds at i)
+  pub item-found : (at i p : ℕ) → ok p ≡ itemIn s at i → ItemFound at i p
+  item-found at i p e = subst (Finds at i) (sym e) (finds at i)
 
-  -- in a value that `skip` accepts, item i + 1 starts where skipping item i ends
-  pub item-next : (at i p e : ℕ) (h : Head) → ok h ≡ peekIn false s at → ok e ≡ skipIn s at → suc i < h .items → ok p ≡ itemIn s at i
+  pub itemIn-on : (at i p : ℕ) → ItemFound at i p → ok p ≡ itemIn s at i
+  unfolding itemIn itemOn startsIn
+  itemIn-on at i p f = bind-ok _ (f .peeked) (rw (f .holds, lt-leb _ _ (f .less)) (bind-ok _ (f .walked) (rw (lt-ltb _ _ (f .inside)))))
+
+  -- of a value that `skip` accepts, item i + 1 starts where skipping item i ends
+  pub itemIn-next : (at i p e : ℕ) (h : Head) → ok h ≡ peekIn false s at → ok e ≡ skipIn s at → suc i < h .items → ok p ≡ itemIn s at i
       → itemIn s at (suc i) ≡ skipIn s p
   unfolding skipIn itemIn itemOn startsIn bind
-  item-next at i p e h peeked end more here =
-      let f = found at i p here in
+  itemIn-next at i p e h peeked end more here =
+      let f = item-found at i p here in
       let same : f .head ≡ h = cc (f .peeked) in
       let holds : immediate (rule (h .kind)) ≡ false = rw same at (f .holds) in
       let walked : ok p ≡ skipItems s i (h .end) = rw same at (f .walked) in
@@ -141,10 +148,10 @@ module _ (s : List ℕ) where
           rw (← peeked, k, lt-leb (h .items) (suc i) more, q, lt-ltb x (length s) lt) (walk-next i (h .end) p x w (sym q))
       by-cases k w (error f) q rest = let z : _≡_ {A = ℕ} 0 1 = cc in absurd (omega arith)
 
-  pub item-last : (at i p e : ℕ) (h : Head) → ok h ≡ peekIn false s at → h .items ≡ suc i → ok p ≡ itemIn s at i → ok e ≡ skipIn s at → ok e ≡ skipIn s p
+  pub itemIn-last : (at i p e : ℕ) (h : Head) → ok h ≡ peekIn false s at → h .items ≡ suc i → ok p ≡ itemIn s at i → ok e ≡ skipIn s at → ok e ≡ skipIn s p
   unfolding skipIn bind
-  item-last at i p e h peeked count here end =
-      let f = found at i p here in
+  itemIn-last at i p e h peeked count here end =
+      let f = item-found at i p here in
       let same : f .head ≡ h = cc (f .peeked) in
       let all : ok e ≡ skipItems s (suc i) (h .end) = rw count at (rw (← peeked) at end) in
       walk-next i (h .end) p e (rw same at (f .walked)) all
@@ -179,7 +186,7 @@ follow-down file at place hops e = subst (Down at) (sym e) (follow-downs file at
 
 -- the region is the same for every offset up to this one
 abbrev Opened : ℕ → ℕ → Answer Fault ℕ → Type 0
-Opened len at (ok n) = (p : ℕ) → p ≤ at → ok n ≡ regionLen len p
+Opened len at (ok n) = (at < n) × ((p : ℕ) → p < n → ok n ≡ regionLen len p)
 Opened len at (error e) = Unit {0}
 
 opened : (len at : ℕ) → Opened len at (regionLen len at)
@@ -187,10 +194,18 @@ unfolding regionLen
 opened len at =
     pick-elim (Opened len at) (eqb len 0) (λ e. tt)
     (λ e. pick-elim (Opened len at) (ltb LIMIT len) (λ f. tt)
-    (λ f. pick-elim (Opened len at) (ltb at (len - 1)) (λ g. let l = ltb-true at (len - 1) g in λ p h. rw (e, f, lt-ltb p (len - 1) (omega arith))) (λ g. tt)))
+    (λ f. pick-elim (Opened len at) (ltb at (len - 1)) (λ g. (ltb-true at (len - 1) g, λ p h. rw (e, f, lt-ltb p (len - 1) h))) (λ g. tt)))
 
-region-before : (len at n p : ℕ) → ok n ≡ regionLen len at → p ≤ at → ok n ≡ regionLen len p
-region-before len at n p e = subst (Opened len at) (sym e) (opened len at) p
+module _ (len at n : ℕ) (e : ok n ≡ regionLen len at) where
+  pub region-lt : at < n
+  region-lt = subst (Opened len at) (sym e) (opened len at) .0
+
+  pub region-any : (p : ℕ) → p < n → ok n ≡ regionLen len p
+  region-any p h = subst (Opened len at) (sym e) (opened len at) .1 p h
+
+-- a query at an offset of a region is answered in it
+pub in-region-of : {A : Type 0} (file : List ℕ) (at n : ℕ) → ok n ≡ regionLen (length file) at → (k : List ℕ → Answer Fault A) → inRegion file at k ≡ k (take n file)
+in-region-of file at n e k = sym (in-region-ok file at k n e refl)
 
 -- the part of len bytes from `first` on is the text or byte string that reading returns at the offset that following
 -- from `at` reaches
@@ -213,7 +228,7 @@ module _ (file : List ℕ) (at n : ℕ) (opened : ok n ≡ regionLen (length fil
   body-followed m e =
       let r = follow-head-inv region (position at 0) m e in
       let h = m .head in
-      let here = region-before (length file) at n (m .place) opened (omega (arith, r .down)) in
+      let here = region-any (length file) at n opened (m .place) (omega (arith, r .down, region-lt (length file) at n opened)) in
       let follows : ok (m .place, m .hops) ≡ followOf file at = in-region-ok file at (λ s. followIn s at) n opened (bind-ok _ e refl) in
       let reads : ok (valueOn region (m .place) h) ≡ readOf file (m .place) = in-region-ok file (m .place) (λ s. readIn s (m .place)) n here
       (bind-ok _ (r .peeked) refl) in

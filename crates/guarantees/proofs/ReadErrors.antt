@@ -3,7 +3,7 @@
 -- In order: what holds of an answer's error, by the parts of the answer; a token that a query looks at, following, items, pairs, in any region; the
 -- queries on a file (`read-errors`, `skip-errors`, `item-errors`, `follow-errors`, `lookup-errors`, `body-errors`); check and depths (`check-errors`,
 -- `depths-errors-known`).
-use mathlib.Core.Path.{_≡_, refl, sym, ap, subst}
+use mathlib.Core.Path.{_≡_, refl, sym, subst}
 use mathlib.Core.Bool.{Bool, true, false, _||_}
 use mathlib.Core.List.{List, [], _∷_}
 use Prim.Native.Nat.{ℕ, zero, suc, _+_, _-_, _≤_, _<_}
@@ -28,7 +28,7 @@ use Rattle.reader_region.specs.Region.{regionLen, inRegion, below, peekIn}
 use Rattle.reader_region.proofs.Laws.{pointer-lt}
 use Rattle.reader_value.specs.Value.{readIn, readOf}
 use Rattle.reader_items.specs.Items.{skipItems, skipIn, skipOf, startsIn, itemOn, itemIn, itemOf}
-use Rattle.reader_follow.specs.Follow.{Followed, position, followFrom, followIn, followOf}
+use Rattle.reader_follow.specs.Follow.{position, followFrom, followIn, followOf}
 use Rattle.reader_follow.proofs.Laws.{followFrom-pointer, followFrom-end, followFrom-error}
 use Rattle.reader_body.specs.Body.{bodyPlaceIn, bodyPlaceOf}
 use Rattle.reader_lookup.specs.Lookup.{isKey, pairs, lookupIn, lookupOf}

@@ -9,7 +9,7 @@ use mathlib.Core.Bool.{Bool, true, false}
 use mathlib.Core.Logic.{_⊎_, inl, inr}
 use mathlib.Core.List.{List, [], _∷_, _++_, map}
 use Prim.Native.Nat.{ℕ, zero, suc, _+_, _-_, _^_, _≤_, _<_}
-use native.Mathlib.Nat.{zero-add, add-zero}
+use native.Mathlib.Nat.{zero-add}
 use native.Mathlib.Omega.{arith}
 use lib.Dec.{eqb, ltb, leb}
 use lib.ListN.{length, getD, set, drop-of-length-le, List·getD-map}
@@ -34,6 +34,7 @@ use Rattle.guarantees.specs.TokenValues.{tokenRows, valueOfToken}
 use Rattle.guarantees.specs.Places.{TokenAt}
 use Rattle.guarantees.specs.Model.{Part, part, ModelValue, modelValue, formOf, formsOf, valueAt, valuesAt, adds, requestOf}
 use Rattle.guarantees.specs.Rewrites.{callRows, callOf, callOfValue}
+use Rattle.guarantees.proofs.Rows.{Rows, past, _▸_, rows-at}
 use Rattle.guarantees.proofs.Tokens.{set-row}
 use Rattle.guarantees.proofs.ReadsFile.{reads-token, reads-body}
 
@@ -77,19 +78,6 @@ values-models done q (v ∷ vs) b =
     ∙ ap (λ ws. v ∷ ws) (values-models (done ++ (q ∷ [])) at vs (b .1))
 
 -- ---- the row of a kind
-
-infixr 5 _▸_
--- P holds for each row with its number, the first being i
-data Rows {A : Type 0} (P : ℕ → A → Type 0) : ℕ → List A → Type 0 where
-  past : {i : ℕ} → Rows P i []
-  _▸_ : {i : ℕ} {x : A} {xs : List A} → P i x → Rows P (suc i) xs → Rows P i (x ∷ xs)
-
-rows-at : {A : Type 0} (P : ℕ → A → Type 0) (i k : ℕ) (xs : List A) (d : A) → Rows P i xs → k < length xs → P (i + k) (getD xs k d)
-rows-at P i k [] d past h = absurd (omega arith)
-rows-at P i zero (x ∷ xs) d (p ▸ r) h = rw add-zero p
-rows-at P i (suc k) (x ∷ xs) d (p ▸ r) h =
-    let sum : i + suc k ≡ suc i + k = omega arith in
-    rw sum (rows-at P (suc i) k xs d r (omega arith))
 
 scalar-request : (n : ℕ) → n ≤ 2 → requestOf (scalar (pick (eqb n 0) False (pick (eqb n 1) True Null))) ≡ adds (part 0 n 0 [])
 scalar-request zero h = refl

@@ -6,6 +6,8 @@ pub mod Refused
 pub mod TokenValues
 -- the tokens of a file's values by their place, and where following leads
 pub mod Places
+-- how many items a value has, as reading returns it
+pub mod Items
 -- which errors each reading call can give
 pub mod Errors
 -- what is so of the paths in a file that check accepts
