@@ -79,4 +79,5 @@ module _ (file : List ℕ) (at : ℕ) (v : Value) (read : readOf file at ≡ ok 
 
       pub item-last : suc i ≡ n → skipOf file p ≡ ok end
       item-last last =
-          within-by (λ len h opened peeked items found skipped next. next ∙ sym (itemIn-last (take len file) at i p end h peeked (items ∙ sym last) found skipped))
+          within-by (λ len h opened peeked items found skipped next.
+          next ∙ sym (itemIn-last (take len file) at i p end h peeked (items ∙ sym last) found skipped))

@@ -26,6 +26,10 @@ pub mod Heads
 pub mod Queries
 -- items by what reading returns
 pub mod Items
+-- the pairs of a map, as its items
+pub mod Pairs
+-- what lookup answers means, of every file
+pub mod Lookups
 -- a token in a region
 pub mod Tokens
 -- a pointer leads where its target leads

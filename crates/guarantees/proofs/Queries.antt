@@ -7,7 +7,7 @@
 use mathlib.Core.Path.{_≡_, refl, sym, ap, _∙_, subst}
 use Prim.Native.Nat.{ℕ, zero, suc, _+_, _-_, _≤_, _<_}
 use native.Mathlib.Nat.{zero-add, suc-add}
-use mathlib.Core.Bool.{true, false, _||_}
+use mathlib.Core.Bool.{Bool, true, false, _||_}
 use mathlib.Core.Logic.{_⊎_, inl, inr}
 use mathlib.Core.List.{List}
 use native.Mathlib.Omega.{arith}
@@ -82,13 +82,17 @@ module _ (s : List ℕ) where
       by-cases (ok h) more = more (h .end)
       by-cases (error e) more = refl
 
+  -- a token that was looked at starts in the region
+  pub peek-lt : (inner : Bool) (q : ℕ) (h : Head) → ok h ≡ peekIn inner s q → q < length s
+  peek-lt inner q h e = let w = scan-within inner s q h (peek-scan inner s q h e) in omega (arith, w .numbers, w .body, w .end)
+
   -- an item that was skipped started in the region
   walk-lt : (k q e : ℕ) → ok e ≡ skipItems s (suc k) q → q < length s
   unfolding skipItems bind
   walk-lt k q e w = by-cases (peekIn true s q) refl w
     where
       by-cases : (a : Answer Fault Head) → peekIn true s q ≡ a → ok e ≡ bind a (λ h. skipItems s k (h .end)) → q < length s
-      by-cases (ok h) l e′ = let w = scan-within true s q h (peek-scan true s q h (sym l)) in omega (arith, w .numbers, w .body, w .end)
+      by-cases (ok h) l e′ = peek-lt true q h (sym l)
       by-cases (error f) l e′ = let z : _≡_ {A = ℕ} 0 1 = cc in absurd (omega arith)
 
   -- what an item's offset rests on
@@ -204,7 +208,8 @@ module _ (len at n : ℕ) (e : ok n ≡ regionLen len at) where
   region-any p h = subst (Opened len at) (sym e) (opened len at) .1 p h
 
 -- a query at an offset of a region is answered in it
-pub in-region-of : {A : Type 0} (file : List ℕ) (at n : ℕ) → ok n ≡ regionLen (length file) at → (k : List ℕ → Answer Fault A) → inRegion file at k ≡ k (take n file)
+pub in-region-of : {A : Type 0} (file : List ℕ) (at n : ℕ) → ok n ≡ regionLen (length file) at → (k : List ℕ → Answer Fault A)
+    → inRegion file at k ≡ k (take n file)
 in-region-of file at n e k = sym (in-region-ok file at k n e refl)
 
 -- the part of len bytes from `first` on is the text or byte string that reading returns at the offset that following

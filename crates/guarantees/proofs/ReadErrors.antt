@@ -62,13 +62,15 @@ module _ (l : List ℕ) where
     abbrev tokens : Each (λ f. among f l ≡ true) (tokenErrors false)
     tokens = known .1 .1 .1 .1
 
+    errs-regionLen : (len at : ℕ) → Errs l (regionLen len at)
+    unfolding regionLen
+    errs-regionLen len at =
+        errs-pick (eqb len 0) _ _ (known .0) (errs-pick (ltb LIMIT len) _ _ (known .1 .0)
+        (pick-elim (Errs l) (ltb at (len - 1)) (λ e. tt) (λ e. known .1 .1 .0)))
+
     errs-region : {A : Type 0} (file : List ℕ) (at : ℕ) (k : List ℕ → Answer Fault A) → ((s : List ℕ) → Errs l (k s)) → Errs l (inRegion file at k)
-    unfolding inRegion regionLen
-    errs-region file at k h =
-        errs-bind (regionLen (length file) at) _
-        (errs-pick (eqb (length file) 0) _ _ (known .0) (errs-pick (ltb LIMIT (length file)) _ _ (known .1 .0)
-        (pick-elim (Errs l) (ltb at (length file - 1)) (λ e. tt) (λ e. known .1 .1 .0))))
-        (λ n. h (take n file))
+    unfolding inRegion
+    errs-region file at k h = errs-bind (regionLen (length file) at) _ (errs-regionLen (length file) at) (λ n. h (take n file))
 
     module _ (s : List ℕ) where
       -- a token, whose own errors are among l
@@ -176,6 +178,34 @@ module _ (file : List ℕ) (at : ℕ) (f : Fault) where
       of-file itemErrors (λ s. lookupIn s at key) refl
       (λ c s. errs-bind itemErrors (peekIn false s at) _ (errs-value itemErrors c s at)
       (λ h. pick-elim (Errs itemErrors) (eqb (h .kind) 7) (λ t. errs-pairs itemErrors c s refl at key refl (h .n) (h .end)) (λ t. refl)))
+
+-- ---- in a region, neither NO_ITEM nor WRONG_KIND
+
+module _ (s : List ℕ) (q : ℕ) (f : Fault) where
+  abbrev known : Each (λ n. among n skipErrors ≡ true) common
+  unfolding among
+  known = each-every (λ n. among n skipErrors) common refl
+
+  pub value-known : error f ≡ peekIn false s q → among (f .number) skipErrors ≡ true
+  value-known e = subst (Errs skipErrors) (sym e) (errs-value skipErrors known s q)
+
+  pub item-known : error f ≡ peekIn true s q → among (f .number) skipErrors ≡ true
+  unfolding among
+  item-known e = subst (Errs skipErrors) (sym e) (errs-item skipErrors known s refl q)
+
+  pub follow-known : error f ≡ followFrom s (position q 0) → among (f .number) skipErrors ≡ true
+  follow-known e = subst (Errs skipErrors) (sym e) (errs-followed skipErrors known s q)
+
+pub region-known : (len at : ℕ) (f : Fault) → error f ≡ regionLen len at → among (f .number) skipErrors ≡ true
+unfolding among
+region-known len at f e = subst (Errs skipErrors) (sym e) (errs-regionLen skipErrors (each-every (λ n. among n skipErrors) common refl) len at)
+
+-- pairs may also come to NO_ITEM
+pub pairs-known : (s : List ℕ) (at : ℕ) (key : List ℕ) (k q : ℕ) (f : Fault) → error f ≡ pairs s at key k q → among (f .number) (NO_ITEM ∷ skipErrors) ≡ true
+unfolding among
+pairs-known s at key k q f e =
+    let l = NO_ITEM ∷ skipErrors in
+    subst (Errs l) (sym e) (errs-pairs l (each-every (λ n. among n l) common refl) s refl at key refl k q)
 
 -- ---- check and depths
 

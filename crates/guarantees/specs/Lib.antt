@@ -8,6 +8,8 @@ pub mod TokenValues
 pub mod Places
 -- how many items a value has, as reading returns it
 pub mod Items
+-- what map lookup means
+pub mod Lookup
 -- which errors each reading call can give
 pub mod Errors
 -- what is so of the paths in a file that check accepts
