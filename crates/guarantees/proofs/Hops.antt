@@ -44,7 +44,7 @@ module _ (file : List ℕ) (vs : List Value) (entry : ℕ) (w : WellFormed file 
           follows ∙ follow-pointer (region vs) q (headAt q t) (peeked file vs entry w j q t st) k ∙ ap further (sym there)
 
       -- the number of the target
-      target : (i : ℕ) × (i < j) × (getD (starts 0 vs) i 0 ≡ q - t .n - 1)
+      pub target : (i : ℕ) × (i < j) × (getD (starts 0 vs) i 0 ≡ q - t .n - 1)
       target =
           let (i, i<, e) = among-by (q - t .n - 1) (starts 0 (st .before)) (has-target file vs entry w j q t st (omega arith) .1) in
           (i, omega (arith, length-starts 0 (st .before), st .numbered), starts-before vs (st .before) (st .value ∷ st .after) i (st .values) i< ∙ e)

@@ -38,6 +38,8 @@ pub mod Pointers
 pub mod ReadsFile
 -- following reaches a value that is not a pointer
 pub mod Hops
+-- what lookup answers of a well-formed file
+pub mod ReadsLookup
 -- depths of a well-formed file
 pub mod Depths
 -- paths, depths and hops of every file that check accepts

@@ -5,7 +5,7 @@
 -- (`lookup-found-exactly`, `lookup-none-exactly`, `lookup-kind-exactly`).
 use mathlib.Core.Path.{_≡_, refl, sym, ap, _∙_}
 use mathlib.Core.Bool.{Bool, true, false, false≢true}
-use mathlib.Core.Logic.{_↔_}
+use mathlib.Core.Logic.{_⊎_, inl, inr, _↔_}
 use mathlib.Core.List.{List}
 use Prim.Native.Nat.{ℕ, _+_, _-_, _*_, _≤_, _<_}
 use native.Mathlib.Omega.{arith}
@@ -39,7 +39,7 @@ use Rattle.guarantees.specs.Errors.{skipErrors}
 use Rattle.guarantees.specs.Lookup.{Keyed, OtherKey, Found, Missing, NoMap}
 use Rattle.guarantees.proofs.ReadErrors.{region-known, value-known, pairs-known}
 use Rattle.guarantees.proofs.Heads.{kindOf, kind-value, read-by}
-use Rattle.guarantees.proofs.Queries.{item-found, itemIn-on, region-any, in-region-of}
+use Rattle.guarantees.proofs.Queries.{item-found, itemIn-on, region-any, region-lt, in-region-of}
 use Rattle.guarantees.proofs.Pairs.{KeyIn, OtherIn, FoundIn, MissingIn, pairs-found, pairs-missing, found-pairs, missing-pairs}
 
 -- a part of the first n bytes is a part of all
@@ -128,6 +128,10 @@ module _ (file : List ℕ) (at n : ℕ) (opened : ok n ≡ regionLen (length fil
         let j = keyed-in k in
         let one : i .followed ≡ j .followed = cc (i .follows, j .follows) in
         false≢true (sym (i .decided) ∙ ap (λ (m : Followed). isKey s key (m .head)) one ∙ j .decided)
+
+    decide : (m : Followed) → ok m ≡ followFrom s (position q 0) → (t : Bool) → isKey s key (m .head) ≡ t → Keyed file q key ⊎ (Keyed file q key → ⊥)
+    decide m f true t = inl (in-keyed (record { followed = m; follows = f; decided = t }))
+    decide m f false t = inr (in-other (record { followed = m; follows = f; decided = t }))
 
     other-in : (place hops : ℕ) → followOf file q ≡ ok (place, hops) → (Keyed file q key → ⊥) → KeyIn s key false q
     other-in place hops e other = follow-by place hops e (λ m f there. by-cases m f (isKey s key (m .head)) refl)
@@ -239,6 +243,14 @@ module _ (file : List ℕ) (at n : ℕ) (opened : ok n ≡ regionLen (length fil
       unfolding lookupIn
       looks = asked at start (λ s. lookupIn s at key) ∙ sym (bind-ok _ peeked (rw kind))
 
+-- what is followed without fault is the key, or is not
+pub keyed-or-not : (file : List ℕ) (q : ℕ) (key : List ℕ) (place hops : ℕ) → followOf file q ≡ ok (place, hops) → Keyed file q key ⊎ (Keyed file q key → ⊥)
+unfolding inRegion
+keyed-or-not file q key place hops e =
+    bind-ok-by _ _ (sym e) (λ n opened r.
+    let less : q < length (take n file) = omega (arith, region-lt (length file) q n opened, length-region file q n opened) in
+    follow-by file q n opened key q less place hops e (λ m f there. decide file q n opened key q less m f (isKey (take n file) key (m .head)) refl))
+
 -- ---- what is answered
 
 -- by the head of a value that reads
@@ -280,7 +292,8 @@ module _ (file : List ℕ) (at : ℕ) (key : List ℕ) where
   error-by : {X : Type 0} (f : Fault) → lookupOf file at key ≡ error f → (among (f .number) skipErrors ≡ true → X)
       → ((n : ℕ) (opened : ok n ≡ regionLen (length file) at) (h : Head) → ok h ≡ peekIn false (take n file) at → h .kind ≡ 7
       → error f ≡ pairs (take n file) at key (h .n) (h .end) → X)
-      → ((n : ℕ) (opened : ok n ≡ regionLen (length file) at) (h : Head) → ok h ≡ peekIn false (take n file) at → (h .kind ≡ 7 → ⊥) → f ≡ fault WRONG_KIND at → X)
+      → ((n : ℕ) (opened : ok n ≡ regionLen (length file) at) (h : Head) → ok h ≡ peekIn false (take n file) at → (h .kind ≡ 7 → ⊥)
+      → f ≡ fault WRONG_KIND at → X)
       → X
   unfolding inRegion lookupIn
   error-by f e own map other =

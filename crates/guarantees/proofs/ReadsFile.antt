@@ -94,7 +94,7 @@ module _ (file : List ℕ) (vs : List Value) (entry : ℕ) (w : WellFormed file 
       sym (in-region-ok file q k (length (region vs)) (region-is q h) (ap k (sym same)))
 
   module _ (a : List Value) (v : Value) (b : List Value) (e : vs ≡ a ++ (v ∷ b)) where
-    formed : Formed v
+    pub formed : Formed v
     formed = each-append Formed a (v ∷ b) .0 (subst (Each Formed) e (w .values .formed)) .1 .0
 
     targeted : HasTargets (starts 0 a) (length (region a)) (tokens v)
@@ -143,7 +143,7 @@ module _ (file : List ℕ) (vs : List Value) (entry : ℕ) (w : WellFormed file 
     pub peeked : ok (headAt q t) ≡ peekIn false (region vs) q
     peeked = rw (same, place) (peek-emit false front t rest may (λ k. omega (arith, has-target k .0, place)))
 
-    shows : valueOn (region vs) q (headAt q t) ≡ valueOfToken q t
+    pub shows : valueOn (region vs) q (headAt q t) ≡ valueOfToken q t
     shows = rw (same, place) (value-on-token front t rest (may .allowed))
 
     -- a query is answered by the token's head
