@@ -83,7 +83,7 @@ module _ (ss : List ℕ) where
 
 -- ---- the targets of a value
 
-length-targets : (at : ℕ) (vs : List Value) → length (targetsOf at vs) ≡ length vs
+pub length-targets : (at : ℕ) (vs : List Value) → length (targetsOf at vs) ≡ length vs
 unfolding targetsOf
 length-targets at [] = refl
 length-targets at (v ∷ vs) = ap suc (length-targets (at + length (bytes (tokens v))) vs)

@@ -10,12 +10,11 @@ use mathlib.Core.List.{List, [], _∷_, _++_, append-assoc, append-nil}
 use Prim.Native.Nat.{ℕ, zero, suc, _+_, _-_, _≤_, _<_}
 use native.Mathlib.Nat.{zero-add, add-zero}
 use native.Mathlib.Omega.{arith}
-use lib.Dec.{leb}
 use lib.ListN.{length, getD, take, length-append}
 use lib.Seq.{append-snoc, getD-append-add}
-use borrow.Author.Tests.{leb-true}
+use borrow.Author.Tests.{le-leb, lt-leb}
 use Rattle.prelude.specs.Search.{among, Rising}
-use Rattle.prelude.proofs.Tests.{pick-elim}
+use Rattle.prelude.proofs.Tests.{split}
 use Rattle.kind.specs.Kind.{rule, counted, pending, immediate}
 use Rattle.kind.proofs.Laws.{immediate-none}
 use Rattle.token.specs.Token.{Token, emit, Fits}
@@ -160,10 +159,19 @@ targets-earlier-append done at (v ∷ a) b =
     rw (e, ← append-snoc done at (starts (at + size v) a))
     (λ h. let r = ih .0 (h .1) in ((h .0, r .0), r .1), λ h. (h .0 .0, ih .1 (h .0 .1, h .1)))
 
+-- a reference or pointer has a target, and other tokens have none
+pub targets-own : (q : ℕ) (t : Token) (ts : List Token) → 14 ≤ t .kind → targets q (t ∷ ts) ≡ (q - t .n - 1) ∷ targets (q + length (emit t)) ts
+unfolding targets
+targets-own q t ts k = simp (le-leb, k)
+
+pub targets-none : (q : ℕ) (t : Token) (ts : List Token) → t .kind < 14 → targets q (t ∷ ts) ≡ targets (q + length (emit t)) ts
+unfolding targets
+targets-none q t ts k = simp (lt-leb, k)
+
 -- the targets of tokens, each among `done`
 pub targets-of-has-targets : (done : List ℕ) (q : ℕ) (ts : List Token) → HasTargets done q ts → Each (λ x. among x done ≡ true) (targets q ts)
 unfolding targets
 targets-of-has-targets done q [] h = tt
 targets-of-has-targets done q (t ∷ ts) h =
     let ih = targets-of-has-targets done (q + length (emit t)) ts (h .1) in
-    pick-elim (Each (λ x. among x done ≡ true)) (leb 14 (t .kind)) (λ r. ((h .0 (leb-true 14 (t .kind) r)) .1, ih)) (λ r. ih)
+    split (t .kind) 14 (λ l. rw (targets-none q t ts l) ih) (λ l. rw (targets-own q t ts l) (h .0 l .1, ih))

@@ -6,5 +6,7 @@ pub mod Laws
 pub mod Unique
 -- paths go back, and the depths are those of the longest paths
 pub mod Depths
+-- where a value leads, by its tokens
+pub mod Leads
 -- the definitions on examples
 mod Samples

@@ -3,7 +3,9 @@
 --   targets q ts           the targets of the references and pointers among the tokens ts, the first at q
 --   targetsOf at vs        for each of the values vs, the first at `at`: the targets of the references and pointers
 --                          that it is or holds
---   Leads vs i j           value number i is or holds a reference or pointer to the start of value number j
+--   Refers vs i x          value number i is or holds a reference or pointer, its header at q, whose target q - n - 1 is x
+--   Leads vs i j           value number i is or holds a reference or pointer to the start of value number j: `Refers`, by
+--                          the list of targets
 --   Path vs i l            a path from value number i; l are the numbers of the values on it, i first
 --   Depth vs i d           d is the depth of value number i: a path from it has d values, and none has more
 --   Falling l              each is less than those before it, so none occurs twice
@@ -22,7 +24,7 @@ use lib.ListN.{length, getD}
 use Rattle.prelude.specs.Pick.{pick}
 use Rattle.prelude.specs.Search.{among, rank}
 use Rattle.token.specs.Token.{Token, emit}
-use Rattle.values.specs.Values.{Value, tokens, bytes, starts, Each}
+use Rattle.values.specs.Values.{Value, tokens, bytes, region, starts, Each}
 
 unfoldable pub targets : ℕ → List Token → List ℕ
 targets q [] = []
@@ -33,6 +35,19 @@ targets q (t ∷ ts) =
 unfoldable pub targetsOf : ℕ → List Value → List (List ℕ)
 targetsOf at [] = []
 targetsOf at (v ∷ vs) = targets at (tokens v) ∷ targetsOf (at + length (bytes (tokens v))) vs
+
+pub record Refers (vs : List Value) (i x : ℕ) : Type 0 where
+  pub before : List Value
+  pub value : Value
+  pub after : List Value
+  pub values : vs ≡ before ++ (value ∷ after)
+  pub numbered : length before ≡ i
+  pub front : List Token
+  pub token : Token
+  pub back : List Token
+  pub tokens : tokens value ≡ front ++ (token ∷ back)
+  pub kind : 14 ≤ token .kind
+  pub target : x ≡ length (region before) + length (bytes front) - token .n - 1
 
 abbrev pub Leads : List Value → ℕ → ℕ → Type 0
 Leads vs i j = (j < length vs) × (among (getD (starts 0 vs) j 0) (getD (targetsOf 0 vs) i []) ≡ true)
