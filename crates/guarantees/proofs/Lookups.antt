@@ -69,7 +69,7 @@ module _ (file : List ℕ) (at n : ℕ) (opened : ok n ≡ regionLen (length fil
     follows-in : followOf file q ≡ followIn s q
     follows-in = asked q less (λ s. followIn s q)
 
-    -- where following came to
+    -- where following leads
     module _ (m : Followed) (e : ok m ≡ followFrom s (position q 0)) where
       follows-to : followOf file q ≡ ok (m .place, m .hops)
       unfolding followIn

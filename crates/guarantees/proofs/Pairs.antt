@@ -1,4 +1,4 @@
--- The pairs of a map in a region, as its items: what lookup's loop answers, by where items start and where following comes to.
+-- The pairs of a map in a region, as its items: what lookup's loop answers, by where items start and where following leads.
 --
 -- In order: a key, followed (`KeyIn`), and the key of pair j (`OtherIn`); two items more; what the loop's answer rests on (`pairs-found`,
 -- `pairs-missing`); and back, the pairs that are passed (`pairs-pass`), the one that is found (`found-pairs`), and none (`missing-pairs`).
@@ -32,7 +32,7 @@ bind-elim P (ok a) f g h = h a refl
 bind-elim P (error e) f g h = g e refl
 
 module _ (s key : List ℕ) where
-  -- following from q comes to a head that is the key, or is not
+  -- following from q leads to a head that is the key, or is not
   pub record KeyIn (is : Bool) (q : ℕ) : Type 0 where
     pub followed : Followed
     pub follows : ok followed ≡ followFrom s (position q 0)

@@ -200,7 +200,7 @@ pub region-known : (len at : ℕ) (f : Fault) → error f ≡ regionLen len at �
 unfolding among
 region-known len at f e = subst (Errs skipErrors) (sym e) (errs-regionLen skipErrors (each-every (λ n. among n skipErrors) common refl) len at)
 
--- pairs may also come to NO_ITEM
+-- pairs may also give NO_ITEM
 pub pairs-known : (s : List ℕ) (at : ℕ) (key : List ℕ) (k q : ℕ) (f : Fault) → error f ≡ pairs s at key k q → among (f .number) (NO_ITEM ∷ skipErrors) ≡ true
 unfolding among
 pairs-known s at key k q f e =

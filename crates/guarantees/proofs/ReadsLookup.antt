@@ -114,7 +114,7 @@ module _ (file : List ℕ) (vs : List Value) (entry : ℕ) (w : WellFormed file 
       body = reads-body file vs entry w j q t st (inl k) .1 ∙ same;
     }
 
-    -- what is no pointer and a key is a text
+    -- what is a key and not a pointer is a text
     keyed-text : (key : List ℕ) → (t .kind ≡ 15 → ⊥) → Keyed file q key → (t .kind ≡ 4) × (t .body ≡ key)
     keyed-text key k c =
         let stops = sym (c .follows) ∙ hops-none file vs entry w j q t st k in

@@ -3,8 +3,8 @@
 --   Descended file count entry
 --                the file has `count` values; no path from one of them meets a value twice, since the numbers of the values met fall; depths,
 --                with words enough in both tables, accepts the file, and leaves the starts, and one depth a value; a value's depth is the number
---                of values on the longest path from it; and following from value number j comes, by at most j hops, to a value that is no
---                pointer
+--                of values on the longest path from it; and following from value number j leads, by at most j hops, to a value that is
+--                not a pointer
 use Prim.Native.Nat.{ℕ, _≤_, _<_}
 use mathlib.Core.Path.{_≡_}
 use mathlib.Core.List.{List}

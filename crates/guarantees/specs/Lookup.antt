@@ -2,7 +2,7 @@
 --
 -- On every file, by the other queries:
 --
---   Keyed file q key     following from q comes to a text, and its body is `key`. So a byte string is not a key, nor is a reference, which is not
+--   Keyed file q key     following from q leads to a text, and its body is `key`. So a byte string is not a key, nor is a reference, which is not
 --                        followed
 --   OtherKey file at j key
 --                        item 2j of the map at `at` is there, is followed without fault, and is not the key

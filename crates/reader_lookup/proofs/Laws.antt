@@ -1,4 +1,4 @@
--- Laws of lookup: bytes held against each other, and that it is equality (`same-is`); pairs one after the other.
+-- Laws of lookup: bytes compared with each other, which decides equality (`same-is`); pairs one after the other.
 use mathlib.Core.Path.{_≡_, refl, ap, subst}
 use mathlib.Core.Logic.{_↔_}
 use Prim.Native.Nat.{ℕ, zero, suc, _+_, _-_, _≤_, _<_}
