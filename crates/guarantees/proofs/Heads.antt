@@ -23,7 +23,8 @@ use Rattle.scan.proofs.Places.{Within}
 use Rattle.reader_region.specs.Region.{regionLen, inRegion, peekIn}
 use Rattle.reader_value.specs.Value.{valueRows, valueOn, readIn, readOf}
 use Rattle.reader_value.specs.declared.Value.{Value}
-use Rattle.reader_value.specs.declared.Value.the-variants.{False, True, Null, Integer, Float32, Float64, Text, Bytes, Array, Map, Tag, Variant, Variant1, VariantN, Reference, Pointer}
+use Rattle.reader_value.specs.declared.Value.the-variants.{False, True, Null, Integer, Float32, Float64, Text, Bytes}
+use Rattle.reader_value.specs.declared.Value.the-variants.{Array, Map, Tag, Variant, Variant1, VariantN, Reference, Pointer}
 use Rattle.guarantees.specs.Items.{countOf}
 use Rattle.guarantees.proofs.Rows.{Rows, past, _▸_, rows-at}
 

@@ -33,7 +33,8 @@ use Rattle.guarantees.specs.Lookup.{Keyed, OtherKey, IsKey, text, pointe
 use Rattle.guarantees.proofs.Heads.{kindOf, kind-value}
 use Rattle.guarantees.proofs.Pointers.{further}
 use Rattle.guarantees.proofs.Lookups.{keyed-or-not, found-lookup, none-lookup, kind-lookup}
-use Rattle.guarantees.proofs.ReadsFile.{head-token-at, item-token-at, peeked, shows, formed, reads-token, reads-body, reads-body-of-pointer, reads-value, reads-item, reads-end}
+use Rattle.guarantees.proofs.ReadsFile.{head-token-at, item-token-at, peeked, shows, formed}
+use Rattle.guarantees.proofs.ReadsFile.{reads-token, reads-body, reads-body-of-pointer, reads-value, reads-item, reads-end}
 use Rattle.guarantees.proofs.Hops.{hops-none, follows-pointer, target, hops-pointer}
 
 further-by : {X : Type 0} (a : Answer Fault (ℕ × ℕ)) (place hops : ℕ) → further a ≡ ok (place, hops) → ((more : ℕ) → a ≡ ok (place, more) → X) → X

@@ -5,7 +5,8 @@
 use Prim.Native.Nat.{ℕ}
 use mathlib.Core.Option.{Option, none, some}
 use Rattle.reader_value.specs.declared.Value.{Value}
-use Rattle.reader_value.specs.declared.Value.the-variants.{False, True, Null, Integer, Float32, Float64, Text, Bytes, Array, Map, Tag, Variant, Variant1, VariantN, Reference, Pointer}
+use Rattle.reader_value.specs.declared.Value.the-variants.{False, True, Null, Integer, Float32, Float64, Text, Bytes}
+use Rattle.reader_value.specs.declared.Value.the-variants.{Array, Map, Tag, Variant, Variant1, VariantN, Reference, Pointer}
 
 abbrev pub countOf : Value → Option ℕ
 countOf (Array n first) = some n
