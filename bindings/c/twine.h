@@ -30,8 +30,8 @@
 extern "C" {
 #endif
 
-/* The version of this interface: 1 more with each change of what a caller hands over or gets, as a parameter or the
-   words of a state. The archive has a function that is named by its version, and whatever includes this header
+/* The version of this interface: raised by 1 with each change of what a caller hands over or gets, such as a parameter
+   or the words of a state. The archive has a function that is named after its version, and whatever includes this header
    refers to it: compiled against another version, it does not link. gcc and clang keep the reference, also with
    --gc-sections (before gcc 11 and clang 13 only without); another compiler may drop it. */
 #define TWINE_ABI 1
@@ -85,10 +85,10 @@ enum twine_error {
     TWINE_RANGE = 6,
     /* an item of a kind that may have items [the item's header] */
     TWINE_NESTED = 7,
-    /* a text that is not text [the header] */
+    /* a text whose bytes are not text [the header] */
     TWINE_BAD_TEXT = 8,
-    /* a reference or pointer to something that is not a value that ended before [the header]; writer: not a finished
-       value */
+    /* check: a reference or pointer to something that is not a value that ended before; queries: one that reaches
+       below offset 0 [the header]; writer: not a finished value */
     TWINE_BAD_TARGET = 9,
     /* one value more than the table has words [the value's start] */
     TWINE_FULL = 10,
@@ -159,7 +159,9 @@ uint32_t twine_depths(const uint8_t *file, size_t len,
 /* ---- queries
 
    They take any offset of any file, checked or not. TWINE_EMPTY, TWINE_TOO_LONG and TWINE_OUTSIDE come first, then
-   the errors of the values that are read. On an error out = {place, 0}, for twine_read {place, 0, 0, 0}. */
+   the errors of the values that are read. On an error out = {place, 0}, for twine_read {place, 0, 0, 0}. A query
+   tests neither the bytes of a text nor, but for offset 0, a target: TWINE_BAD_TEXT never comes, and a target may be
+   any lower offset. */
 
 /* Reads the value at an offset, but neither its items nor the bytes of a text. out = {kind, number, first, count};
    first is the offset just after the header's numbers, at which the body or the first item starts.
@@ -208,7 +210,7 @@ uint32_t twine_body(const uint8_t *file, size_t len, size_t at, uint64_t out[2])
    pending), and whether the file is closed (any word but 0). Any five words are a state; one that out or starts
    does not fit is TWINE_BAD_STATE.
 
-   out and starts go into each call as the call before left them; both may be longer then. A call writes after the
+   out and starts go into each call as the call before left them; they may be longer than before. A call writes after the
    first `written` bytes of out, and the start of a value that it finishes into the word `count` of starts. TWINE_OK:
    the state is the next one, and in out and starts nothing else has changed. On an error state, out and starts are as
    they were, in every word and byte.
@@ -216,7 +218,7 @@ uint32_t twine_body(const uint8_t *file, size_t len, size_t at, uint64_t out[2])
    A byte of out is held back for the close and for each item pending, so that an open value can always be finished.
    As many words as out has bytes less one are always enough. After the close the file is the first `written` bytes.
 
-   The first of these is the error: BAD_STATE, CLOSED, OWED, BAD_TEXT, BAD_TARGET, FULL, NO_ROOM. */
+   The first of these that applies is the error: BAD_STATE, CLOSED, OWED, BAD_TEXT, BAD_TARGET, FULL, NO_ROOM. */
 
 /* The state of a writer that has written nothing: five zeros. TWINE_OK. */
 uint32_t twine_writer_new(uint64_t state[TWINE_STATE]);

@@ -25,10 +25,11 @@
 #   bits: in float load
 #   blank: in guarantees emptyModel
 #   bytesOf: in guarantees modelBytes; in scan bodyOn
+#   early: in writer refusalOf
 #   gated: in guarantees opened; in region in-region
-#   good: in writer not-bad
+#   good: in judge not-bad; in writer not-bad
 #   inside-region: in guarantees in-region-is; in region in-region-same
-#   judge: in pass tokenFault; in writer refusalOf
+#   judge: in pass tokenFault; in writer tokenRefusal
 #   judged: in guarantees answered
 #   kept: in checker keptWords; in guarantees unlessRefused
 #   look: in depth depthTurn
@@ -37,11 +38,13 @@
 #   need: in writer bytesNeeded
 #   next: in pass nextToken
 #   notes: in guarantees modelRun
+#   owed: in guarantees pendingAt
 #   pass: in values depthsFrom
 #   passed: in pass walkAfter
 #   plain: in guarantees modelValue
 #   put: in writer putToken
 #   reached: in depth targetDepth
+#   refusal: in judge refusalOf
 #   refused: in depths depthsRefused; in reply errorC
 #   row: in tell rowC
 #   rows: in guarantees callRows; in read valueRows; in tell rowsC
@@ -130,8 +133,8 @@ s/(Rattle.starts(·proofs)?\.proofs\.)Along\b/\1Invariant/g
 s/\b(starts\/proofs\/)Along\.antt/\1Invariant.antt/g
 s/(Rattle.writer(·proofs)?\.proofs\.)Asked\b/\1Fits/g
 s/\b(writer\/proofs\/)Asked\.antt/\1Fits.antt/g
-s/(Rattle.writer(·proofs)?\.proofs\.)Judged\b/\1Accepted/g
-s/\b(writer\/proofs\/)Judged\.antt/\1Accepted.antt/g
+s/(Rattle.writer(·proofs)?\.proofs\.)Stages\b/\1Settled/g
+s/\b(writer\/proofs\/)Stages\.antt/\1Settled.antt/g
 # functions, with their crate
 s/\bfloat::bits4\b/float::load4/g
 s/\bfloat::bits8\b/float::load8/g
@@ -177,6 +180,7 @@ s/(^|[^A-Za-z0-9_′.:-])Along([^A-Za-z0-9_′-]|$)/\1TableInvariant\2/g
 s/(^|[^A-Za-z0-9_′.:-])Asked([^A-Za-z0-9_′-]|$)/\1FitOf\2/g
 s/(^|[^A-Za-z0-9_′.:-])Back([^A-Za-z0-9_′-]|$)/\1TargetsEarlier\2/g
 s/(^|[^A-Za-z0-9_′.:-])Comes([^A-Za-z0-9_′-]|$)/\1FollowsTo\2/g
+s/(^|[^A-Za-z0-9_′.:-])Early([^A-Za-z0-9_′-]|$)/\1Granted\2/g
 s/(^|[^A-Za-z0-9_′.:-])Going([^A-Za-z0-9_′-]|$)/\1WalkInvariant\2/g
 s/(^|[^A-Za-z0-9_′.:-])Line([^A-Za-z0-9_′-]|$)/\1Request\2/g
 s/(^|[^A-Za-z0-9_′.:-])Looked([^A-Za-z0-9_′-]|$)/\1Peeked\2/g
@@ -247,9 +251,9 @@ s/(^|[^A-Za-z0-9_′.:-])inside-error([^A-Za-z0-9_′-]|$)/\1in-region-error\2/g
 s/(^|[^A-Za-z0-9_′.:-])inside-failed([^A-Za-z0-9_′-]|$)/\1in-region-failed\2/g
 s/(^|[^A-Za-z0-9_′.:-])inside-ok([^A-Za-z0-9_′-]|$)/\1in-region-ok\2/g
 s/(^|[^A-Za-z0-9_′.:-])inside-then([^A-Za-z0-9_′-]|$)/\1in-region-then\2/g
-s/(^|[^A-Za-z0-9_′.:-])judge-inv([^A-Za-z0-9_′-]|$)/\1refusalOf-inv\2/g
-s/(^|[^A-Za-z0-9_′.:-])judge-ok([^A-Za-z0-9_′-]|$)/\1refusalOf-ok\2/g
-s/(^|[^A-Za-z0-9_′.:-])judgeDelta([^A-Za-z0-9_′-]|$)/\1refusalOfDelta\2/g
+s/(^|[^A-Za-z0-9_′.:-])judge-inv([^A-Za-z0-9_′-]|$)/\1token-inv\2/g
+s/(^|[^A-Za-z0-9_′.:-])judge-ok([^A-Za-z0-9_′-]|$)/\1token-ok\2/g
+s/(^|[^A-Za-z0-9_′.:-])judgeDelta([^A-Za-z0-9_′-]|$)/\1deltaRefusal\2/g
 s/(^|[^A-Za-z0-9_′.:-])judgeOf([^A-Za-z0-9_′-]|$)/\1modelAnswer\2/g
 s/(^|[^A-Za-z0-9_′.:-])kept-adds([^A-Za-z0-9_′-]|$)/\1invariant-adds\2/g
 s/(^|[^A-Za-z0-9_′.:-])kept-any([^A-Za-z0-9_′-]|$)/\1invariant-any\2/g
@@ -282,7 +286,6 @@ s/(^|[^A-Za-z0-9_′.:-])next-trail([^A-Za-z0-9_′-]|$)/\1next-continuation\2/g
 s/(^|[^A-Za-z0-9_′.:-])no-trail([^A-Za-z0-9_′-]|$)/\1no-continuation\2/g
 s/(^|[^A-Za-z0-9_′.:-])noted([^A-Za-z0-9_′-]|$)/\1modelRan\2/g
 s/(^|[^A-Za-z0-9_′.:-])notes-append([^A-Za-z0-9_′-]|$)/\1modelRun-append\2/g
-s/(^|[^A-Za-z0-9_′.:-])owed([^A-Za-z0-9_′-]|$)/\1pendingAt\2/g
 s/(^|[^A-Za-z0-9_′.:-])owed-settled([^A-Za-z0-9_′-]|$)/\1pending-settled\2/g
 s/(^|[^A-Za-z0-9_′.:-])owes([^A-Za-z0-9_′-]|$)/\1pendingIn\2/g
 s/(^|[^A-Za-z0-9_′.:-])pass-at([^A-Za-z0-9_′-]|$)/\1depthsFrom-at\2/g
@@ -372,89 +375,89 @@ s/Rattle.region\b/Rattle.reader_region/g
 s/\bcrates\/region\b/crates\/reader_region/g
 s/\bregion\/(specs|proofs|src|must-fail)\b/reader_region\/\1/g
 s/\bregion::/reader_region::/g
-s/\b(crate|crates) `?region\b/\1 reader_region/g
+s/\b(crate|crates) (`?)region\b/\1 \2reader_region/g
 s/Rattle.read\b/Rattle.reader_value/g
 s/\bcrates\/read\b/crates\/reader_value/g
 s/\bread\/(specs|proofs|src|must-fail)\b/reader_value\/\1/g
 s/\bread::/reader_value::/g
-s/\b(crate|crates) `?read\b/\1 reader_value/g
+s/\b(crate|crates) (`?)read\b/\1 \2reader_value/g
 s/Rattle.items\b/Rattle.reader_items/g
 s/\bcrates\/items\b/crates\/reader_items/g
 s/\bitems\/(specs|proofs|src|must-fail)\b/reader_items\/\1/g
 s/\bitems::/reader_items::/g
-s/\b(crate|crates) `?items\b/\1 reader_items/g
+s/\b(crate|crates) (`?)items\b/\1 \2reader_items/g
 s/Rattle.pointers\b/Rattle.reader_follow/g
 s/\bcrates\/pointers\b/crates\/reader_follow/g
 s/\bpointers\/(specs|proofs|src|must-fail)\b/reader_follow\/\1/g
 s/\bpointers::/reader_follow::/g
-s/\b(crate|crates) `?pointers\b/\1 reader_follow/g
+s/\b(crate|crates) (`?)pointers\b/\1 \2reader_follow/g
 s/Rattle.body\b/Rattle.reader_body/g
 s/\bcrates\/body\b/crates\/reader_body/g
 s/\bbody\/(specs|proofs|src|must-fail)\b/reader_body\/\1/g
 s/\bbody::/reader_body::/g
-s/\b(crate|crates) `?body\b/\1 reader_body/g
+s/\b(crate|crates) (`?)body\b/\1 \2reader_body/g
 s/Rattle.lookup\b/Rattle.reader_lookup/g
 s/\bcrates\/lookup\b/crates\/reader_lookup/g
 s/\blookup\/(specs|proofs|src|must-fail)\b/reader_lookup\/\1/g
 s/\blookup::/reader_lookup::/g
-s/\b(crate|crates) `?lookup\b/\1 reader_lookup/g
+s/\b(crate|crates) (`?)lookup\b/\1 \2reader_lookup/g
 s/Rattle.pass\b/Rattle.checker_value/g
 s/\bcrates\/pass\b/crates\/checker_value/g
 s/\bpass\/(specs|proofs|src|must-fail)\b/checker_value\/\1/g
 s/\bpass::/checker_value::/g
-s/\b(crate|crates) `?pass\b/\1 checker_value/g
+s/\b(crate|crates) (`?)pass\b/\1 \2checker_value/g
 s/Rattle.starts\b/Rattle.checker_starts/g
 s/\bcrates\/starts\b/crates\/checker_starts/g
 s/\bstarts\/(specs|proofs|src|must-fail)\b/checker_starts\/\1/g
 s/\bstarts::/checker_starts::/g
-s/\b(crate|crates) `?starts\b/\1 checker_starts/g
+s/\b(crate|crates) (`?)starts\b/\1 \2checker_starts/g
 s/Rattle.scan_item\b/Rattle.checker_item/g
 s/\bcrates\/scan_item\b/crates\/checker_item/g
 s/\bscan_item\/(specs|proofs|src|must-fail)\b/checker_item\/\1/g
 s/\bscan_item::/checker_item::/g
-s/\b(crate|crates) `?scan_item\b/\1 checker_item/g
+s/\b(crate|crates) (`?)scan_item\b/\1 \2checker_item/g
 s/Rattle.depth\b/Rattle.depths_value/g
 s/\bcrates\/depth\b/crates\/depths_value/g
 s/\bdepth\/(specs|proofs|src|must-fail)\b/depths_value\/\1/g
 s/\bdepth::/depths_value::/g
-s/\b(crate|crates) `?depth\b/\1 depths_value/g
+s/\b(crate|crates) (`?)depth\b/\1 \2depths_value/g
 s/Rattle.listing\b/Rattle.writer_listing/g
 s/\bcrates\/listing\b/crates\/writer_listing/g
 s/\blisting\/(specs|proofs|src|must-fail)\b/writer_listing\/\1/g
 s/\blisting::/writer_listing::/g
-s/\b(crate|crates) `?listing\b/\1 writer_listing/g
+s/\b(crate|crates) (`?)listing\b/\1 \2writer_listing/g
 s/Rattle.judge\b/Rattle.writer_refusal/g
 s/\bcrates\/judge\b/crates\/writer_refusal/g
 s/\bjudge\/(specs|proofs|src|must-fail)\b/writer_refusal\/\1/g
 s/\bjudge::/writer_refusal::/g
-s/\b(crate|crates) `?judge\b/\1 writer_refusal/g
+s/\b(crate|crates) (`?)judge\b/\1 \2writer_refusal/g
 s/Rattle.reply\b/Rattle.abi_error/g
 s/\bcrates\/reply\b/crates\/abi_error/g
 s/\breply\/(specs|proofs|src|must-fail)\b/abi_error\/\1/g
 s/\breply::/abi_error::/g
-s/\b(crate|crates) `?reply\b/\1 abi_error/g
+s/\b(crate|crates) (`?)reply\b/\1 \2abi_error/g
 s/Rattle.tell\b/Rattle.abi_answer/g
 s/\bcrates\/tell\b/crates\/abi_answer/g
 s/\btell\/(specs|proofs|src|must-fail)\b/abi_answer\/\1/g
 s/\btell::/abi_answer::/g
-s/\b(crate|crates) `?tell\b/\1 abi_answer/g
+s/\b(crate|crates) (`?)tell\b/\1 \2abi_answer/g
 s/Rattle.state\b/Rattle.abi_writer/g
 s/\bcrates\/state\b/crates\/abi_writer/g
 s/\bstate\/(specs|proofs|src|must-fail)\b/abi_writer\/\1/g
 s/\bstate::/abi_writer::/g
-s/\b(crate|crates) `?state\b/\1 abi_writer/g
+s/\b(crate|crates) (`?)state\b/\1 \2abi_writer/g
 s/Rattle.header\b/Rattle.scan_number/g
 s/\bcrates\/header\b/crates\/scan_number/g
 s/\bheader\/(specs|proofs|src|must-fail)\b/scan_number\/\1/g
 s/\bheader::/scan_number::/g
-s/\b(crate|crates) `?header\b/\1 scan_number/g
+s/\b(crate|crates) (`?)header\b/\1 \2scan_number/g
 s/Rattle.search\b/Rattle.table_search/g
 s/\bcrates\/search\b/crates\/table_search/g
 s/\bsearch\/(specs|proofs|src|must-fail)\b/table_search\/\1/g
 s/\bsearch::/table_search::/g
-s/\b(crate|crates) `?search\b/\1 table_search/g
+s/\b(crate|crates) (`?)search\b/\1 \2table_search/g
 s/Rattle.float\b/Rattle.little_endian/g
 s/\bcrates\/float\b/crates\/little_endian/g
 s/\bfloat\/(specs|proofs|src|must-fail)\b/little_endian\/\1/g
 s/\bfloat::/little_endian::/g
-s/\b(crate|crates) `?float\b/\1 little_endian/g
+s/\b(crate|crates) (`?)float\b/\1 \2little_endian/g
