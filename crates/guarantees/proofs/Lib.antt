@@ -43,7 +43,7 @@ pub mod ReadsLookup
 -- depths of a well-formed file
 pub mod Depths
 -- paths, depths and hops of every file that check accepts
-pub mod Descends
+pub mod AcceptedPaths
 -- document 01's samples, proved of the definitions
 pub mod Samples
 -- the writer's calls: what a refused one and an accepted one change

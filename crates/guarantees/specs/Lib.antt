@@ -13,7 +13,7 @@ pub mod Lookup
 -- which errors each reading call can give
 pub mod Errors
 -- what is so of the paths in a file that check accepts
-pub mod Descended
+pub mod AcceptedPaths
 -- document 01's samples
 pub mod Samples
 -- the reference model of the writer

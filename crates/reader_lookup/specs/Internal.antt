@@ -3,8 +3,8 @@
 --   orStop a f          f applied to a's value, or a stop with a's error
 --   matchKey s key q h  the rest of a pair whose key, followed, has the head h, and whose value starts at q: the key is
 --                       compared with `key`; if it differs, the value is looked at
---   pairOf s key q      one pair of a map, from q on: where the next one starts, or the answer; the key is looked at and followed
---   pairAnswer r        a `PairResult` as such a turn
+--   pairAt s key q      one pair of a map, from q on: where the next one starts, or the answer; the key is looked at and followed
+--   pairAnswer r        what a `PairResult` means: go on at an offset, or stop with an answer
 use Prim.Native.Nat.{ℕ}
 use mathlib.Core.Bool.{true}
 use mathlib.Core.List.{List}
@@ -29,8 +29,8 @@ orStop (error e) f = stop (error e)
 abbrev pub matchKey : List ℕ → List ℕ → ℕ → Head → Turn ℕ (Answer Fault ℕ)
 matchKey s key q h = pick (isKey s key h) (stop (startsIn (length s) q)) (orStop (peekIn true s q) (λ v. go (v .end)))
 
-abbrev pub pairOf : List ℕ → List ℕ → ℕ → Turn ℕ (Answer Fault ℕ)
-pairOf s key q = orStop (peekIn true s q) (λ h. orStop (followFrom s (position q 0)) (λ m. matchKey s key (h .end) (m .head)))
+abbrev pub pairAt : List ℕ → List ℕ → ℕ → Turn ℕ (Answer Fault ℕ)
+pairAt s key q = orStop (peekIn true s q) (λ h. orStop (followFrom s (position q 0)) (λ m. matchKey s key (h .end) (m .head)))
 
 abbrev pub pairAnswer : PairResult → Turn ℕ (Answer Fault ℕ)
 pairAnswer (Next q) = go q

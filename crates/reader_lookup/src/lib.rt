@@ -10,7 +10,7 @@ ghost use Prim.Native.Nat.{_≤_};
 ghost use lib.ListN.{length};
 ghost use Rattle.reader_region.specs.Answers.{offsetAnswer};
 ghost use Rattle.reader_lookup.specs.Lookup.{same, isKey, pairs, lookupOn, lookupOf};
-ghost use Rattle.reader_lookup.specs.Internal.{matchKey, pairOf, pairAnswer};
+ghost use Rattle.reader_lookup.specs.Internal.{matchKey, pairAt, pairAnswer};
 
 // One pair of a map: the offset of the next one, or the answer.
 enum PairResult {
@@ -47,7 +47,8 @@ fn is_key(region: &[u8], key: &[u8], h: Head) -> bool
     false
 }
 
-// A pair whose key, followed, has the head h, and whose value starts at q.
+// A pair whose key, followed, has the head h, and whose value starts at q. If the key differs, the value is read, to find
+// where the next pair starts.
 fn match_key(region: &[u8], key: &[u8], q: usize, h: Head) -> PairResult
     requires { ⌜ (h .first ≤ h .end) × (h .end ≤ length (now region)) ⌝ }
     ensures { λ r. ⌜ pairAnswer r ≡ matchKey (now (region .entry)) (now (key .entry)) q h ⌝ }
@@ -63,7 +64,7 @@ fn match_key(region: &[u8], key: &[u8], q: usize, h: Head) -> PairResult
 
 // A pair whose key starts at q.
 fn pair(region: &[u8], key: &[u8], q: usize) -> PairResult
-    ensures { λ r. ⌜ pairAnswer r ≡ pairOf (now (region .entry)) (now (key .entry)) q ⌝ }
+    ensures { λ r. ⌜ pairAnswer r ≡ pairAt (now (region .entry)) (now (key .entry)) q ⌝ }
 {
     match reader_region::peek_in(region, q, true) {
         ScanResult::Ok(h) => match reader_follow::follow_from(region, q) {
@@ -116,7 +117,7 @@ fn lookup_on(region: &[u8], at: usize, key: &[u8], h: Head) -> OffsetResult
 }
 
 // The offset of the value that a map has for a key: that of the first pair whose key, followed, is a text with these
-// bytes; it has to start in the region. A fault before it is the answer. The map itself is not followed.
+// bytes; TRUNC if it would start at the region's end. A fault before it is the answer. The map itself is not followed.
 pub fn lookup(file: &[u8], at: usize, key: &[u8]) -> OffsetResult
     ensures { λ r. ⌜ offsetAnswer r ≡ lookupOf (now (file .entry)) at (now (key .entry)) ⌝ }
 {

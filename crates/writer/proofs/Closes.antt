@@ -34,7 +34,7 @@ use Rattle.writer.proofs.Settled.{refused-settled}
 module _ (g : Bool) (e : ℕ) (s : State) (out table : List ℕ) (h : ListedTest g e s table) where
   -- the flags that the code passes
   abbrev request : CallFlags
-  request = record { alone = true; text = false; target = not g; adds = false }
+  request = record { alone = true; nontext = false; unlisted = not g; adds = false }
 
   abbrev full : Bool
   full = leb (limit (length out)) (s .written)
@@ -43,7 +43,7 @@ module _ (g : Bool) (e : ℕ) (s : State) (out table : List ℕ) (h : ListedTest
   unfolding deltaRefusal
   flags-same =
       refusal-same request (deltaFlags e s table) full s (length out) (length table) (λ q. let d = sound s _ _ q in
-      λ i. record { alone = true; text = false; target = not (h (d .short) (d .listed) i); adds = false })
+      λ i. record { alone = true; nontext = false; unlisted = not (h (d .short) (d .listed) i); adds = false })
 
   -- by what `may_close` returned
   module _ (may : Bool) (is : may ≡ isOk (refusalOf request full s (length out) (length table))) where

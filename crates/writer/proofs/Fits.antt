@@ -49,8 +49,8 @@ module _ (t : Token) (x : ℕ) (s : State) (out table : List ℕ) (g : Bool) (h 
       refusal-same (tokenFlagsBy (rule (t .kind)) (t .kind) g) (tokenFlags (opens t) t x s table) _ s (length out) (length table) (λ e. let d = sound s _ _ e in
       λ i. record {
         alone = opens t;
-        text = argument-text g (t .kind) (t .body) x s table h i;
-        target = argument-target g (t .kind) (t .body) x s table h (d .short) (d .listed) i;
+        nontext = argument-text g (t .kind) (t .body) x s table h i;
+        unlisted = argument-target g (t .kind) (t .body) x s table h (d .short) (d .listed) i;
         adds = true;
       })
 

@@ -51,7 +51,7 @@ abbrev pub ArgumentTest : Bool → ℕ → List ℕ → ℕ → State → List �
 ArgumentTest g k b x s table = IfElse (leb 14 k) (ListedTest g x s table) (IfElse (eqb k 4) (g ≡ isText b) (g ≡ true))
 
 abbrev pub tokenFlagsBy : Rule → ℕ → Bool → CallFlags
-tokenFlagsBy row k g = record { alone = not (immediate row); text = eqb k 4 && not g; target = leb 14 k && not g; adds = true }
+tokenFlagsBy row k g = record { alone = not (immediate row); nontext = eqb k 4 && not g; unlisted = leb 14 k && not g; adds = true }
 
 pub record FitOf (t : Token) (x : ℕ) (s : State) (out table : List ℕ) (r : Fit) : Type 0 where
   pub kind : t .kind < 16

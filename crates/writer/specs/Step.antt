@@ -123,13 +123,13 @@ bytesNeeded t s = length (emit t) + due (s .pending) (pendingOf t)
 abbrev pub tokenFlags : Bool → Token → ℕ → State → List ℕ → CallFlags
 tokenFlags alone t target s table = record {
   alone = alone;
-  text = eqb (t .kind) 4 && not (isText (t .body));
-  target = leb 14 (t .kind) && not (isListed s table target);
+  nontext = eqb (t .kind) 4 && not (isText (t .body));
+  unlisted = leb 14 (t .kind) && not (isListed s table target);
   adds = true;
 }
 
 abbrev pub deltaFlags : ℕ → State → List ℕ → CallFlags
-deltaFlags e s table = record { alone = true; text = false; target = not (isListed s table e); adds = false }
+deltaFlags e s table = record { alone = true; nontext = false; unlisted = not (isListed s table e); adds = false }
 
 unfoldable pub tokenRefusal : Bool → Token → ℕ → State → List ℕ → List ℕ → Verdict
 tokenRefusal alone t target s out table =

@@ -104,14 +104,14 @@ fn distance(w: usize, at: usize) -> u64
 }
 
 // The flags of a token. `good`: its text or target is right; `row`: the rule of its kind.
-fn token_request(row: Rule, kind: u8, good: bool) -> CallFlags
+fn token_flags(row: Rule, kind: u8, good: bool) -> CallFlags
     ensures { λ r. ⌜ r ≡ tokenFlagsBy row kind good ⌝ }
 {
     let immediate = kind::is_immediate(row);
     CallFlags {
         alone: !immediate,
-        text: (kind == kind::KIND_TEXT) & !good,
-        target: (kind::KIND_REFERENCE <= kind) & !good,
+        nontext: (kind == kind::KIND_TEXT) & !good,
+        unlisted: (kind::KIND_REFERENCE <= kind) & !good,
         adds: true,
     }
 }
@@ -153,7 +153,7 @@ impl Writer {
         requires { ⌜ (kind < 16) × (row ≡ rule kind) × ArgumentTest good kind (now body) target (self .state) (now starts) ⌝ }
         ensures { λ r. ⌜ FitOf (token kind n args (now (body .entry))) target (self .state) (now (out .entry)) (now (starts .entry)) r ⌝ }
     {
-        let request = token_request(row, kind, good);
+        let request = token_flags(row, kind, good);
         let size = emit::size_by(row, n, args, body);
         let left = writer_refusal::left(self.state.pending, row, n, args);
         Fit {
@@ -208,7 +208,7 @@ impl Writer {
     fn refuse_token(self, good: bool, kind: u8, bytes: usize, words: usize) -> WriteResult
         ensures { λ r. ⌜ Refused (tokenFlagsBy (rule kind) kind good) (self .state) bytes words r ⌝ }
     {
-        let request = token_request(kind::rule_of(kind), kind, good);
+        let request = token_flags(kind::rule_of(kind), kind, good);
         self.refuse(request, bytes, words)
     }
 
@@ -296,8 +296,8 @@ impl Writer {
     {
         let request = CallFlags {
             alone: true,
-            text: false,
-            target: !good,
+            nontext: false,
+            unlisted: !good,
             adds: false,
         };
         if writer_refusal::may_close(self.state, request, out.len(), starts.len()) {
@@ -324,8 +324,8 @@ impl Writer {
         if 0 < self.state.pending {
             let request = CallFlags {
                 alone: true,
-                text: false,
-                target: !good,
+                nontext: false,
+                unlisted: !good,
                 adds: true,
             };
             return self.refuse(request, out.len(), starts.len());

@@ -54,8 +54,8 @@ pub record Granted (q : CallFlags) (short : Bool) (s : State) (n m : ℕ) : Type
   pub good : badState s n m ≡ false
   pub unclosed : s .closed ≡ false
   pub alike : q .alone && ltb 0 (s .pending) ≡ false
-  pub text : q .text ≡ false
-  pub target : q .target ≡ false
+  pub text : q .nontext ≡ false
+  pub target : q .unlisted ≡ false
   pub word : q .adds && eqb (s .pending) 0 && leb m (s .count) ≡ false
   pub fits : short ≡ false
 
@@ -75,8 +75,8 @@ module _ (q : CallFlags) (short : Bool) (s : State) (n m : ℕ) where
       past (badState s n m) _ _ e (λ a e₁.
       past (s .closed) _ _ e₁ (λ b e₂.
       past (q .alone && ltb 0 (s .pending)) _ _ e₂ (λ c e₃.
-      past (q .text) _ _ e₃ (λ d e₄.
-      past (q .target) _ _ e₄ (λ f e₅.
+      past (q .nontext) _ _ e₃ (λ d e₄.
+      past (q .unlisted) _ _ e₄ (λ f e₅.
       past (q .adds && eqb (s .pending) 0 && leb m (s .count)) _ _ e₅ (λ g e₆.
       past short _ _ e₆ (λ h _.
       record { good = a; unclosed = b; alike = c; text = d; target = f; word = g; fits = h })))))))
@@ -115,8 +115,8 @@ refusal-short q false s n m e =
     other (badState s n m) _
     (other (s .closed) _
     (other (q .alone && ltb 0 (s .pending)) _
-    (other (q .text) _
-    (other (q .target) _
+    (other (q .nontext) _
+    (other (q .unlisted) _
     (other (q .adds && eqb (s .pending) 0 && leb m (s .count)) _
     (λ e. absurd (true≢false e))))))) e
   where

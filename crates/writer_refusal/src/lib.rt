@@ -27,10 +27,10 @@ pub struct State {
 pub struct CallFlags {
     // It may not come while items are pending: an opening, or a close.
     pub alone: bool,
-    // Its argument is to be text, and is not.
-    pub text: bool,
+    // Its argument should be text, and is not.
+    pub nontext: bool,
     // Its target is not listed.
-    pub target: bool,
+    pub unlisted: bool,
     // It writes a token, which needs a free word if it begins a value.
     pub adds: bool,
 }
@@ -62,7 +62,7 @@ fn items(rule: Rule, n: u64, args: u64) -> u64
     limit(rule.single + rule.each * limit(n) + limit(args))
 }
 
-// The items pending after a token; its own count as LIMIT if they are more.
+// The items pending after a token; a token's own items count as at most LIMIT.
 pub fn left(before: u64, rule: Rule, n: u64, args: u64) -> u64
     requires { ⌜ (rule .single ≤ 1) × (rule .each ≤ 4) ⌝ }
     ensures { λ r. ⌜ r ≡ due before (limit (pending rule n args)) ⌝ }
@@ -126,8 +126,9 @@ pub fn may_write(
     ensures { λ r. ⌜ r ≡ isOk (refusalOf request (ltb (room state bytes) (size + left)) state bytes words) ⌝ }
 {
     let short = is_short(state, size, left, bytes);
+    // OWED; or BAD_STATE: the open value does not start below the bytes written
     let late = (0 < state.pending) & (request.alone | (state.written <= state.start));
-    let wrong = request.text | request.target;
+    let wrong = request.nontext | request.unlisted;
     (state.count < words) & !state.closed & !late & !wrong & !short
 }
 
@@ -138,12 +139,12 @@ pub fn may_close(state: State, request: CallFlags, bytes: usize, words: usize) -
 {
     let bad = is_bad_state(state, bytes, words);
     let late = request.alone & (0 < state.pending);
-    let wrong = request.text | request.target;
-    let full = end(bytes) <= state.written;
-    !bad & !state.closed & !late & !wrong & !full
+    let wrong = request.nontext | request.unlisted;
+    let short = end(bytes) <= state.written;
+    !bad & !state.closed & !late & !wrong & !short
 }
 
-// The first reason to refuse a call, NO_ROOM if there is no other.
+// The first reason to refuse a call that `may_write` or `may_close` does not accept: NO_ROOM if there is no other.
 pub fn refusal(state: State, request: CallFlags, bytes: usize, words: usize) -> ErrorKind
     ensures { λ r. ⌜ error (numberOf r) ≡ refusalOf request true state bytes words ⌝ }
 {
@@ -156,10 +157,10 @@ pub fn refusal(state: State, request: CallFlags, bytes: usize, words: usize) -> 
     if request.alone & (0 < state.pending) {
         return ErrorKind::Owed;
     }
-    if request.text {
+    if request.nontext {
         return ErrorKind::BadText;
     }
-    if request.target {
+    if request.unlisted {
         return ErrorKind::BadTarget;
     }
     if request.adds & (state.pending == 0) & (words <= state.count) {

@@ -14,11 +14,11 @@ use Rattle.writer_refusal.proofs.may_close.Statement.{statement}
 use Rattle.writer_refusal.proofs.may_close.Tie as tie
 
 may-close : (q : CallFlags) (s : State) (n m : ℕ) (b : Bool) (end : ℕ) → b ≡ badState s n m → end ≡ limit n → q .adds ≡ false
-    → not b && not (s .closed) && not (q .alone && ltb 0 (s .pending)) && not (q .text || q .target) && not (leb end (s .written))
+    → not b && not (s .closed) && not (q .alone && ltb 0 (s .pending)) && not (q .nontext || q .unlisted) && not (leb end (s .written))
     ≡ isOk (refusalOf q (leb (limit n) (s .written)) s n m)
 unfolding refusalOf
 may-close q s n m b end is at e =
-    rw (is, at, e) (table (badState s n m) (s .closed) (q .alone && ltb 0 (s .pending)) (q .text) (q .target) (leb (limit n) (s .written)))
+    rw (is, at, e) (table (badState s n m) (s .closed) (q .alone && ltb 0 (s .pending)) (q .nontext) (q .unlisted) (leb (limit n) (s .written)))
   where
     table : (a b c d e f : Bool)
         → not a && not b && not c && not (d || e) && not f

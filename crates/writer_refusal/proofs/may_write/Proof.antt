@@ -38,15 +38,15 @@ module _ (q : CallFlags) (s : State) (n m size left : ℕ) (short : Bool) (is : 
   -- the tests that the code makes
   abbrev tests : Bool
   tests =
-      ltb (s .count) m && not (s .closed) && not (ltb 0 (s .pending) && (q .alone || leb (s .written) (s .start))) && not (q .text || q .target) && not short
+      ltb (s .count) m && not (s .closed) && not (ltb 0 (s .pending) && (q .alone || leb (s .written) (s .start))) && not (q .nontext || q .unlisted) && not short
 
   granted : tests ≡ true → Granted q short s n m
   granted e =
       and-true _ (not short) e (λ e₁ f.
-      and-true _ (not (q .text || q .target)) e₁ (λ e₂ w.
+      and-true _ (not (q .nontext || q .unlisted)) e₁ (λ e₂ w.
       and-true _ (not (ltb 0 (s .pending) && (q .alone || leb (s .written) (s .start)))) e₂ (λ e₃ l.
       and-true (ltb (s .count) m) (not (s .closed)) e₃ (λ c u.
-      or-false (q .text) (q .target) (not-true _ w) (λ text target.
+      or-false (q .nontext) (q .unlisted) (not-true _ w) (λ text target.
       let fits = not-true _ f in
       let room : size + left ≤ room s n = ltb-false _ _ (sym is ∙ fits) in
       let word : s .count < m = ltb-true _ _ c in

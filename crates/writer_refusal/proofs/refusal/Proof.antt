@@ -29,16 +29,16 @@ module _ (q : CallFlags) (s : State) (n m : ℕ) (b : Bool) (is : b ≡ badState
       refusal-pending e = rw (← is, fits, unclosed, e)
 
       module _ (alike : q .alone && ltb 0 (s .pending) ≡ false) where
-        refusal-text : q .text ≡ true → error BAD_TEXT ≡ refusalOf q true s n m
+        refusal-text : q .nontext ≡ true → error BAD_TEXT ≡ refusalOf q true s n m
         unfolding refusalOf
         refusal-text e = rw (← is, fits, unclosed, alike, e)
 
-        module _ (text : q .text ≡ false) where
-          refusal-target : q .target ≡ true → error BAD_TARGET ≡ refusalOf q true s n m
+        module _ (text : q .nontext ≡ false) where
+          refusal-target : q .unlisted ≡ true → error BAD_TARGET ≡ refusalOf q true s n m
           unfolding refusalOf
           refusal-target e = rw (← is, fits, unclosed, alike, text, e)
 
-          module _ (target : q .target ≡ false) where
+          module _ (target : q .unlisted ≡ false) where
             refusal-full : q .adds && eqb (s .pending) 0 && leb m (s .count) ≡ true → error FULL ≡ refusalOf q true s n m
             unfolding refusalOf
             refusal-full e = rw (← is, fits, unclosed, alike, text, target, e)

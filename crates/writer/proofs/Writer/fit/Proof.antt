@@ -20,9 +20,9 @@ fit-spec =
     (λ c κs. let s = start c in
     let r = rule-row (s .args .kind) in
     rw (s .pre .1) (r .single, omega (arith, r .unit)))
-    (λ c κs. let z = c .before in (rw (z .before .token-request .ensures) refl, omega (arith, z .size-by .ensures)))
+    (λ c κs. let z = c .before in (rw (z .before .token-flags .ensures) refl, omega (arith, z .size-by .ensures)))
     (λ c. let z = c .before .before in
     let s = start z in
     let a = s .args in
-    fit-is (token (a .kind) (a .n) (a .args) (a .body .now)) _ _ _ _ (a .good) _ _ _ _ _ (s .pre .0) (s .pre .1) (s .pre .2) (z .before .token-request .ensures)
+    fit-is (token (a .kind) (a .n) (a .args) (a .body .now)) _ _ _ _ (a .good) _ _ _ _ _ (s .pre .0) (s .pre .1) (s .pre .2) (z .before .token-flags .ensures)
     (z .size-by .ensures) (c .before .left .ensures) (c .may-write .ensures)))

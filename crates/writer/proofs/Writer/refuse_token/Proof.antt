@@ -10,4 +10,4 @@ refuse-token-spec =
     (λ c κs. search needs)
     (λ c κs. search needs)
     (λ c κs. search needs)
-    (λ c. let q = c .before in rw (q .token-request .ensures, q .before .rule-of .ensures) at (c .refuse .ensures)))
+    (λ c. let q = c .before in rw (q .token-flags .ensures, q .before .rule-of .ensures) at (c .refuse .ensures)))

@@ -11,13 +11,13 @@ use Rattle.values.specs.Paths.{depthsOfValues}
 use Rattle.values.proofs.Depths.{acyclic, length-depths, depth-is}
 use Rattle.checker.specs.Check.{filled, checkOf}
 use Rattle.depths.specs.Depths.{deepened}
-use Rattle.guarantees.specs.Descended.{Descended}
+use Rattle.guarantees.specs.AcceptedPaths.{AcceptedPaths}
 use Rattle.guarantees.proofs.Accepted.{accepted}
 use Rattle.guarantees.proofs.Hops.{hops}
 use Rattle.guarantees.proofs.Depths.{depths-accept}
 
-pub descends : (file : List ℕ) (cap count entry : ℕ) → Bytes file → checkOf file cap .answer ≡ ok (count, entry) → Descended file count entry
-descends file cap count entry b e =
+pub accepted-paths : (file : List ℕ) (cap count entry : ℕ) → Bytes file → checkOf file cap .answer ≡ ok (count, entry) → AcceptedPaths file count entry
+accepted-paths file cap count entry b e =
     let a = accepted file cap count entry b e in
     let vs = a .values in
     let w = a .wellFormed in

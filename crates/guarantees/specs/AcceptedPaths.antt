@@ -1,6 +1,6 @@
 -- What is so of the paths in a file that check accepts (demand 3, last sentence; document 01, "Check and depths", "Questions at an offset").
 --
---   Descended file count entry
+--   AcceptedPaths file count entry
 --                the file has `count` values; no path from one of them meets a value twice, since the numbers of the values met fall; depths,
 --                with words enough in both tables, accepts the file, and leaves the starts, and one depth a value; a value's depth is the number
 --                of values on the longest path from it; and following from value number j leads, by at most j hops, to a value that is
@@ -16,7 +16,7 @@ use Rattle.checker.specs.Check.{filled}
 use Rattle.depths.specs.Depths.{deepened, depthsOf}
 use Rattle.guarantees.specs.Places.{FollowsTo}
 
-pub record Descended (file : List ℕ) (count entry : ℕ) : Type 0 where
+pub record AcceptedPaths (file : List ℕ) (count entry : ℕ) : Type 0 where
   pub values : List Value
   pub wellFormed : WellFormed file values entry
   pub counted : count ≡ length values
