@@ -9,9 +9,15 @@
 --   rowOf file at h    the row of its kind
 --   headC file at a    the four words for a head; or the error's number, and its place and zeros
 --   readC file at      the same for the value at an offset of a file
+--   wordOf z           an integer as a word, in two's complement
+--   wordsC after r     the four words by a value's row (`ValueRow`); after is the offset just after the numbers, for a row
+--                      that does not have it
+--   valueC after a     the four words, or the error's, by what `read` answers
+--   afterNumbers a     the offset just after the numbers of a head; 0 for an error
 use Prim.Native.Nat.{ℕ, _-_, _^_}
 use mathlib.Core.List.{List, [], _∷_}
 use lib.Dec.{eqb}
+use lib.IntN.{ℤ, pos, negsuc}
 use lib.ListN.{drop, getD}
 use Rattle.prelude.specs.Pick.{pick}
 use Rattle.prelude.specs.Answer.{Answer, ok, error}
@@ -19,6 +25,9 @@ use Rattle.error.specs.Error.{Fault}
 use Rattle.little_endian.specs.LittleEndian.{load}
 use Rattle.scan.specs.declared.Head.{Head}
 use Rattle.reader_region.specs.Region.{peekOf}
+use Rattle.reader_value.specs.declared.Value.{Value}
+use Rattle.reader_value.specs.Row.{ValueRow}
+use Rattle.reader_value.specs.Answers.{rowOfValue}
 use Rattle.abi_answer.specs.declared.Row.{Row}
 use Rattle.abi_error.specs.Reply.{Reply, reply}
 
@@ -61,3 +70,18 @@ headC file at (error e) = reply (e .number) (e .place ∷ 0 ∷ 0 ∷ 0 ∷ [])
 
 abbrev pub readC : List ℕ → ℕ → Reply
 readC file at = headC file at (peekOf file at)
+
+abbrev pub wordOf : ℤ → ℕ
+wordOf (pos n) = n
+wordOf (negsuc n) = 2 ^ 64 - 1 - n
+
+abbrev pub wordsC : ℕ → ValueRow → Reply
+wordsC after r = reply 0 (r .kind ∷ wordOf (r .number) ∷ pick (eqb (r .first) 0) after (r .first) ∷ r .count ∷ [])
+
+abbrev pub valueC : ℕ → Answer Fault Value → Reply
+valueC after (ok v) = wordsC after (rowOfValue v)
+valueC after (error e) = reply (e .number) (e .place ∷ 0 ∷ 0 ∷ 0 ∷ [])
+
+abbrev pub afterNumbers : Answer Fault Head → ℕ
+afterNumbers (ok h) = h .first
+afterNumbers (error e) = 0

@@ -18,6 +18,7 @@ use Rattle.prelude.specs.Pick.{pick}
 use Rattle.prelude.specs.Answer.{ok, bind}
 use Rattle.prelude.specs.Bytes.{Bytes}
 use Rattle.prelude.proofs.Tests.{pick-elim, split, facts}
+use Rattle.prelude.proofs.Tables.{set-row}
 use Rattle.little_endian.specs.LittleEndian.{little, fromLittle}
 use Rattle.little_endian.proofs.Laws.{little-from, value-lt}
 use Rattle.kind.specs.Kind.{rule, size}
@@ -35,7 +36,6 @@ use Rattle.guarantees.specs.Places.{TokenAt}
 use Rattle.guarantees.specs.Model.{Part, part, ModelValue, modelValue, formOf, formsOf, valueAt, valuesAt, adds, requestOf}
 use Rattle.guarantees.specs.Rewrites.{callRows, callOf, callOfValue}
 use Rattle.guarantees.proofs.Rows.{Rows, past, _▸_, rows-at}
-use Rattle.guarantees.proofs.Tokens.{set-row}
 use Rattle.guarantees.proofs.ReadsFile.{reads-token, reads-body}
 
 -- ---- the parts of tokens and of values

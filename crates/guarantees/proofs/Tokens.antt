@@ -2,19 +2,20 @@
 --
 -- In order: its body; the value on its head is what the pages say (`value-on-token`); it is looked at (`peek-emit`),
 -- and so are items one after the other (`walk-emit`).
-use mathlib.Core.Path.{_≡_, refl, sym, ap, _∙_}
+use mathlib.Core.Path.{_≡_, refl, sym}
 use mathlib.Core.Bool.{Bool, true, false}
 use mathlib.Core.List.{List, [], _∷_, _++_, append-assoc}
-use Prim.Native.Nat.{ℕ, zero, suc, _+_, _-_, _*_, _≤_, _<_}
+use Prim.Native.Nat.{ℕ, _+_, _-_, _*_, _≤_, _<_}
 use native.Mathlib.Nat.{add-zero}
 use native.Mathlib.Omega.{arith}
 use lib.Dec.{eqb}
-use lib.ListN.{length, getD, set, drop, length-append}
+use lib.ListN.{length, drop, length-append}
 use lib.Seq.{take-at, drop-append-seam, drop-drop}
 use borrow.Author.Tests.{le-leb, lt-leb, eqb-false}
 use Rattle.prelude.specs.Pick.{pick}
 use Rattle.prelude.specs.Answer.{ok, bind}
 use Rattle.prelude.proofs.Tests.{pick-cong, split, facts}
+use Rattle.prelude.proofs.Tables.{SameRow, same-row}
 use Rattle.prelude.proofs.Readers.{bind-ok}
 use Rattle.little_endian.specs.LittleEndian.{fromLittle, load}
 use Rattle.kind.specs.Kind.{rule, size}
@@ -26,7 +27,6 @@ use Rattle.values.specs.Values.{bytes, Each, Item, HasTargets}
 use Rattle.values.proofs.Laws.{fits-item}
 use Rattle.reader_region.specs.Region.{below, peekIn}
 use Rattle.reader_value.specs.Value.{float, valueRows, valueOn}
-use Rattle.reader_value.specs.declared.Value.{Value}
 use Rattle.reader_value.specs.declared.Value.the-variants.{Null, Float32, Float64}
 use Rattle.reader_items.specs.Items.{skipItems}
 use Rattle.guarantees.specs.TokenValues.{tokenEnd, tokenRows, valueOfToken}
@@ -47,21 +47,6 @@ unfolding load
 bits-front k b s e = let there : k ≤ length (b ++ s) = omega (arith, length-append b s) in rw (le-leb _ _ there, take-at b s k e)
 
 -- ---- the value on its head
-
--- two tables have the same row k
-record Same (k : ℕ) (xs ys : List Value) : Type 0 where
-  row : getD xs k Null ≡ getD ys k Null
-
-pub set-row : {A : Type 0} (xs : List A) (i k : ℕ) (y d : A) → (k ≡ i → getD xs i d ≡ y) → getD xs k d ≡ getD (set xs i y) k d
-set-row [] i k y d h = refl
-set-row (x ∷ xs) zero zero y d h = h refl
-set-row (x ∷ xs) zero (suc k) y d h = refl
-set-row (x ∷ xs) (suc i) zero y d h = refl
-set-row (x ∷ xs) (suc i) (suc k) y d h = set-row xs i k y d (λ e. h (ap suc e))
-
--- row i, the same in both if it is the row asked for, is taken from the other table
-own : {k : ℕ} {xs ys : List Value} (i : ℕ) → (k ≡ i → getD xs i Null ≡ getD ys i Null) → Same k (set xs i (getD ys i Null)) ys → Same k xs ys
-own {k} {xs} {ys} i h more = record { row = set-row xs i k (getD ys i Null) Null h ∙ more .row }
 
 module _ (p : List ℕ) (t : Token) (s : List ℕ) (f : Allowed t) where
   abbrev head : Head
@@ -86,17 +71,17 @@ module _ (p : List ℕ) (t : Token) (s : List ℕ) (f : Allowed t) where
   counts : (k : ℕ) → rule k .args ≡ false → rule k .single ≡ 0 → t .kind ≡ k → head .items ≡ rule k .each * t .n
   counts k one single e = let none : t .args ≡ 0 = f .alone (rw e one) in rw (e, single) (omega arith)
 
-  same-rows : Same (t .kind) (valueRows (p ++ (emit t ++ s)) (length p) head) (tokenRows (length p) t)
+  same-rows : SameRow (t .kind) Null (valueRows (p ++ (emit t ++ s)) (length p) head) (tokenRows (length p) t)
   unfolding rule
   same-rows =
-      own 3 float-is
-      (own 4 (λ e. rw (body-len (length p) t))
-      (own 5 (λ e. rw (body-len (length p) t))
-      (own 6 (λ e. let one : 1 * t .n ≡ t .n = omega arith in rw (bare 6 refl refl e, counts 6 refl refl e, one))
-      (own 7 (λ e. rw (bare 7 refl refl e, counts 7 refl refl e))
-      (own 8 (λ e. rw (bare 8 refl refl e))
-      (own 11 (λ e. rw (bare 11 refl refl e))
-      (own 12 (λ e. let args : head .items ≡ t .args = rw e (omega arith) in rw (bare 12 refl refl e, args))
+      same-row 3 float-is
+      (same-row 4 (λ e. rw (body-len (length p) t))
+      (same-row 5 (λ e. rw (body-len (length p) t))
+      (same-row 6 (λ e. let one : 1 * t .n ≡ t .n = omega arith in rw (bare 6 refl refl e, counts 6 refl refl e, one))
+      (same-row 7 (λ e. rw (bare 7 refl refl e, counts 7 refl refl e))
+      (same-row 8 (λ e. rw (bare 8 refl refl e))
+      (same-row 11 (λ e. rw (bare 11 refl refl e))
+      (same-row 12 (λ e. let args : head .items ≡ t .args = rw e (omega arith) in rw (bare 12 refl refl e, args))
       (record { row = refl }))))))))
 
   pub value-on-token : valueOn (p ++ (emit t ++ s)) (length p) head ≡ valueOfToken (length p) t

@@ -8,7 +8,8 @@ ghost use lib.IntN.{pos, negsuc};
 ghost use lib.ListN.{length};
 ghost use Rattle.reader_region.specs.Internal.{Peeked};
 ghost use Rattle.reader_value.specs.Value.{scalar, float, valueOn, readOf};
-ghost use Rattle.reader_value.specs.Answers.{readAnswer};
+ghost use Rattle.reader_value.specs.Row.{readRowOf};
+ghost use Rattle.reader_value.specs.Answers.{readAnswer, rowAnswer};
 
 // One value. Items and text bytes are not looked at.
 pub enum Value {
@@ -107,7 +108,9 @@ fn negative(n: u64) -> Value
     requires { ⌜ n < 2 ^ 63 ⌝ }
     ensures { λ r. ⌜ r ≡ Value.Integer (negsuc n) ⌝ }
 {
-    Value::Integer(-1 - n as i64)
+    let m = n as i64;
+    let z = -1 - m;
+    Value::Integer(z)
 }
 
 // The value at `at` with head h: the kinds in their order; 9 and 13 are reserved.
@@ -166,7 +169,7 @@ fn value_on(region: &[u8], at: usize, h: Head) -> Value
 
 // The value at `at`. Neither items nor text bytes are looked at, and a target only has to be 0 or more.
 pub fn read(file: &[u8], at: usize) -> ReadResult
-    ensures { λ r. ⌜ readAnswer r ≡ readOf (now (file .entry)) at ⌝ }
+    ensures { λ r. ⌜ (readAnswer r ≡ readOf (now (file .entry)) at) × (rowAnswer r ≡ readRowOf (now (file .entry)) at) ⌝ }
 {
     match reader_region::peek(file, at) {
         ScanResult::Ok(h) => ReadResult::Ok(value_on(reader_region::region(file), at, h)),

@@ -14,7 +14,7 @@ use Rattle.prelude.specs.Answer.{Answer, ok, Res, got, bad}
 use Rattle.prelude.specs.Bytes.{Bytes}
 use Rattle.prelude.proofs.Parts.{bytes-drop}
 use Rattle.error.specs.Error.{Fault}
-use Rattle.kind.specs.Kind.{rule, pending}
+use Rattle.kind.specs.Kind.{rule, size, pending}
 use Rattle.token.specs.Token.{Token, emit, Fits}
 use Rattle.token.specs.Scan.{scan}
 use Rattle.token.proofs.Laws.{length-emit, drop-emit, scan-emit, emit-scan}
@@ -22,7 +22,8 @@ use Rattle.token.proofs.Ends.{Left, scan-left, scan-item, item-pending}
 use Rattle.scan.specs.Answers.{headOf, scanAt}
 use Rattle.scan.specs.declared.Head.{Head}
 
--- a head scanned at `at` of the region s: its offsets, and that its kind allows its number
+-- a head scanned at `at` of the region s: its offsets, that its kind allows its number, and that the body's bytes and,
+-- for a kind without a second number, the items are those that the kind has for n
 pub record Within (s : List ℕ) (at : ℕ) (h : Head) : Type 0 where
   pub numbers : at < h .first
   pub body : h .first ≤ h .end
@@ -30,6 +31,7 @@ pub record Within (s : List ℕ) (at : ℕ) (h : Head) : Type 0 where
   pub items : h .items ≤ suc (length s - h .end)
   pub used : 0 < rule (h .kind) .lows
   pub most : h .n ≤ rule (h .kind) .most
+  pub sized : h .end - h .first ≡ size (rule (h .kind)) (h .n)
   pub counted : rule (h .kind) .args ≡ false → h .items ≡ rule (h .kind) .single + rule (h .kind) .each * h .n
 
 seen-bad : {X : Type 0} (len : ℕ) (h : Head) (f : Fault) → ok h ≡ headOf len (bad f) → X
@@ -56,6 +58,7 @@ within-left s at h (got t rest) left e =
       items = omega (arith, l .after, l .count);
       used = l .used;
       most = l .most;
+      sized = omega (arith, l .after, l .sized);
       counted = λ f. rw (l .alone f) (omega arith);
     })
 within-left s at h (bad f) left e = seen-bad (length s) h f e

@@ -15,7 +15,7 @@ use Rattle.prelude.specs.Answer.{Res, got}
 use Rattle.prelude.proofs.Tests.{facts}
 use Rattle.prelude.proofs.Readers.{orError-by, need-by, need-ok, bind-by, bad-got}
 use Rattle.leb128.proofs.Laws.{get-ends}
-use Rattle.kind.specs.Kind.{rule, pending}
+use Rattle.kind.specs.Kind.{rule, size, pending}
 use Rattle.kind.proofs.Laws.{rule-row, immediate-none}
 use Rattle.token.specs.Token.{Token}
 use Rattle.token.specs.Scan.{getIf, number, scanKind, scan}
@@ -53,13 +53,14 @@ number-none at false s v rest f e = orError-by _ _ e (λ e₁. cc)
 
 -- ---- what `scan` leaves
 
--- the body and the rest are shorter than s, the counted items have a byte each, the kind is in use, n is within its bound, and a second number is
--- there only of a kind that has one
+-- the body and the rest are shorter than s, the counted items have a byte each, the kind is in use, n is within its bound,
+-- the body is as long as n says, and there is an argument count only if the kind has one
 pub record Left (s : List ℕ) (t : Token) (rest : List ℕ) : Type 0 where
   pub after : length (t .body) + length rest < length s
   pub count : pending (rule (t .kind)) (t .n) (t .args) ≤ suc (length rest)
   pub used : 0 < rule (t .kind) .lows
   pub most : t .n ≤ rule (t .kind) .most
+  pub sized : length (t .body) ≡ size (rule (t .kind)) (t .n)
   pub alone : rule (t .kind) .args ≡ false → t .args ≡ 0
 
 pub scan-left : (inner : Bool) (at : ℕ) (s : List ℕ) (t : Token) (rest : List ℕ) → scan inner at s ≡ got t rest → Left s t rest
@@ -79,6 +80,7 @@ scan-left inner at (h ∷ s) t rest e =
       count = omega (arith, rule-row (h / 16) .single);
       used = omega facts;
       most = omega facts;
+      sized = sized;
       alone = λ f. number-none _ _ s₁ a s₂ f ea;
     })))))))
 
