@@ -23,8 +23,7 @@ use Rattle.reader_value.specs.declared.Value.{Value}
 use Rattle.reader_items.specs.Items.{skipIn, skipOf, itemOn, itemIn, itemOf}
 use Rattle.guarantees.specs.Items.{countOf}
 use Rattle.guarantees.proofs.Heads.{count-value, read-by}
-use Rattle.guarantees.proofs.Queries as queries
-use Rattle.guarantees.proofs.Queries.{item-found, itemIn-next, itemIn-last, region-any, in-region-of}
+use Rattle.guarantees.proofs.Queries.{no-item-on, item-found, itemIn-next, itemIn-last, region-any, in-region-of}
 
 -- a count is that of a head whose kind has items
 some-by : {X : Type 0} (t : Bool) (m n : ℕ) → pick t none (some m) ≡ some n → (t ≡ false → m ≡ n → X) → X
@@ -57,7 +56,7 @@ module _ (file : List ℕ) (at : ℕ) (v : Value) (read : readOf file at ≡ ok 
   module _ (n : ℕ) (count : countOf v ≡ some n) where
     pub no-item : (i : ℕ) → n ≤ i → itemOf file at i ≡ error (fault NO_ITEM at)
     no-item i past =
-        counted-by n count (λ len h opened peeked holds items. sym (queries.no-item file at i len h opened peeked holds (omega arith)))
+        counted-by n count (λ len h opened peeked holds items. sym (no-item-on file at i len h opened peeked holds (omega arith)))
 
     -- item i of a value that `skip` accepts
     module _ (i p end : ℕ) (here : itemOf file at i ≡ ok p) (skips : skipOf file at ≡ ok end) where

@@ -5,29 +5,31 @@
 -- returns, written again); demand 3 (lists of calls, targets, read back, paths and depths); what these rest on (numbers
 -- and tokens there and back); document 01's samples.
 use mathlib.Core.Path.{_≡_}
-use mathlib.Core.Bool.{Bool, true, false}
+use mathlib.Core.Bool.{Bool, true}
 use mathlib.Core.Logic.{_⊎_, _↔_}
 use mathlib.Core.List.{List, [], _∷_, _++_, map}
 use Prim.Native.Nat.{ℕ, suc, _+_, _≤_, _<_}
+use mathlib.Core.Option.{some}
 use lib.ListN.{length, take, drop, getD, replicate}
 use Rattle.prelude.specs.Answer.{ok, error, got}
 use Rattle.prelude.specs.Bytes.{Bytes}
+use Rattle.prelude.specs.Search.{among}
 use Rattle.error.specs.Error.{Fault, fault, LIMIT, EMPTY, TOO_LONG, TRUNC, FULL, BAD_ENTRY, NO_ITEM, CLOSED}
 use Rattle.leb128.specs.Leb.{top, get, put}
 use Rattle.leb128.proofs.Laws as leb128
-use Rattle.kind.specs.Kind.{rule, immediate}
 use Rattle.token.specs.Token.{Token, emit, Fits}
 use Rattle.token.specs.Scan.{scan}
 use Rattle.token.proofs.Laws.{Scanned}
 use Rattle.token.proofs.Laws as token
-use Rattle.scan.specs.declared.Head.{Head}
 use Rattle.values.specs.Values.{Value, bytes, region, starts, Each, Values, WellFormed}
-use Rattle.values.specs.Paths.{Path, Depth, Falling, depthsOfValues}
+use Rattle.values.specs.Paths.{Path, Depth, Falling, Refers, Leads, depthsOfValues}
 use Rattle.values.proofs.Unique as unique
 use Rattle.values.proofs.Depths as paths
-use Rattle.reader_region.specs.Region.{regionLen, peekIn}
+use Rattle.values.proofs.Leads as leads
 use Rattle.reader_value.specs.Value.{readOf}
+use Rattle.reader_value.specs.declared.Value.{Value as ReadValue}
 use Rattle.reader_items.specs.Items.{itemOf}
+use Rattle.reader_lookup.specs.Lookup.{lookupOf}
 use Rattle.checker_value.specs.Walk.{nextToken}
 use Rattle.checker.specs.Check.{checked, filled, checkOf}
 use Rattle.depths.specs.Depths.{deepened, depthsOf}
@@ -41,6 +43,10 @@ use Rattle.guarantees.specs.Accepts.{Accepted, Overfull}
 use Rattle.guarantees.specs.Refused.{Unnamed, Faulty}
 use Rattle.guarantees.specs.TokenValues.{tokenEnd, valueOfToken}
 use Rattle.guarantees.specs.Places.{FollowsTo}
+use Rattle.guarantees.specs.Items.{countOf}
+use Rattle.guarantees.specs.Lookup.{Found, Missing, FirstPair, NoPair}
+use Rattle.guarantees.specs.Errors.{checkErrors}
+use Rattle.guarantees.specs.AcceptedPaths.{AcceptedPaths}
 use Rattle.guarantees.specs.Samples.{Query, SampleAnswer, sampleAnswer, samples}
 use Rattle.guarantees.specs.Model.{Part, adds, requestOf, emptyModel}
 use Rattle.guarantees.specs.History.{runs, modelRun, Agree}
@@ -51,9 +57,13 @@ use Rattle.guarantees.specs.Written.{writes, expects, written}
 use Rattle.guarantees.proofs.Accepted as accepted
 use Rattle.guarantees.proofs.Full as full
 use Rattle.guarantees.proofs.Refused as refused
-use Rattle.guarantees.proofs.Queries as queries
+use Rattle.guarantees.proofs.ReadErrors as errors
+use Rattle.guarantees.proofs.Items as items
+use Rattle.guarantees.proofs.Lookups as lookups
 use Rattle.guarantees.proofs.ReadsFile as reads
 use Rattle.guarantees.proofs.Hops as follows
+use Rattle.guarantees.proofs.ReadsLookup as reads-lookups
+use Rattle.guarantees.proofs.AcceptedPaths as path-facts
 use Rattle.guarantees.proofs.Depths.{Zeros}
 use Rattle.guarantees.proofs.Depths as depths
 use Rattle.guarantees.proofs.Samples as sampled
@@ -79,9 +89,12 @@ refused-zero = full.refused-zero
 pub depths-zero : (file : List ℕ) (cap room : ℕ) (f : Fault) → depthsOf file cap room .answer ≡ error f → Zeros cap room (depthsOf file cap room)
 depths-zero = depths.depths-zero
 
-pub no-item : (file : List ℕ) (at i n : ℕ) (h : Head) → ok n ≡ regionLen (length file) at → ok h ≡ peekIn false (take n file) at
-    → immediate (rule (h .kind)) ≡ false → h .items ≤ i → error (fault NO_ITEM at) ≡ itemOf file at i
-no-item = queries.no-item
+pub no-item : (file : List ℕ) (at : ℕ) (v : ReadValue) → readOf file at ≡ ok v → (n : ℕ) → countOf v ≡ some n
+    → (i : ℕ) → n ≤ i → itemOf file at i ≡ error (fault NO_ITEM at)
+no-item = items.no-item
+
+pub check-errors : (file : List ℕ) (cap : ℕ) (f : Fault) → checkOf file cap .answer ≡ error f → among (f .number) checkErrors ≡ true
+check-errors = errors.check-errors
 
 -- ---- demand 2: exactly the well-formed files
 
@@ -131,6 +144,25 @@ pub reads-item : (file : List ℕ) (vs : List Value) (entry : ℕ) → WellForme
     → (itemOf file (length (region a)) (length is) ≡ ok q) × (readOf file q ≡ ok (valueOfToken q t))
 reads-item = reads.reads-item
 
+-- ---- demand 2: lookup, on every file and on a well-formed one
+
+pub lookup-found-exactly : (file : List ℕ) (at : ℕ) (key : List ℕ) (x : ℕ) → (lookupOf file at key ≡ ok x) ↔ Found file at key x
+lookup-found-exactly = lookups.lookup-found-exactly
+
+pub lookup-none-exactly : (file : List ℕ) (at : ℕ) (key : List ℕ) (p : ℕ)
+    → (lookupOf file at key ≡ error (fault NO_ITEM p)) ↔ ((p ≡ at) × Missing file at key)
+lookup-none-exactly = lookups.lookup-none-exactly
+
+pub reads-lookup : (file : List ℕ) (vs : List Value) (entry : ℕ) → WellFormed file vs entry
+    → (a : List Value) (v : Value) (b : List Value) → vs ≡ a ++ (v ∷ b) → v .head .kind ≡ 7
+    → (key : List ℕ) (x : ℕ) → FirstPair vs (length (region a)) v key x → lookupOf file (length (region a)) key ≡ ok x
+reads-lookup = reads-lookups.reads-lookup
+
+pub reads-no-lookup : (file : List ℕ) (vs : List Value) (entry : ℕ) → WellFormed file vs entry
+    → (a : List Value) (v : Value) (b : List Value) → vs ≡ a ++ (v ∷ b) → v .head .kind ≡ 7
+    → (key : List ℕ) → NoPair vs (length (region a)) v key → lookupOf file (length (region a)) key ≡ error (fault NO_ITEM (length (region a)))
+reads-no-lookup = reads-lookups.reads-no-lookup
+
 -- ---- demand 2: written again
 
 pub rewrites : (file : List ℕ) (cap count entry : ℕ) → Bytes file → checkOf file cap .answer ≡ ok (count, entry)
@@ -171,6 +203,12 @@ pub opening-finishable : (c : Call) (t : Token) (target : ℕ) (s : State) (out 
 opening-finishable = finishes.opening-finishable
 
 -- ---- demand 3: paths and depths
+
+pub accepted-paths : (file : List ℕ) (cap count entry : ℕ) → Bytes file → checkOf file cap .answer ≡ ok (count, entry) → AcceptedPaths file count entry
+accepted-paths = path-facts.accepted-paths
+
+pub leads-exactly : (vs : List Value) (i j : ℕ) → Leads vs i j ↔ ((j < length vs) × Refers vs i (getD (starts 0 vs) j 0))
+leads-exactly = leads.leads-exactly
 
 pub acyclic : (vs : List Value) → Values vs → {i : ℕ} {l : List ℕ} → i < length vs → Path vs i l → Falling l
 acyclic = paths.acyclic

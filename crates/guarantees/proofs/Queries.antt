@@ -1,6 +1,6 @@
 -- What the queries promise, for every file.
 --
--- In order: an item number at or past the count is NO_ITEM (`no-item`); in a value that `skip` accepts, item i + 1
+-- In order: an item number at or past the count is NO_ITEM (`no-item-on`); in a value that `skip` accepts, item i + 1
 -- starts where skipping item i ends (`item-next`), and the last item ends where the value does (`item-last`); following
 -- goes down by each hop (`follow-down`); a body is the text or byte string that reading returns at the offset that
 -- following reaches (`body-read`).
@@ -34,10 +34,10 @@ use Rattle.reader_follow.proofs.Laws.{follow-head-inv, follow-leads, FollowsTo}
 use Rattle.reader_body.specs.Body.{bodyPlaceOn, bodyPlaceIn, bodyPlaceOf}
 
 -- for a value that reads without fault and has items, whatever comes after it
-pub no-item : (file : List ℕ) (at i n : ℕ) (h : Head) → ok n ≡ regionLen (length file) at → ok h ≡ peekIn false (take n file) at
+pub no-item-on : (file : List ℕ) (at i n : ℕ) (h : Head) → ok n ≡ regionLen (length file) at → ok h ≡ peekIn false (take n file) at
     → immediate (rule (h .kind)) ≡ false → h .items ≤ i → error (fault NO_ITEM at) ≡ itemOf file at i
 unfolding itemIn itemOn
-no-item file at i n h inRegion peeked kind past =
+no-item-on file at i n h inRegion peeked kind past =
     in-region-ok file at (λ s. itemIn s at i) n inRegion (bind-ok (itemOn (take n file) at i) peeked (rw (kind, le-leb _ _ past)))
 
 -- ---- items one after the other
