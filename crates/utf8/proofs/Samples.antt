@@ -1,42 +1,24 @@
--- `isText` on examples.
+-- `isText` on examples, one list and one theorem.
 use mathlib.Core.Path.{_≡_, refl}
-use mathlib.Core.Bool.{true, false}
-use mathlib.Core.List.{[], _∷_}
+use mathlib.Core.Bool.{Bool, true, false}
+use mathlib.Core.List.{List, [], _∷_, map}
+use Prim.Native.Nat.{ℕ}
 use Rattle.utf8.specs.Text.{lead, next, textFrom, isText}
 
-nothing : isText [] ≡ true
-unfolding textFrom next lead
-nothing = refl
+-- bytes, and whether they are text
+abbrev samples : List ((List ℕ) × Bool)
+samples =
+    ([], true)
+    ∷ (0x68 ∷ 0x65 ∷ 0x6C ∷ 0x6C ∷ 0x6F ∷ [], true)  -- hello
+    ∷ (0xF0 ∷ 0x9F ∷ 0x98 ∷ 0x81 ∷ [], true)  -- a character of four bytes
+    ∷ (0xED ∷ 0xA0 ∷ 0x80 ∷ [], true)  -- a surrogate is text by this rule
+    ∷ (0xC3 ∷ 0x28 ∷ [], false)  -- no continuation byte
+    ∷ (0xC0 ∷ 0x80 ∷ [], false)  -- longer than need be
+    ∷ (0xE2 ∷ 0x82 ∷ [], false)  -- cut
+    ∷ (0xF5 ∷ 0x80 ∷ 0x80 ∷ 0x80 ∷ [], false)  -- past the last lead
+    ∷ (0x80 ∷ [], false)  -- a continuation byte alone
+    ∷ []
 
-hello : isText (0x68 ∷ 0x65 ∷ 0x6C ∷ 0x6C ∷ 0x6F ∷ []) ≡ true
+the-samples : map (λ (x : (List ℕ) × Bool). isText (x .0)) samples ≡ map (λ (x : (List ℕ) × Bool). x .1) samples
 unfolding textFrom next lead
-hello = refl
-
-four-bytes : isText (0xF0 ∷ 0x9F ∷ 0x98 ∷ 0x81 ∷ []) ≡ true
-unfolding textFrom next lead
-four-bytes = refl
-
--- a surrogate is text by this rule
-surrogate : isText (0xED ∷ 0xA0 ∷ 0x80 ∷ []) ≡ true
-unfolding textFrom next lead
-surrogate = refl
-
-no-continuation : isText (0xC3 ∷ 0x28 ∷ []) ≡ false
-unfolding textFrom next lead
-no-continuation = refl
-
-overlong : isText (0xC0 ∷ 0x80 ∷ []) ≡ false
-unfolding textFrom next lead
-overlong = refl
-
-cut : isText (0xE2 ∷ 0x82 ∷ []) ≡ false
-unfolding textFrom next lead
-cut = refl
-
-past-the-last-lead : isText (0xF5 ∷ 0x80 ∷ 0x80 ∷ 0x80 ∷ []) ≡ false
-unfolding textFrom next lead
-past-the-last-lead = refl
-
-lone-continuation : isText (0x80 ∷ []) ≡ false
-unfolding textFrom next lead
-lone-continuation = refl
+the-samples = refl
