@@ -59,8 +59,8 @@ known-refusal q short s n m =
     known (badState s n m) _ _ refl
     (known (s .closed) _ _ refl
     (known (q .alone && ltb 0 (s .pending)) _ _ refl
-    (known (q .text) _ _ refl
-    (known (q .target) _ _ refl
+    (known (q .nontext) _ _ refl
+    (known (q .unlisted) _ _ refl
     (known (q .adds && eqb (s .pending) 0 && leb m (s .count)) _ _ refl
     (known short NO_ROOM (ok tt) refl tt))))))
 

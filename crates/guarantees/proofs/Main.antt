@@ -1,9 +1,9 @@
 -- The demands as theorems, in the demands' order, each by citing its proof. docs/GUARANTEES.md quotes these statements
 -- and reads them aloud.
 --
--- In order: demand 1 (what a refusal leaves, NO_ITEM); demand 2 (what check accepts and refuses, what reading a file
--- returns, written again); demand 3 (lists of calls, targets, read back, paths and depths); what these rest on (numbers
--- and tokens there and back); document 01's samples.
+-- In order: demand 1 (what a refusal leaves, NO_ITEM, which errors check has); demand 2 (what check accepts and refuses,
+-- what reading a file returns, lookup, written again); demand 3 (lists of calls, targets, read back, paths and depths);
+-- what these rest on (numbers and tokens there and back); document 01's samples.
 use mathlib.Core.Path.{_≡_}
 use mathlib.Core.Bool.{Bool, true}
 use mathlib.Core.Logic.{_⊎_, _↔_}

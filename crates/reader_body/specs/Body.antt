@@ -6,9 +6,8 @@
 --   bodyPlaceOf file at  the same in a file; it begins with `inRegion`: EMPTY, TOO_LONG, OUTSIDE
 --   bodyPart file a      the bytes at such a place; none on an error
 --   bodyOf file at       the bytes of the body that `at` leads to; none on an error
---   Placed whole a part  a part of a file starts at such a place: `whole` and `part` are where file and part start in
---                        memory, a block and an offset in it. Where the empty part of an error starts is left free, as
---                        document 01 leaves it
+--   Placed whole a part  a part of a file starts at such a place, and the empty part of an error where the file starts:
+--                        `whole` and `part` are where file and part start in memory, a block and an offset in it
 use Prim.Native.Nat.{ℕ, _+_, _-_}
 use mathlib.Core.Path.{_≡_}
 use mathlib.Core.Bool.{_||_}
@@ -40,4 +39,4 @@ bodyOf file at = bodyPart file (bodyPlaceOf file at)
 
 abbrev pub Placed : ℕ × ℕ → Answer Fault (ℕ × ℕ) → ℕ × ℕ → Type 0
 Placed whole (ok p) part = part ≡ (whole .0, p .0 + whole .1)
-Placed whole (error e) part = Unit {0}
+Placed whole (error e) part = part ≡ (whole .0, 0 + whole .1)

@@ -1,4 +1,4 @@
--- What the answers of this crate's functions mean, except those of `scan`.
+-- What the answers of this crate's functions mean, except those that are a `ScanResult`.
 --
 --   offsetAnswer r  the offset, or the error's number and place
 use Prim.Native.Nat.{ℕ}

@@ -2,7 +2,7 @@
 -- the code's enum.
 --
 --   ValueRow            kind    the kind number, 0 to 15
---                       number  what n is for the kind: 0, 1 or 2 for false, true or null; the integer; the float's bits;
+--                       number  the value's number: 0, 1 or 2 for false, true or null; the integer; the float's bits;
 --                               the length, items, pairs, tag or variant index; of a reference or pointer the target
 --                       count   how many bytes or items follow: the bytes of a float, text or byte string; the items of
 --                               kinds 6, 7, 8, 11 and 12, which are n, 2n, 1, 1 and the argument count; else 0

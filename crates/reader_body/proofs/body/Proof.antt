@@ -25,4 +25,4 @@ body-spec =
     (rw (← e) refl, body-part _ _ _ _ e))
     (λ c. let t = c .before .before in
     let e = rw (t .e .given .1) at (t .before .before .body-place .ensures) in
-    (rw (← e) tt, body-none _ _ _ e)))
+    (rw (← e) refl, body-none _ _ _ e)))
