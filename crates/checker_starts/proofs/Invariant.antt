@@ -8,8 +8,9 @@ use native.Mathlib.Numerals.{add-one}
 use native.Mathlib.Omega.{arith}
 use borrow.Author.Tests.{le-leb}
 use lib.ListN.{length, take, getD, set, length-set, length-take, length-append}
-use lib.Seq.{length-take-le, take-suc-set}
+use lib.Seq.{length-take-le, take-set-le, take-suc-set}
 use Rattle.prelude.specs.Answer.{ok, error}
+use Rattle.prelude.specs.Search.{Rising}
 use Rattle.prelude.proofs.Tests.{split}
 use Rattle.prelude.proofs.Lists.{below-snoc}
 use Rattle.prelude.proofs.Searches.{rising-ge}
@@ -21,7 +22,7 @@ use Rattle.table.proofs.Blocks.{counted-first, counted-snoc}
 use Rattle.checker_value.specs.declared.ValueResult.{ValueResult}
 use Rattle.checker_value.specs.declared.ValueResult.the-variants as results-are
 use Rattle.checker_value.specs.Walk.{between, startsFrom}
-use Rattle.checker_value.specs.Internal.{ChecksValue}
+use Rattle.checker_value.specs.Internal.{Ends, ChecksValue}
 use Rattle.checker_value.proofs.Walks.{WalkInvariant, invariant-begun, invariant-finished, walk-end, value-full}
 
 -- between two values at `at`, with the starts in the first `count` words of the table t
@@ -61,27 +62,37 @@ module _ (s t : List ℕ) (cap at count : ℕ) (a : TableInvariant s t cap at co
     word : length (take count t) < cap
     word = omega (arith, a .long, length-take-le count t (a .fits))
 
-    module _ (r : ValueResult) (reported : ChecksValue r s (take count t) at) where
-      pub table-error : (f : Error) → r ≡ results-are.Err f → error (errors.faultOf f) ≡ startsFrom s cap (between 0 [])
-      table-error f is = let e = reported .0 cap word in rw is at e ∙ a .leads
+    -- the value at `at` is checked with the starts of those before it: its own is in the next word
+    opened : take count (set t count at) ≡ take count t
+    opened = take-set-le count t count at (omega arith)
 
-    module _ (end : ℕ) (r : ValueResult) (reported : ChecksValue r s (take count t) at) (is : r ≡ results-are.Ok end) where
+    -- the starts, with its own, once it is finished
+    finished : take (count + 1) (set t count at) ≡ take count t ++ (at ∷ [])
+    finished = rw add-one (take-suc-set t count at free)
+
+    pub opened-rising : Rising (take count (set t count at))
+    opened-rising = rw opened (a .going .rising)
+
+    pub opened-counted : (blocks : List ℕ) → Indexed s t blocks at count → Counted (take (at / BLOCK + 1) blocks) (take count (set t count at))
+    opened-counted blocks i = rw opened (i .counted)
+
+    module _ (r : ValueResult) (reported : ChecksValue r s (take count (set t count at)) at) where
+      pub table-error : (f : Error) → r ≡ results-are.Err f → error (errors.faultOf f) ≡ startsFrom s cap (between 0 [])
+      table-error f is = let e = (rw opened at reported) .0 cap word in rw is at e ∙ a .leads
+
+    module _ (end : ℕ) (r : ValueResult) (ends : Ends r (at + 1) (length s)) (is : r ≡ results-are.Ok end) where
       table-ends : (at < end) × (end ≤ length s)
-      table-ends = let e = reported .1 in let h : (at + 1 ≤ end) × (end ≤ length s) = rw is at e in (omega (arith, h .0), h .1)
+      table-ends = let h : (at + 1 ≤ end) × (end ≤ length s) = rw is at ends in (omega (arith, h .0), h .1)
 
       pub table-less : length s - end < length s - at
       table-less = let h = table-ends in omega (arith, h .0, h .1)
 
-      -- the starts, with that of the finished value
-      words : take (count + 1) (set t count at) ≡ take count t ++ (at ∷ [])
-      words = rw add-one (take-suc-set t count at free)
-
-      pub table-finished : TableInvariant s (set t count at) cap end (count + 1)
-      table-finished = let h = table-ends in let e = reported .0 cap word in record {
+      pub table-finished : ChecksValue r s (take count (set t count at)) at → TableInvariant s (set t count at) cap end (count + 1)
+      table-finished reported = let h = table-ends in let e = (rw opened at reported) .0 cap word in record {
         long = length-set t count at ∙ a .long;
         fits = rw length-set (omega (arith, free));
-        going = rw words (invariant-finished s cap (between at (take count t)) (a .going) word end (h .0) (h .1));
-        leads = rw words (rw is at e ∙ a .leads);
+        going = rw finished (invariant-finished s cap (between at (take count t)) (a .going) word end (h .0) (h .1));
+        leads = rw finished (rw is at e ∙ a .leads);
       }
 
       -- what `table::count_blocks` asks for
@@ -99,11 +110,11 @@ module _ (s t : List ℕ) (cap at count : ℕ) (a : TableInvariant s t cap at co
             let few : count ≤ at =
             split 0 count (λ p. omega (arith, rising-ge (take count t) (g .rising) (count - 1) (omega arith), g .below (count - 1) (omega arith)))
             (λ z. omega arith) in
-            rw (words, length-append) (omega (arith, g .inside))
+            rw (finished, length-append) (omega (arith, g .inside))
 
         pub along-below : Below ((at / BLOCK + 1) * BLOCK) (take (count + 1) (set t count at))
-        along-below = rw words (below-snoc (take count t) at _ (λ k b. omega (arith, a .going .below k b)) (omega arith))
+        along-below = rw finished (below-snoc (take count t) at _ (λ k b. omega (arith, a .going .below k b)) (omega arith))
 
         pub along-counted : Counted (take (at / BLOCK + 1) blocks) (take (count + 1) (set t count at))
         along-counted =
-            rw words (counted-snoc (take (at / BLOCK + 1) blocks) (take count t) at (omega (arith, length-take (at / BLOCK + 1) blocks)) (i .counted))
+            rw finished (counted-snoc (take (at / BLOCK + 1) blocks) (take count t) at (omega (arith, length-take (at / BLOCK + 1) blocks)) (i .counted))

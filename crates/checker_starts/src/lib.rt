@@ -35,10 +35,12 @@ fn walk(region: &[u8], starts: &mut [u32], blocks: &mut [u32]) -> ListResult
         }
         // the blocks that begin at `at` or before are counted
         let known = at / table::BLOCK + 1;
+        // the start of this value, which is listed, and so may be a target, once the value is finished
+        starts[count] = at as u32;
+        let more = count + 1;
         match checker_value::check_value(region, &starts[..count], &blocks[..known], at) {
             ValueResult::Ok(end) => {
-                starts[count] = at as u32;
-                count = count + 1;
+                count = more;
                 table::count_blocks(&starts[..count], blocks, known, end / table::BLOCK);
                 at = end;
             }

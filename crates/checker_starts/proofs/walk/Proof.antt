@@ -6,7 +6,7 @@ use lib.Seq.{length-take-le}
 use borrow.Author.Needs.{needs}
 use native.Mathlib.Omega.{arith}
 use Rattle.checker_starts.proofs.Invariant.{TableInvariant, Indexed, table-start, indexed-start, indexed-on, known-fits}
-use Rattle.checker_starts.proofs.Invariant.{along-next, along-last, along-few, along-below, along-counted}
+use Rattle.checker_starts.proofs.Invariant.{opened-rising, opened-counted, along-next, along-last, along-few, along-below, along-counted}
 use Rattle.checker_starts.proofs.Invariant.{table-end, table-full, table-error, table-less, table-finished}
 use Rattle.checker_starts.proofs.walk.Statement.{statement}
 use Rattle.checker_starts.proofs.walk.Tie as tie
@@ -30,14 +30,14 @@ walk-spec =
     (λ c. let l = c .before in (table-full _ _ _ _ _ (l .before .loop .inv .0) (l .loop-test .taken) (omega arith), tt))
     (λ c. search needs)
     (λ c. search needs)
-    (λ c. sym (length-take-le _ _ (c .before .before .before .loop .inv .0 .fits)))
+    (λ c. search needs)
+    (λ c. search needs)
+    (λ c. search needs)
+    (λ c. rw length-set (omega arith))
+    (λ c. sym (length-take-le _ _ (rw length-set (omega arith))))
     (λ c. search known-fits)
     (λ c. sym (length-take-le _ _ (search known-fits)))
-    (λ c κs. let i = c .before .before .before .before .loop .inv in (i .0 .going .rising, i .1 .counted, search needs, search needs))
-    (λ c. search needs)
-    (λ c. search needs)
-    (λ c. search needs)
-    (λ c. search needs)
+    (λ c κs. (search (opened-rising, arith), search (opened-counted, arith), search needs, search needs))
     (λ c. search needs)
     (λ c. rw length-set (omega arith))
     (λ c. sym (length-take-le _ _ (rw length-set (omega arith))))
