@@ -57,14 +57,17 @@ pub record None (r : Rule) : Type 0 where
   pub each : r .each ≡ 0
   pub args : r .args ≡ false
 
-pub immediate-none : (r : Rule) → immediate r ≡ true → None r
-immediate-none r e =
-    let used = ltb 0 (r .lows) in
+pub immediate-none : (k : ℕ) → immediate (rule k) ≡ true → None (rule k)
+unfolding rule
+immediate-none k e =
+    let r = rule k in
     let s = eqb (r .single) 0 in
     let i = eqb (r .each) 0 in
-    let l = and-l (used && s && i) (not (r .args)) e in
+    or-true _ _ (every-getD (λ r. not (r .immediate) || (eqb (r .single) 0 && eqb (r .each) 0 && not (r .args))) table k reserved refl refl)
+    (λ no. absurd (false≢true (sym (not-true _ no) ∙ e)))
+    (λ none.
     record {
-      single = eqb-true (r .single) 0 (and-r used s (and-l (used && s) i l));
-      each = eqb-true (r .each) 0 (and-r (used && s) i l);
-      args = not-true (r .args) (and-r (used && s && i) (not (r .args)) e);
-    }
+      single = eqb-true (r .single) 0 (and-l s i (and-l (s && i) (not (r .args)) none));
+      each = eqb-true (r .each) 0 (and-r s i (and-l (s && i) (not (r .args)) none));
+      args = not-true (r .args) (and-r (s && i) (not (r .args)) none);
+    })

@@ -14,9 +14,10 @@ unfoldable pub unpack : ℕ → Rule
 unpack c = record {
   lows = c % 32;
   most = bound (c / 32 % 8);
-  fixed = c / 256 % 2 * 4;
-  scale = c / 512 % 8;
-  single = c / 4096 % 2;
-  each = c / 8192 % 4;
-  args = eqb (c / 32768) 1;
+  fixed = c / 1024 % 2 * 4;
+  scale = c / 256 % 8;
+  single = c / 2048 % 2;
+  each = c / 4096 % 4;
+  args = eqb (c / 16384 % 2) 1;
+  immediate = eqb (c / 32768) 1;
 }

@@ -16,20 +16,25 @@ pub struct Rule {
     pub single: u64,
     pub each: u64,
     pub args: bool,
+    // Whether a value of this kind may be an item.
+    pub immediate: bool,
 }
 
 // The place values of a rule's fields in its packed form; `lows` is the lowest field.
 const BOUND: u16 = 32;
 
-const FIXED: u16 = 256;
+const SCALE: u16 = 256;
 
-const SCALE: u16 = 512;
+// Four bytes for each n and four more, a float's body: no other has fixed bytes.
+const FIXED: u16 = 4 * SCALE;
 
-const SINGLE: u16 = 4096;
+const SINGLE: u16 = 2048;
 
-const EACH: u16 = 8192;
+const EACH: u16 = 4096;
 
-const ARGS: u16 = 32768;
+const ARGS: u16 = 16384;
+
+const IMMEDIATE: u16 = 32768;
 
 // The bounds that are not small numbers.
 const BITS_32: u16 = 3 * BOUND;
@@ -40,15 +45,15 @@ const BITS_64: u16 = 5 * BOUND;
 
 const KINDS: [u16; 16] = [
     // false, true, null
-    3 + 2 * BOUND,
+    3 + 2 * BOUND + IMMEDIATE,
     // integers: n, and -n-1
-    16 + BITS_63,
-    16 + BITS_63,
+    16 + BITS_63 + IMMEDIATE,
+    16 + BITS_63 + IMMEDIATE,
     // floats of 4 and 8 bytes
-    2 + BOUND + FIXED + 4 * SCALE,
+    2 + BOUND + FIXED + IMMEDIATE,
     // text, byte string
-    16 + BITS_64 + SCALE,
-    16 + BITS_64 + SCALE,
+    16 + BITS_64 + SCALE + IMMEDIATE,
+    16 + BITS_64 + SCALE + IMMEDIATE,
     // array, map
     16 + BITS_64 + EACH,
     16 + BITS_64 + 2 * EACH,
@@ -57,14 +62,14 @@ const KINDS: [u16; 16] = [
     // reserved
     0,
     // variants of none, of one, of many
-    16 + BITS_32,
+    16 + BITS_32 + IMMEDIATE,
     16 + BITS_32 + SINGLE,
     16 + BITS_32 + ARGS,
     // reserved
     0,
     // reference, pointer
-    16 + BITS_64,
-    16 + BITS_64,
+    16 + BITS_64 + IMMEDIATE,
+    16 + BITS_64 + IMMEDIATE,
 ];
 
 fn bound(code: u16) -> u64
@@ -92,7 +97,8 @@ fn unpacked(c: u16) -> Rule
         scale: (c / SCALE % 8) as u64,
         single: (c / SINGLE % 2) as u64,
         each: (c / EACH % 4) as u64,
-        args: c / ARGS == 1,
+        args: c / ARGS % 2 == 1,
+        immediate: c / IMMEDIATE == 1,
     }
 }
 
@@ -151,9 +157,9 @@ pub fn rule_of(kind: u8) -> Rule
     unpacked(KINDS[kind as usize])
 }
 
-// Whether a value of this rule may be an item; none of a reserved kind may.
+// Whether a value of this rule may be an item, as the table has it.
 pub fn is_immediate(rule: Rule) -> bool
     ensures { λ r. ⌜ r ≡ immediate rule ⌝ }
 {
-    (0 < rule.lows) & (rule.single == 0) & (rule.each == 0) & !rule.args
+    rule.immediate
 }

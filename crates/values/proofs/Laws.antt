@@ -134,7 +134,7 @@ value-at (v ∷ vs) (suc i) h =
 pub immediate-counts : (t : Token) → Item t
     → (counted (rule (t .kind)) (t .n) (t .args) ≡ 0) × (pending (rule (t .kind)) (t .n) (t .args) ≡ 0)
 immediate-counts t i =
-    let none = immediate-none (rule (t .kind)) (i .immediate) in
+    let none = immediate-none (t .kind) (i .immediate) in
     rw (none .each, none .single, i .sound .allowed .alone (none .args)) (omega arith)
 
 pub fits-item : (t : Token) → Item t → (s : List ℕ) → Fits true t s

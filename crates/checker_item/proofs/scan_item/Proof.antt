@@ -10,7 +10,7 @@ use borrow.Author.Tests.{ltb-true, not-false}
 use Rattle.prelude.proofs.Parts.{part-from}
 use Rattle.prelude.proofs.Tests.{le-of-flag, and-l, and-r}
 use Rattle.leb128.specs.declared.GetResult.the-variants.{Ok}
-use Rattle.kind.specs.Kind.{size}
+use Rattle.kind.specs.Kind.{size, immediate}
 use Rattle.kind.specs.declared.Rule.{Rule}
 use Rattle.kind.proofs.Laws.{None, immediate-none}
 use Rattle.scan.proofs.Steps.{AfterNumber, ruled-row, scan-number, item-bare, item-sized}
@@ -34,7 +34,10 @@ flat : (c : tie.Else2) → c .before .before .is-immediate .result ≡ true
 flat c = let a = start c .args in and-r (ltb (getD (a .region .now) (a .at) 0 % 16) (rule c .lows)) _ (not-false _ (c .if2 .left))
 
 none : (c : tie.Else2) → None (rule c)
-none c = immediate-none (rule c) (sym (c .before .before .is-immediate .ensures) ∙ flat c)
+none c =
+    let flag : immediate (rule c) ≡ true = sym (c .before .before .is-immediate .ensures) ∙ flat c in
+    let same = ruled c .rule-of .ensures in
+    rw same (immediate-none _ (rw same at flag))
 
 -- ---- after n
 

@@ -12,7 +12,8 @@ use Rattle.kind.proofs.rule_of.Tie as tie
 
 -- the code's table
 abbrev packed : List ℕ
-packed = 67 ∷ 144 ∷ 144 ∷ 2338 ∷ 688 ∷ 688 ∷ 8368 ∷ 16560 ∷ 4272 ∷ 0 ∷ 112 ∷ 4208 ∷ 32880 ∷ 0 ∷ 176 ∷ 176 ∷ []
+packed =
+    32835 ∷ 32912 ∷ 32912 ∷ 33826 ∷ 33200 ∷ 33200 ∷ 4272 ∷ 8368 ∷ 2224 ∷ 0 ∷ 32880 ∷ 2160 ∷ 16496 ∷ 0 ∷ 32944 ∷ 32944 ∷ []
 
 pub rule-of-spec : {M : Type 1} → statement M
 unfolding rule unpack bound
