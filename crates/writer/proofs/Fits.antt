@@ -1,5 +1,5 @@
 -- What becomes of a token, by what the code finds about its text and its target: it is accepted, or refused for the first reason of its flags.
-use mathlib.Core.Path.{_≡_, refl, sym, ap, _∙_}
+use mathlib.Core.Path.{_≡_, refl, _∙_}
 use mathlib.Core.Bool.{Bool, true, false, not, _&&_}
 use mathlib.Core.List.{List}
 use Prim.Native.Nat.{ℕ, _+_, _-_, _≤_, _<_}
@@ -13,12 +13,14 @@ use Rattle.kind.specs.Kind.{rule, pending, due}
 use Rattle.kind.specs.declared.Rule.{Rule}
 use Rattle.token.specs.Token.{Token, putIf, emit}
 use Rattle.token.proofs.Laws.{length-emit}
-use Rattle.writer_refusal.specs.Refusal.{limit, room, isListed, isOk, refusalOf}
+use Rattle.writer_refusal.specs.Refusal.{limit, room, isListed, refusalOf}
 use Rattle.writer_refusal.specs.declared.State.{State}
 use Rattle.writer_refusal.specs.declared.CallFlags.{CallFlags}
-use Rattle.writer_refusal.proofs.Refusals.{sound, refusal-same, refusal-short}
+use Rattle.writer_refusal.proofs.Refusals.{sound, refusal-same}
 use Rattle.writer.specs.Step.{opens, bytesNeeded, tokenFlags, tokenRefusal}
+use Rattle.writer.specs.Answers.{answerOf}
 use Rattle.writer.specs.Internal.{ListedTest, IfElse, ArgumentTest, tokenFlagsBy, FitOf}
+use Rattle.writer.specs.declared.WriteAnswer.{WriteAnswer}
 use Rattle.writer.proofs.Room.{room-limit}
 
 not-four : (k : ℕ) → leb 14 k ≡ true → eqb k 4 ≡ false
@@ -54,22 +56,18 @@ module _ (t : Token) (x : ℕ) (s : State) (out table : List ℕ) (g : Bool) (h 
         adds = true;
       })
 
--- what `fit` returns, by what it learns of the flags, the size, the items left, and whether the token may be written
-pub fit-is : (t : Token) (x : ℕ) (s : State) (out table : List ℕ) (g : Bool) (row : Rule) (q : CallFlags) (fits : Bool) (size left : ℕ)
+-- what `fit` returns, by what it learns of the flags, the size, the items left, and the answer
+pub fit-is : (t : Token) (x : ℕ) (s : State) (out table : List ℕ) (g : Bool) (row : Rule) (q : CallFlags) (answer : WriteAnswer) (size left : ℕ)
     → t .kind < 16 → row ≡ rule (t .kind) → ArgumentTest g (t .kind) (t .body) x s table → q ≡ tokenFlagsBy row (t .kind) g
     → size ≡ 1 + length (putIf (leb 15 (t .n)) (t .n - 15)) + length (putIf (row .args) (t .args)) + length (t .body)
     → left ≡ due (s .pending) (limit (pending row (t .n) (t .args)))
-    → fits ≡ isOk (refusalOf q (ltb (room s (length out)) (size + left)) s (length out) (length table))
-    → FitOf t x s out table (record { good = g; fits = fits; second = row .args; size = size; left = left })
-fit-is t x s out table g row q fits size left k r h i z l f =
+    → answerOf answer ≡ refusalOf q (ltb (room s (length out)) (size + left)) s (length out) (length table)
+    → FitOf t x s out table (record { answer = answer; second = row .args; size = size; left = left })
+fit-is t x s out table g row q answer size left k r h i z l f =
     let size-is : size ≡ length (emit t) = z ∙ rw (r, length-emit (t .kind) (t .n) (t .args) (t .body)) in
-    let own = tokenFlagsBy (rule (t .kind)) (t .kind) g in
-    let short = ltb (room s (length out)) (bytesNeeded t s) in
-    let fits-is : fits ≡ isOk (refusalOf own short s (length out) (length table)) = rw (i, size-is, l, r, room-limit s t (length out)) at f in
     record {
       kind = k;
-      fits = fits-is ∙ ap isOk (flags-same t x s out table g h);
-      reason = λ e. refusal-short own short s (length out) (length table) (sym fits-is ∙ e) ∙ flags-same t x s out table g h;
+      answer = rw (i, size-is, l, r, room-limit s t (length out)) at f ∙ flags-same t x s out table g h;
       second = rw r refl;
       size = size-is;
       left = rw (l, r);

@@ -1,30 +1,29 @@
 -- What a token leaves, as the code computes it: one that fits, and one that is refused.
-use mathlib.Core.Path.{_≡_, sym, _∙_}
-use mathlib.Core.Bool.{true, false}
+use mathlib.Core.Path.{_≡_, sym, ap, _∙_}
 use mathlib.Core.List.{List, []}
 use Prim.Native.Nat.{ℕ, _+_, _-_, _≤_, _<_, _^_}
 use native.Mathlib.Omega.{arith}
 use lib.ListN.{length, take, drop}
 use borrow.Rule.Slice.PartMut.{putMid}
-use Rattle.prelude.specs.Answer.{ok}
+use Rattle.prelude.specs.Answer.{ok, error}
 use Rattle.prelude.proofs.Parts.{Put, putAt-part, length-part}
-use Rattle.kind.specs.Kind.{rule}
+use Rattle.error.specs.Error.{numberOf}
+use Rattle.error.specs.declared.ErrorKind.{ErrorKind}
 use Rattle.token.specs.Token.{Token, token, emit}
 use Rattle.writer_refusal.specs.declared.State.{State}
-use Rattle.writer_refusal.proofs.Refusals.{ok-of-isOk}
-use Rattle.writer.specs.Step.{opens, startOf, Result, result, write, putToken}
-use Rattle.writer.specs.Answers.{wrote}
-use Rattle.writer.specs.Internal.{tokenFlagsBy, FitOf, Advanced, Refused}
+use Rattle.writer.specs.Step.{opens, tokenRefusal, startOf, Result, result, write, putToken}
+use Rattle.writer.specs.Answers.{answerOf, wrote}
+use Rattle.writer.specs.Internal.{FitOf, Advanced, Failed}
 use Rattle.writer.specs.declared.Fit.{Fit}
+use Rattle.writer.specs.declared.WriteAnswer.the-variants.{Ok, Err}
 use Rattle.writer.specs.declared.WriteResult.{WriteResult}
 use Rattle.writer.proofs.Room.{left-is}
 use Rattle.writer.proofs.Accepted.{Accepted, token-inv, token-ok, token-fits, free-word, room-after, start-lt}
-use Rattle.writer.proofs.Settled.{refused-settled}
 
 module _ (t : Token) (x : ℕ) (s : State) (out table : List ℕ) (r : Fit) (a : FitOf t x s out table r) where
-  module _ (e : r .fits ≡ true) where
+  module _ (e : r .answer ≡ Ok) where
     accepted : Accepted (opens t) t x s out table
-    accepted = token-inv (opens t) t x s out table (ok-of-isOk _ (sym (a .fits) ∙ e))
+    accepted = token-inv (opens t) t x s out table (sym (a .answer) ∙ ap answerOf e)
 
     pub inside : s .written ≤ length out
     inside = omega (arith, room-after (opens t) t x s out table accepted)
@@ -56,10 +55,10 @@ module _ (t : Token) (x : ℕ) (s : State) (out table : List ℕ) (r : Fit) (a :
           a .left ∙ left-is s t (length out) (omega (arith, token-fits (opens t) t x s out table accepted)),
         )
 
-  pub put-refused : r .fits ≡ false → (w : WriteResult) → Refused (tokenFlagsBy (rule (t .kind)) (t .kind) (r .good)) s (length out) (length table) w
-      → wrote w out table ≡ putToken t x s out table
+  pub put-refused : (f : ErrorKind) → r .answer ≡ Err f → (w : WriteResult) → Failed f s w → wrote w out table ≡ putToken t x s out table
   unfolding putToken
-  put-refused e w k = refused-settled (tokenFlagsBy (rule (t .kind)) (t .kind) (r .good)) s out table w k _ (a .reason e) (write t s out table)
+  put-refused f e w k =
+      let is : tokenRefusal (opens t) t x s out table ≡ error (numberOf f) = sym (a .answer) ∙ ap answerOf e in rw (k .writer, k .answer, is)
 
 -- what a call writes, by the number or the body that a callee made of its argument
 module _ (k x : ℕ) (s : State) (out table : List ℕ) (r : Result) where

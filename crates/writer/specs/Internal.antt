@@ -12,6 +12,7 @@
 --                         the `Fit` r is right for the token t with the target x
 --   Advanced r s table next words
 --                         a token with the `Fit` r, once written, leaves the state `next` and the table `words`
+--   Failed e s r          r has the error e, and keeps the state
 --   Refused q s n m r     r refuses a call with the flags q, for NO_ROOM if there is no other reason, and keeps the state
 --   WroteDelta d s out r o
 --                         writing the delta byte d leaves the state r and the output o, and any table as it was
@@ -26,13 +27,14 @@ use Prim.Native.Nat.{ℕ, _+_, _≤_, _<_}
 use lib.Dec.{eqb, leb}
 use lib.ListN.{length, set}
 use Rattle.prelude.specs.Pick.{pick}
-use Rattle.prelude.specs.Answer.{ok}
-use Rattle.error.specs.Error.{LIMIT}
+use Rattle.prelude.specs.Answer.{ok, error}
+use Rattle.error.specs.Error.{LIMIT, numberOf}
+use Rattle.error.specs.declared.ErrorKind.{ErrorKind}
 use Rattle.utf8.specs.Text.{isText}
 use Rattle.kind.specs.Kind.{rule, due, immediate}
 use Rattle.kind.specs.declared.Rule.{Rule}
 use Rattle.token.specs.Token.{Token, token, emit}
-use Rattle.writer_refusal.specs.Refusal.{limit, isListed, isOk, refusalOf}
+use Rattle.writer_refusal.specs.Refusal.{limit, isListed, refusalOf}
 use Rattle.writer_refusal.specs.declared.State.{State}
 use Rattle.writer_refusal.specs.declared.CallFlags.{CallFlags}
 use Rattle.writer.specs.Step.{opens, pendingOf, tokenRefusal, deltaRefusal, startOf, Result, result, writeDelta, writePointerDelta, settled}
@@ -55,10 +57,7 @@ tokenFlagsBy row k g = record { alone = not (immediate row); nontext = eqb k 4 &
 
 pub record FitOf (t : Token) (x : ℕ) (s : State) (out table : List ℕ) (r : Fit) : Type 0 where
   pub kind : t .kind < 16
-  pub fits : r .fits ≡ isOk (tokenRefusal (opens t) t x s out table)
-  -- a token that does not fit is refused for the first reason of its flags, NO_ROOM if there is no other
-  pub reason : r .fits ≡ false
-      → refusalOf (tokenFlagsBy (rule (t .kind)) (t .kind) (r .good)) true s (length out) (length table) ≡ tokenRefusal (opens t) t x s out table
+  pub answer : answerOf (r .answer) ≡ tokenRefusal (opens t) t x s out table
   pub second : r .second ≡ rule (t .kind) .args
   pub size : r .size ≡ length (emit t)
   pub left : r .left ≡ due (s .pending) (limit (pendingOf t))
@@ -72,6 +71,10 @@ pub record Advanced (r : Fit) (s : State) (table : List ℕ) (next : State) (wor
     closed = false;
   }
   pub listed : words ≡ pick (eqb (r .left) 0) (set table (s .count) (startOf s)) table
+
+pub record Failed (e : ErrorKind) (s : State) (r : WriteResult) : Type 0 where
+  pub writer : r .writer .state ≡ s
+  pub answer : answerOf (r .answer) ≡ error (numberOf e)
 
 pub record Refused (q : CallFlags) (s : State) (n m : ℕ) (r : WriteResult) : Type 0 where
   pub writer : r .writer .state ≡ s

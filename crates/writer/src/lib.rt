@@ -12,7 +12,7 @@ ghost use Rattle.kind.specs.Kind.{rule};
 ghost use Rattle.token.specs.Token.{token};
 ghost use Rattle.writer.specs.Step.{Call, scalarOf, integerOf, startOf, putToken, fresh, step};
 ghost use Rattle.writer.specs.Answers.{wrote};
-ghost use Rattle.writer.specs.Internal.{ListedTest, ArgumentTest, tokenFlagsBy, FitOf, Advanced, Refused, WroteDelta, closeNear, closeFar};
+ghost use Rattle.writer.specs.Internal.{ListedTest, ArgumentTest, tokenFlagsBy, FitOf, Advanced, Failed, Refused, WroteDelta, closeNear, closeFar};
 
 // A writer of a file. Each call takes it and returns the next one; output and table are lent to each call.
 pub struct Writer {
@@ -38,10 +38,8 @@ pub struct WriteResult {
 
 // What `fit` finds about a token before it is written or refused.
 struct Fit {
-    // Whether its text or its target is right; true if it has neither.
-    good: bool,
-    // Whether it is accepted.
-    fits: bool,
+    // Whether it is accepted, or why it is refused.
+    answer: WriteAnswer,
     // Whether its kind has a second number.
     second: bool,
     // Its bytes.
@@ -156,16 +154,19 @@ impl Writer {
         let request = token_flags(row, kind, good);
         let size = emit::size_by(row, n, args, body);
         let left = writer_refusal::left(self.state.pending, row, n, args);
-        Fit {
-            good,
-            fits: writer_refusal::may_write(
-                self.state,
-                request,
+        let bytes = out.len();
+        let words = starts.len();
+        if writer_refusal::may_write(self.state, request, size, left, bytes, words) {
+            return Fit {
+                answer: WriteAnswer::Ok,
+                second: row.args,
                 size,
                 left,
-                out.len(),
-                starts.len(),
-            ),
+            };
+        }
+        let e = writer_refusal::refusal(self.state, request, bytes, words);
+        Fit {
+            answer: WriteAnswer::Err(e),
             second: row.args,
             size,
             left,
@@ -192,24 +193,22 @@ impl Writer {
         }
     }
 
-    // Refuses a call: the writer stays as it was.
-    fn refuse(self, request: CallFlags, bytes: usize, words: usize) -> WriteResult
-        ensures { λ r. ⌜ Refused request (self .state) bytes words r ⌝ }
+    // The result of a refused call: the writer stays as it was.
+    fn fail(self, e: ErrorKind) -> WriteResult
+        ensures { λ r. ⌜ Failed e (self .state) r ⌝ }
     {
-        let e = writer_refusal::refusal(self.state, request, bytes, words);
         WriteResult {
             writer: self,
             answer: WriteAnswer::Err(e),
         }
     }
 
-    // Refuses a token. `good`: its text or target is right. It looks the rule up again, and is a function of its own, so that
-    // `put_token` stays small enough to be inlined into the calls.
-    fn refuse_token(self, good: bool, kind: u8, bytes: usize, words: usize) -> WriteResult
-        ensures { λ r. ⌜ Refused (tokenFlagsBy (rule kind) kind good) (self .state) bytes words r ⌝ }
+    // Refuses a call, for NO_ROOM if there is no other reason.
+    fn refuse(self, request: CallFlags, bytes: usize, words: usize) -> WriteResult
+        ensures { λ r. ⌜ Refused request (self .state) bytes words r ⌝ }
     {
-        let request = token_flags(kind::rule_of(kind), kind, good);
-        self.refuse(request, bytes, words)
+        let e = writer_refusal::refusal(self.state, request, bytes, words);
+        self.fail(e)
     }
 
     // Writes or refuses a token that has no body.
@@ -227,15 +226,18 @@ impl Writer {
         ensures { λ r. ⌜ wrote r (now (out .exit)) (now (starts .exit))
             ≡ putToken (token kind n args []) target (self .state) (now (out .entry)) (now (starts .entry)) ⌝ }
     {
-        if ask.fits {
-            let written = self.state.written;
-            emit::put_head(&mut out[written..], kind, n, ask.second, args);
-            return WriteResult {
-                writer: self.advance(ask, starts),
-                answer: WriteAnswer::Ok,
-            };
+        let answer = ask.answer;
+        match answer {
+            WriteAnswer::Err(e) => self.fail(e),
+            WriteAnswer::Ok => {
+                let written = self.state.written;
+                emit::put_head(&mut out[written..], kind, n, ask.second, args);
+                WriteResult {
+                    writer: self.advance(ask, starts),
+                    answer: WriteAnswer::Ok,
+                }
+            }
         }
-        self.refuse_token(ask.good, kind, out.len(), starts.len())
     }
 
     // Writes or refuses a token that has a body.
@@ -252,15 +254,18 @@ impl Writer {
         ensures { λ r. ⌜ wrote r (now (out .exit)) (now (starts .exit))
             ≡ putToken (token kind n 0 (now (body .entry))) 0 (self .state) (now (out .entry)) (now (starts .entry)) ⌝ }
     {
-        if ask.fits {
-            let written = self.state.written;
-            emit::put_within(&mut out[written..], kind, n, ask.second, 0, body);
-            return WriteResult {
-                writer: self.advance(ask, starts),
-                answer: WriteAnswer::Ok,
-            };
+        let answer = ask.answer;
+        match answer {
+            WriteAnswer::Err(e) => self.fail(e),
+            WriteAnswer::Ok => {
+                let written = self.state.written;
+                emit::put_within(&mut out[written..], kind, n, ask.second, 0, body);
+                WriteResult {
+                    writer: self.advance(ask, starts),
+                    answer: WriteAnswer::Ok,
+                }
+            }
         }
-        self.refuse_token(ask.good, kind, out.len(), starts.len())
     }
 
     // ---- the close

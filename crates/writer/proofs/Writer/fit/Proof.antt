@@ -1,9 +1,10 @@
 -- `writer::Writer::fit` meets its contract.
-use mathlib.Core.Path.{refl}
+use mathlib.Core.Path.{refl, sym, _∙_}
 use native.Mathlib.Omega.{arith}
 use borrow.Author.Needs.{needs}
 use Rattle.kind.proofs.Laws.{rule-row}
 use Rattle.token.specs.Token.{token}
+use Rattle.writer_refusal.proofs.Refusals.{ok-of-isOk, refusal-short}
 use Rattle.writer.proofs.Fits.{fit-is}
 use Rattle.writer.proofs.Writer.fit.Statement.{statement}
 use Rattle.writer.proofs.Writer.fit.Tie as tie
@@ -21,8 +22,17 @@ fit-spec =
     let r = rule-row (s .args .kind) in
     rw (s .pre .1) (r .single, omega (arith, r .unit)))
     (λ c κs. let z = c .before in (rw (z .before .token-flags .ensures) refl, omega (arith, z .size-by .ensures)))
-    (λ c. let z = c .before .before in
+    (λ c. let m = c .before in
+    let z = m .before .before in
     let s = start z in
     let a = s .args in
     fit-is (token (a .kind) (a .n) (a .args) (a .body .now)) _ _ _ _ (a .good) _ _ _ _ _ (s .pre .0) (s .pre .1) (s .pre .2) (z .before .token-flags .ensures)
-    (z .size-by .ensures) (c .before .left .ensures) (c .may-write .ensures)))
+    (z .size-by .ensures) (m .before .left .ensures) (sym (ok-of-isOk _ (sym (m .may-write .ensures) ∙ c .if1 .taken))))
+    (λ c κs. search needs)
+    (λ c. let m = c .before .before in
+    let z = m .before .before in
+    let s = start z in
+    let a = s .args in
+    fit-is (token (a .kind) (a .n) (a .args) (a .body .now)) _ _ _ _ (a .good) _ _ _ _ _ (s .pre .0) (s .pre .1) (s .pre .2) (z .before .token-flags .ensures)
+    (z .size-by .ensures) (m .before .left .ensures)
+    (c .refusal .ensures ∙ refusal-short _ _ _ _ _ (sym (m .may-write .ensures) ∙ c .before .if1 .left))))

@@ -8,13 +8,15 @@ pub put-body-spec : {M : Type 1} → statement M
 put-body-spec =
     tie.close
     (tie.spec
+    (λ c. search needs)
+    (λ c κs. search needs)
+    (λ c. search needs)
     (λ c. search inside)
     (λ c. search inside)
     (λ c. search needs)
     (λ c κs. search fits-rest)
     (λ c κs. search may-advance)
+    (λ c. search put-refused)
     (λ c. search needs)
     (λ c. search needs)
-    (λ c. search put-ok)
-    (λ c κs. search needs)
-    (λ c. search put-refused))
+    (λ c. search put-ok))
