@@ -1,27 +1,18 @@
 -- `reader_value::negative` meets its contract.
-use mathlib.Core.Path.{_≡_, refl, ap, _∙_}
-use Prim.Native.Nat.{ℕ, zero, suc, _<_, _^_}
-use native.Mathlib.Nat.{zero-add}
-use lib.IntN.{pos, negsuc, _-ℤ_}
+use mathlib.Core.Path.{ap}
+use lib.IntN.{negsuc}
 use borrow.Author.Needs.{needs}
 use mir.Syntax.{w64}
-use mir.Val.{toZ}
 use mir.ValLaws.{toZ-ofZ}
+use Rattle.prelude.proofs.Signs.{complement}
 use Rattle.reader_value.specs.declared.Value.the-variants.{Integer}
 use Rattle.reader_value.proofs.negative.Statement.{statement}
 use Rattle.reader_value.proofs.negative.Tie as tie
-
-minus : (n : ℕ) → negsuc 0 -ℤ pos n ≡ negsuc n
-minus zero = refl
-minus (suc n) = rw zero-add
-
-below : (n : ℕ) → n < 2 ^ 63 → negsuc 0 -ℤ toZ w64 n ≡ negsuc n
-below n h = ap (λ z. negsuc 0 -ℤ z) (toZ-ofZ w64 (pos n) (record { sfits = h })) ∙ minus n
 
 pub negative-spec : {M : Type 1} → statement M
 negative-spec =
     tie.close
     (tie.spec
     (λ c. search needs)
-    (λ c. rw (below (c .args .n) (c .pre)) (record { sfits = c .pre }))
-    (λ c. rw (below (c .args .n) (c .pre)) (ap Integer (toZ-ofZ w64 (negsuc (c .args .n)) (record { sfits = c .pre })))))
+    (λ c. rw (complement (c .args .n) (c .pre)) (record { sfits = c .pre }))
+    (λ c. rw (complement (c .args .n) (c .pre)) (ap Integer (toZ-ofZ w64 (negsuc (c .args .n)) (record { sfits = c .pre })))))
