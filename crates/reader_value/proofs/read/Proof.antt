@@ -20,6 +20,7 @@ read-spec =
     rw (c .region .ensures) (peek-peeked _ _ _ _ (in-region-same _ _ _ (rw (t .h .given .1) at (t .before .before .peek .ensures)))))
     (λ c. search needs)
     (λ c. let t = c .before .before .before in
-    let e = in-region-then _ _ _ _ (rw (t .h .given .1) at (t .before .before .peek .ensures)) (ap ok (rw (c .before .region .ensures) at (c .value-on .ensures))) in
+    let v = ap ok (rw (c .before .region .ensures) at (c .value-on .ensures)) in
+    let e = in-region-then _ _ _ _ (rw (t .h .given .1) at (t .before .before .peek .ensures)) v in
     (e, rows-read _ _ e))
     (λ c. let t = c .before in let e = in-region-failed _ _ _ _ (rw (t .e .given .1) at (t .before .before .peek .ensures)) in (e, rows-read _ _ e)))

@@ -38,7 +38,8 @@ module _ (q : CallFlags) (s : State) (n m size left : ℕ) (short : Bool) (is : 
   -- the tests that the code makes
   abbrev tests : Bool
   tests =
-      ltb (s .count) m && not (s .closed) && not (ltb 0 (s .pending) && (q .alone || leb (s .written) (s .start))) && not (q .nontext || q .unlisted) && not short
+      let late = ltb 0 (s .pending) && (q .alone || leb (s .written) (s .start)) in
+      ltb (s .count) m && not (s .closed) && not late && not (q .nontext || q .unlisted) && not short
 
   granted : tests ≡ true → Granted q short s n m
   granted e =
