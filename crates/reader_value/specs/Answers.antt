@@ -9,7 +9,8 @@ use Rattle.prelude.specs.Answer.{Answer, ok, error}
 use Rattle.error.specs.Error as errors
 use Rattle.error.specs.Error.{Fault}
 use Rattle.reader_value.specs.declared.Value.{Value}
-use Rattle.reader_value.specs.declared.Value.the-variants.{False, True, Null, Integer, Float32, Float64, Text, Bytes, Array, Map, Tag, Variant, Variant1, VariantN, Reference, Pointer}
+use Rattle.reader_value.specs.declared.Value.the-variants.{False, True, Null, Integer, Float32, Float64, Text, Bytes}
+use Rattle.reader_value.specs.declared.Value.the-variants.{Array, Map, Tag, Variant, Variant1, VariantN, Reference, Pointer}
 use Rattle.reader_value.specs.declared.ReadResult as read
 use Rattle.reader_value.specs.declared.ReadResult.the-variants as read-is
 use Rattle.reader_value.specs.Row.{ValueRow, valueRow}

@@ -20,8 +20,8 @@ use Rattle.writer_refusal.specs.Refusal.{limit, Verdict, isOk, refusalOf}
 use Rattle.writer_refusal.specs.declared.State.{State}
 use Rattle.writer_refusal.specs.declared.CallFlags.{CallFlags}
 use Rattle.writer_refusal.proofs.Refusals.{sound, ok-of-isOk, refusal-same, refusal-owed, refusal-short}
-use Rattle.writer.specs.Step.{opens, tokenFlags, deltaFlags, tokenRefusal, deltaRefusal, Result, result}
-use Rattle.writer.specs.Step.{write, writeDelta, writePointerDelta, settled, putToken, closeAt}
+use Rattle.writer.specs.Step.{opens, tokenFlags, deltaFlags, tokenRefusal, deltaRefusal, Result, result, write, writeDelta, writePointerDelta, settled}
+use Rattle.writer.specs.Step.{putToken, closeAt}
 use Rattle.writer.specs.Answers.{wrote}
 use Rattle.writer.specs.Internal.{ListedTest, Refused, WroteDelta, closeNear, closeFar}
 use Rattle.writer.specs.declared.WriteResult.{WriteResult}

@@ -12,3 +12,5 @@ mod Writes
 mod Closes
 -- a refused call changes nothing
 pub mod Refused
+-- lists of calls
+pub mod Runs

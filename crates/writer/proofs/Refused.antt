@@ -12,8 +12,9 @@ use Rattle.prelude.proofs.Tests.{pick-elim}
 use Rattle.token.specs.Token.{Token, token}
 use Rattle.writer_refusal.specs.Refusal.{Verdict}
 use Rattle.writer_refusal.specs.declared.State.{State}
-use Rattle.writer.specs.Step.{Call, Move, puts, closes, moveOf, opens, tokenRefusal, deltaRefusal, Result, result}
-use Rattle.writer.specs.Step.{write, writeDelta, writePointerDelta, settled, putToken, closeAt, move, step}
+use Rattle.writer.specs.Call.{Call}
+use Rattle.writer.specs.Step.{Move, puts, closes, moveOf, opens, tokenRefusal, deltaRefusal, Result, result, write, writeDelta, writePointerDelta}
+use Rattle.writer.specs.Step.{settled, putToken, closeAt, move, step}
 
 -- a pointer to x, after the bytes written
 abbrev pub pointerTo : ℕ → State → Token

@@ -8,8 +8,8 @@ use Prim.Native.Nat.{_<_, _^_}
 use lib.ListN.{length}
 use lib.Signed.{mag}
 use Rattle.prelude.specs.Bytes.{Bytes}
-use Rattle.writer.specs.Step.{Call, scalar, integer, float32, float64, text, bytes, variant, reference}
-use Rattle.writer.specs.Step.{pointer, openArray, openMap, openTag, openVariant1, openVariantN, close}
+use Rattle.writer.specs.Call.{Call, scalar, integer, float32, float64, text, bytes, variant, reference, pointer, openArray, openMap, openTag}
+use Rattle.writer.specs.Call.{openVariant1, openVariantN, close}
 
 abbrev pub Given : Call → Type 0
 Given (scalar s) = Unit {0}

@@ -1,6 +1,5 @@
 -- What each call of the writer does (document 01, "Writer"): one definition for all calls, for any state, output and table.
 --
---   Call               the calls with their arguments; a reference, a pointer and a close name a value by its offset
 --   scalarOf v         the number of a scalar
 --   integerOf z        the token of an integer: kind 1 and z, or kind 2 and -z - 1 if z is negative
 --   Move               what a call asks for: a token and the offset that it names, or a close at an offset
@@ -53,27 +52,12 @@ use Rattle.token.specs.Token.{Token, token, emit}
 use Rattle.writer_refusal.specs.Refusal.{limit, room, isListed, Verdict, refusalOf}
 use Rattle.writer_refusal.specs.declared.State.{State}
 use Rattle.writer_refusal.specs.declared.CallFlags.{CallFlags}
+use Rattle.writer.specs.Call.{Call, scalar, integer, float32, float64, text, bytes, variant, reference, pointer, openArray, openMap}
+use Rattle.writer.specs.Call.{openTag, openVariant1, openVariantN, close}
 use Rattle.writer.specs.declared.Scalar.{Scalar}
 use Rattle.writer.specs.declared.Scalar.the-variants.{False, True, Null}
 
--- ---- calls
-
-pub data Call : Type 0 where
-  scalar : Scalar → Call
-  integer : ℤ → Call
-  float32 : ℕ → Call
-  float64 : ℕ → Call
-  text : List ℕ → Call
-  bytes : List ℕ → Call
-  variant : ℕ → Call
-  reference : ℕ → Call
-  pointer : ℕ → Call
-  openArray : ℕ → Call
-  openMap : ℕ → Call
-  openTag : ℕ → Call
-  openVariant1 : ℕ → Call
-  openVariantN : ℕ → ℕ → Call
-  close : ℕ → Call
+-- ---- what a call asks for
 
 abbrev pub scalarOf : Scalar → ℕ
 scalarOf False = 0
@@ -84,7 +68,6 @@ abbrev pub integerOf : ℤ → Token
 integerOf (pos n) = token 1 n 0 []
 integerOf (negsuc n) = token 2 n 0 []
 
--- what a call asks for: a token, with the offset that a reference or pointer names, or a close at an offset
 pub data Move : Type 0 where
   puts : Token → ℕ → Move
   closes : ℕ → Move

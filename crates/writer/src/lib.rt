@@ -10,7 +10,8 @@ ghost use lib.ListN.{length};
 ghost use Rattle.prelude.specs.Pick.{pick};
 ghost use Rattle.kind.specs.Kind.{rule};
 ghost use Rattle.token.specs.Token.{token};
-ghost use Rattle.writer.specs.Step.{Call, scalarOf, integerOf, startOf, putToken, fresh, step};
+ghost use Rattle.writer.specs.Call.{Call};
+ghost use Rattle.writer.specs.Step.{scalarOf, integerOf, startOf, putToken, fresh, step};
 ghost use Rattle.writer.specs.Answers.{wrote};
 ghost use Rattle.writer.specs.Internal.{ListedTest, ArgumentTest, tokenFlagsBy, FitOf, Advanced, Failed, Refused, WroteDelta, closeNear, closeFar};
 
