@@ -4,7 +4,8 @@ use mathlib.Core.List.{List}
 use Prim.Native.Nat.{ℕ}
 use Rattle.error.specs.Error.{numberOf}
 use Rattle.writer_refusal.specs.declared.State.{State}
-use Rattle.writer.specs.Step.{Call, Result, result, step}
+use Rattle.writer.specs.Call.{Call}
+use Rattle.writer.specs.Step.{Result, result, step}
 use Rattle.writer.specs.Answers.{answerOf, wrote}
 use Rattle.writer.specs.declared.WriteAnswer.{WriteAnswer}
 use Rattle.writer.specs.declared.WriteAnswer.the-variants.{Ok, Err}

@@ -10,6 +10,10 @@
 --                             the same, if the writer answers v and its result is r: 0 and what r leaves, or the
 --                             error and no change
 --   stepC c state out table   what the call c returns and leaves
+--   numberC v                 the number that a call returns for the answer v: 0 if it is accepted
+--   RanC, ranC ns state out table
+--                             the numbers that a list of calls returned, and the state, output and table that the last one left
+--   runsC cs state out table  the calls cs one after the other, the first with this state, output and table
 --   settleC a w state         the number for the answer a, and the state's words after it: those of the next state w,
 --                             or on an error those of before. No contract of a C function cites it
 use Prim.Native.Nat.{ℕ}
@@ -22,7 +26,8 @@ use Rattle.prelude.specs.Answer.{ok, error}
 use Rattle.error.specs.Error.{numberOf}
 use Rattle.writer_refusal.specs.Refusal.{Verdict}
 use Rattle.writer_refusal.specs.declared.State.{State}
-use Rattle.writer.specs.Step.{Call, Result, step}
+use Rattle.writer.specs.Call.{Call}
+use Rattle.writer.specs.Step.{Result, step}
 use Rattle.writer.specs.declared.Scalar.{Scalar}
 use Rattle.writer.specs.declared.Scalar.the-variants.{False, True}
 use Rattle.writer.specs.declared.WriteAnswer.{WriteAnswer}
@@ -62,6 +67,28 @@ calledBy (error f) r state out table = called f state out table
 
 unfoldable pub stepC : Call → List ℕ → List ℕ → List ℕ → Called
 stepC c state out table = let r = step c (writerOf state) out table in calledBy (r .answer) r state out table
+
+abbrev pub numberC : Verdict → ℕ
+numberC (ok u) = 0
+numberC (error f) = f
+
+pub record RanC : Type 0 where
+  pub numbers : List ℕ
+  pub state : List ℕ
+  pub out : List ℕ
+  pub table : List ℕ
+
+abbrev pub ranC : List ℕ → List ℕ → List ℕ → List ℕ → RanC
+ranC ns state out table = record { numbers = ns; state = state; out = out; table = table }
+
+unfoldable pub runsC : List Call → List ℕ → List ℕ → List ℕ → RanC
+runsC [] state out table = ranC [] state out table
+runsC (c ∷ cs) state out table =
+    let r = stepC c state out table in
+    let more = runsC cs (r .state) (r .out) (r .table) in
+    ranC (r .number ∷ more .numbers) (more .state) (more .out) (more .table)
+
+-- ---- the code's answers
 
 abbrev pub settleC : WriteAnswer → State → List ℕ → Reply
 settleC Ok w state = reply 0 (wordsOf w)
