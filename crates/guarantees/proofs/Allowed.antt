@@ -21,12 +21,11 @@ use Rattle.kind.proofs.Laws.{used-lt}
 use Rattle.token.specs.Token.{emit, Allowed}
 use Rattle.values.specs.Values.{tokens, bytes, region, starts, Each, Sound, Item, Formed, HasTarget, HasTargets, TargetsEarlier, Values}
 use Rattle.values.proofs.Members.{each-imp}
-use Rattle.writer.specs.Step.{Call}
+use Rattle.writer.specs.Call.{Call}
 use Rattle.writer.specs.Given.{Given}
-use Rattle.guarantees.specs.Model.{Part, requestOf, ModelValue, formOf, formsOf, valueAt, valuesAt}
+use Rattle.guarantees.specs.Model.{Part, requestOf, ModelValue, formOf, formsOf, valueAt, valuesAt, endOf}
 use Rattle.guarantees.specs.Model.{Model, model, emptyModel, pendingIn, Request, adds, ends}
 use Rattle.guarantees.specs.History.{modelRun}
-use Rattle.guarantees.specs.ReadsBack.{endOf}
 use Rattle.guarantees.proofs.Models.{pending-form, length-forms, region-snoc, starts-snoc, start-lt, end-le}
 use Rattle.guarantees.proofs.Invariant.{Fit, GoodValue, Finished, ModelInvariant, Clear, addedBy, invariant-run}
 use Rattle.guarantees.proofs.History.{moveAs, move-request}

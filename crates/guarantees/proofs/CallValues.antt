@@ -8,8 +8,8 @@ use lib.ListN.{length}
 use Rattle.little_endian.proofs.Laws.{value-little}
 use Rattle.token.specs.Token.{token}
 use Rattle.token.proofs.Laws.{length-emit}
-use Rattle.writer.specs.Step.{Call, scalar, integer, float32, float64, text, bytes, variant, reference}
-use Rattle.writer.specs.Step.{pointer, openArray, openMap, openTag, openVariant1, openVariantN, close}
+use Rattle.writer.specs.Call.{Call, scalar, integer, float32, float64, text, bytes, variant, reference, pointer, openArray, openMap, openTag, openVariant1}
+use Rattle.writer.specs.Call.{openVariantN, close}
 use Rattle.writer.specs.Given.{Given}
 use Rattle.writer.specs.declared.Scalar.the-variants.{False, True, Null}
 use Rattle.guarantees.specs.TokenValues.{tokenEnd, valueOfToken}

@@ -2,7 +2,7 @@
 --
 -- In order: what an accepted call does (`put-by`, `close-by`, `accepted-by`); what it may change (`accepted-only`).
 -- That a refused one changes nothing is `refused-same` of crate writer.
-use mathlib.Core.Path.{_≡_, refl, sym, ap, _∙_}
+use mathlib.Core.Path.{_≡_, refl, ap, _∙_}
 use mathlib.Core.Bool.{Bool, true}
 use mathlib.Core.List.{List, [], _∷_, _++_, append-assoc}
 use Prim.Native.Nat.{ℕ, _+_, _-_, _≤_, _<_}
@@ -15,14 +15,16 @@ use Rattle.prelude.specs.Pick.{pick}
 use Rattle.prelude.specs.Answer.{ok, error}
 use Rattle.prelude.proofs.Tests.{pick-elim}
 use Rattle.prelude.proofs.Lists.{take-earlier, drop-later}
-use Rattle.token.specs.Token.{Token, token, emit}
+use Rattle.token.specs.Token.{Token, emit}
 use Rattle.kind.specs.Kind.{due}
 use Rattle.writer_refusal.specs.Refusal.{limit, Verdict}
 use Rattle.writer_refusal.specs.declared.State.{State}
-use Rattle.writer.specs.Step.{Call, Move, puts, closes, moveOf, opens, pendingOf, tokenRefusal, deltaRefusal, Result, result}
-use Rattle.writer.specs.Step.{startOf, write, writeDelta, writePointerDelta, settled, putToken, closeAt, move, step}
+use Rattle.writer.specs.Call.{Call}
+use Rattle.writer.specs.Step.{Move, puts, closes, moveOf, opens, pendingOf, tokenRefusal, deltaRefusal, Result, startOf, write, writeDelta}
+use Rattle.writer.specs.Step.{writePointerDelta, settled, putToken, closeAt, move, step}
 use Rattle.writer.proofs.Accepted.{Accepted, token-inv, room-after, emit-pos, Near, delta-inv, delta-fits}
 use Rattle.writer.proofs.Refused.{pointerTo}
+use Rattle.guarantees.specs.OneCall.{Only}
 
 -- ---- what an accepted call does
 
@@ -60,17 +62,6 @@ module _ (s : State) (out table : List ℕ) (P : Result → Type 0) where
     accepted-by c = by-move (moveOf c (s .written))
 
 -- ---- what an accepted call may change
-
--- a call that leaves r: more bytes are written, within the output and LIMIT; lengths stay; in the output only the bytes
--- from the old to the new `written` change, in the table only the word at the old count
-pub record Only (s : State) (out table : List ℕ) (r : Result) : Type 0 where
-  pub grows : s .written < r .writer .written
-  pub within : r .writer .written ≤ limit (length out)
-  pub bytes : length (r .out) ≡ length out
-  pub words : length (r .table) ≡ length table
-  pub before : take (s .written) (r .out) ≡ take (s .written) out
-  pub after : drop (r .writer .written) (r .out) ≡ drop (r .writer .written) out
-  pub others : (i : ℕ) → (i ≡ s .count → ⊥) → getD (r .table) i 0 ≡ getD table i 0
 
 module _ (d p : List ℕ) (w : ℕ) (h : w + length p ≤ length d) where
   sets-before : take w (sets d w p) ≡ take w d

@@ -1,9 +1,10 @@
 -- Demands 2 and 3 for the writer itself: what is proved of the reference model holds for it by `history`.
 --
 -- In order: the values of an accepted file, written again, are the same bytes (`rewrites`); a file that was closed is
--- read back (`reads-back`), and each call after it is CLOSED (`closed-after`).
-use mathlib.Core.Path.{_≡_, sym, ap, _∙_, subst}
-use mathlib.Core.List.{List, _∷_, _++_}
+-- read back (`reads-back`), and each call after it is CLOSED (`closed-after`); the calls of the library for C (`history-c`); all
+-- that holds after a list of calls (`after-calls`); all that the queries return of a well-formed file (`tells-values`).
+use mathlib.Core.Path.{_≡_, refl, sym, ap, _∙_, subst}
+use mathlib.Core.List.{List, _∷_, _++_, map}
 use Prim.Native.Nat.{ℕ, _+_, _≤_}
 use native.Mathlib.Omega.{arith}
 use lib.ListN.{length, take, drop, getD}
@@ -11,17 +12,27 @@ use lib.Seq.{getD-at, drop-append-add}
 use Rattle.prelude.specs.Answer.{ok, error}
 use Rattle.prelude.specs.Bytes.{Bytes}
 use Rattle.error.specs.Error.{CLOSED}
-use Rattle.values.specs.Values.{Each}
+use Rattle.values.specs.Values.{Value, Each, WellFormed}
 use Rattle.checker.specs.Check.{checkOf}
-use Rattle.writer.specs.Step.{Call, close, fresh}
+use Rattle.writer.specs.Call.{Call, close}
+use Rattle.writer.specs.Step.{fresh}
+use Rattle.writer.specs.Runs.{runs}
 use Rattle.writer.specs.Given.{Given}
+use Rattle.abi_writer.specs.Calls.{writerOf, wordsOf, numberC, runsC}
+use Rattle.abi_writer.proofs.Theorems.{writerOf-wordsOf, runs-words}
 use Rattle.guarantees.specs.Model.{ends, Model, emptyModel, modelAnswer, modelAfter}
-use Rattle.guarantees.specs.History.{runs, ModelRan, modelRun}
+use Rattle.guarantees.specs.History.{ModelRan, modelRun, Agree}
 use Rattle.guarantees.specs.ReadsBack.{ReadsBack}
 use Rattle.guarantees.specs.Rewrites.{rewriting, AllOk, Rewritten}
+use Rattle.guarantees.specs.Demands.{TellsValues, AfterCalls}
 use Rattle.guarantees.proofs.Accepted.{accepted}
+use Rattle.guarantees.proofs.ReadsFile.{reads-token, reads-body, reads-body-of-pointer, reads-no-body, reads-end, reads-item, reads-none, reads-leaf}
+use Rattle.guarantees.proofs.ReadsLookup.{reads-lookup, reads-no-lookup}
+use Rattle.guarantees.proofs.Hops.{hops}
 use Rattle.guarantees.proofs.History.{history}
 use Rattle.guarantees.proofs.Lists.{modelRun-append, length-answers, ended-same, ended-answers}
+use Rattle.guarantees.proofs.Rest.{rest-kept}
+use Rattle.guarantees.proofs.Targets.{targets-earlier, formed-so-far}
 use Rattle.guarantees.proofs.Rewrites.{model-rewrites, calls-given}
 use Rattle.guarantees.proofs.ReadsBack.{model-reads-back}
 
@@ -40,6 +51,7 @@ rewrites file cap count entry b e out table long words =
       wellFormed = a .wellFormed;
       given = calls-given file vs entry (a .wellFormed) b;
       accepted = subst AllOk (sym (h .0)) (m .0);
+      written = h .1 .written ∙ ap length (m .1);
       same = h .1 .bytes ∙ m .1;
       listed = h .1 .starts ∙ m .2;
     }
@@ -88,3 +100,43 @@ module _ (cs more : List Call) (e : ℕ) (out table : List ℕ) where
         let same = history all out table .0 ∙ ap (λ (k : ModelRan). k .answers) (modelRun-append cs (close e ∷ more) emptyModel n m) in
         rw (same, answered, ← length-answers cs emptyModel n m, drop-append-add a (ok tt ∷ modelRun more (modelAfter (ends e) b) n m .answers) 1)
         (ended-answers e b n m more)
+
+-- ---- the library for C
+
+pub history-c : (cs : List Call) (out table : List ℕ)
+    → let q = runsC cs (wordsOf fresh) out table in let k = modelRun cs emptyModel (length out) (length table) in
+    (q .numbers ≡ map numberC (k .answers)) × Agree (writerOf (q .state)) (q .out) (q .table) (k .model)
+history-c cs out table =
+    let h = history cs out table in
+    rw (runs-words cs fresh out table, writerOf-wordsOf (runs cs fresh out table .writer)) (ap (map numberC) (h .0), h .1)
+
+-- ---- a list of calls
+
+pub after-calls : (cs : List Call) (out table : List ℕ) → AfterCalls cs out table
+after-calls cs out table = record {
+  agree = history cs out table .1;
+  answers = history cs out table .0;
+  rest = rest-kept cs fresh out table;
+  inC = runs-words cs fresh out table;
+  targets = targets-earlier cs out table;
+  formed = formed-so-far cs out table;
+  readsBack = λ before more e same. rw same (reads-back before more e out table);
+  closed = λ before more e same. rw same (closed-after before more e out table);
+}
+
+-- ---- a well-formed file
+
+pub tells-values : (file : List ℕ) (vs : List Value) (entry : ℕ) → WellFormed file vs entry → TellsValues file vs
+tells-values file vs entry w = record {
+  read = reads-token file vs entry w;
+  body = reads-body file vs entry w;
+  pointerBody = reads-body-of-pointer file vs entry w;
+  noBody = reads-no-body file vs entry w;
+  skip = reads-end file vs entry w;
+  item = λ a v b e is t js i. reads-item file vs entry w a v b e is t js _ i refl .0;
+  noItem = λ a v b e has i past. reads-none file vs entry w a v b e i past has;
+  noItems = λ a v b e one i. reads-leaf file vs entry w a v b e i one;
+  lookup = λ a v b e map key. reads-lookup file vs entry w a v b e map key;
+  noLookup = λ a v b e map key. reads-no-lookup file vs entry w a v b e map key;
+  follow = hops file vs entry w;
+}

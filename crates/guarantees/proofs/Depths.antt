@@ -197,7 +197,7 @@ module _ (file : List ℕ) (vs : List Value) (entry cap room : ℕ) (w : WellFor
       rw (reported, word) (depth-is vs (w .values) i h)
 
 -- on an error both tables are all 0
-abbrev pub Zeros : ℕ → ℕ → Deepened → Type 0
+abbrev Zeros : ℕ → ℕ → Deepened → Type 0
 Zeros cap room d = (d .starts ≡ replicate cap 0) × (d .depths ≡ replicate room 0)
 
 pub depths-zero : (file : List ℕ) (cap room : ℕ) (f : Fault) → depthsOf file cap room .answer ≡ error f → Zeros cap room (depthsOf file cap room)

@@ -5,7 +5,7 @@
 -- puts a token that its kind allows (`given-allowed`).
 use mathlib.Core.Path.{_≡_, refl, subst}
 use mathlib.Core.Bool.{Bool, true, false, _&&_, true≢false, false≢true}
-use mathlib.Core.List.{List, [], _∷_}
+use mathlib.Core.List.{List, []}
 use Prim.Native.Nat.{ℕ, _-_, _^_, _≤_, _<_, min}
 use native.Mathlib.Omega.{arith}
 use lib.Dec.{leb, ltb, eqb}
@@ -14,7 +14,7 @@ use lib.ListN.{length}
 use Rattle.prelude.specs.Pick.{pick}
 use Rattle.prelude.specs.Answer.{ok, error}
 use Rattle.prelude.specs.Search.{among}
-use Rattle.error.specs.Error.{RESERVED, RANGE, BAD_STATE, CLOSED, OWED, BAD_TEXT, BAD_TARGET, FULL, NO_ROOM}
+use Rattle.error.specs.Error.{RESERVED, RANGE, NO_ROOM}
 use Rattle.little_endian.proofs.Laws.{length-little}
 use Rattle.kind.specs.Kind.{rule, size}
 use Rattle.token.specs.Token.{Token, token, Allowed}
@@ -22,11 +22,13 @@ use Rattle.writer_refusal.specs.Refusal.{badState, Verdict, refusalOf}
 use Rattle.writer_refusal.specs.declared.State.{State}
 use Rattle.writer_refusal.specs.declared.CallFlags.{CallFlags}
 use Rattle.writer_refusal.proofs.Refusals.{not-bad}
-use Rattle.writer.specs.Step.{Call, scalar, integer, float32, float64, text, bytes, variant, reference, pointer, openArray, openMap, openTag, openVariant1}
-use Rattle.writer.specs.Step.{openVariantN, close, Move, puts, closes, moveOf, fresh, tokenRefusal, deltaRefusal, Result, settled, step}
+use Rattle.writer.specs.Call.{Call, scalar, integer, float32, float64, text, bytes, variant, reference, pointer, openArray, openMap, openTag, openVariant1}
+use Rattle.writer.specs.Call.{openVariantN, close}
+use Rattle.writer.specs.Step.{Move, puts, closes, moveOf, fresh, tokenRefusal, deltaRefusal, Result, settled, step}
 use Rattle.writer.specs.Given.{Given}
 use Rattle.writer.specs.declared.Scalar.the-variants.{False, True, Null}
 use Rattle.writer.proofs.Refused.{pointerTo, settled-by}
+use Rattle.guarantees.specs.Errors.{writeErrors}
 
 -- with an output and a table of any lengths
 pub fresh-not-bad : (n m : ℕ) → badState fresh n m ≡ false
@@ -41,15 +43,12 @@ fresh-not-bad n m =
 
 -- ---- the errors
 
-abbrev pub errors : List ℕ
-errors = BAD_STATE ∷ CLOSED ∷ OWED ∷ BAD_TEXT ∷ BAD_TARGET ∷ FULL ∷ NO_ROOM ∷ []
-
 abbrev Known : Verdict → Type 0
 Known (ok u) = Unit {0}
-Known (error f) = among f errors ≡ true
+Known (error f) = among f writeErrors ≡ true
 
 -- one reason to refuse, and then others
-known : (b : Bool) (f : ℕ) (v : Verdict) → among f errors ≡ true → Known v → Known (pick b (error f) v)
+known : (b : Bool) (f : ℕ) (v : Verdict) → among f writeErrors ≡ true → Known v → Known (pick b (error f) v)
 known true f v h k = h
 known false f v h k = k
 
@@ -69,7 +68,7 @@ known-settled s out table (ok u) r e k = rw e tt
 known-settled s out table (error f) r e k = k
 
 -- a refused call answers one of the seven
-pub error-known : (c : Call) (s : State) (out table : List ℕ) (f : ℕ) → step c s out table .answer ≡ error f → among f errors ≡ true
+pub error-known : (c : Call) (s : State) (out table : List ℕ) (f : ℕ) → step c s out table .answer ≡ error f → among f writeErrors ≡ true
 unfolding tokenRefusal deltaRefusal
 error-known c s out table f e =
     subst Known e

@@ -5,7 +5,7 @@
 use mathlib.Core.Path.{_≡_, refl, sym, _∙_, subst}
 use mathlib.Core.Bool.{true, false}
 use mathlib.Core.List.{List, [], _∷_}
-use Prim.Native.Nat.{ℕ, suc, _+_, _≤_, _<_}
+use Prim.Native.Nat.{ℕ, suc, _+_, _<_}
 use native.Mathlib.Omega.{arith}
 use lib.Dec.{eqb}
 use lib.ListN.{length}
@@ -13,40 +13,23 @@ use borrow.Author.Tests.{eqb-true, leb-true, le-ltb, ne-eqb}
 use Rattle.prelude.specs.Answer.{ok}
 use Rattle.prelude.proofs.Tests.{unless}
 use Rattle.kind.specs.Kind.{rule, due}
-use Rattle.utf8.specs.Text.{isText}
 use Rattle.token.specs.Token.{Token, token, putIf, emit}
-use Rattle.writer_refusal.specs.Refusal.{isListed, room}
+use Rattle.writer_refusal.specs.Refusal.{room}
 use Rattle.writer_refusal.specs.declared.State.{State}
-use Rattle.writer.specs.Step.{Call, scalar, scalarOf, puts, moveOf, opens, pendingOf, bytesNeeded, Result, result, startOf, write, putToken, step}
+use Rattle.writer.specs.Call.{Call, scalar}
+use Rattle.writer.specs.Step.{scalarOf, puts, moveOf, opens, pendingOf, bytesNeeded, Result, startOf, write, putToken, step}
+use Rattle.writer.specs.Runs.{runs}
 use Rattle.writer.specs.declared.Scalar.{Scalar}
 use Rattle.writer.specs.declared.Scalar.the-variants.{False, True, Null}
 use Rattle.writer.proofs.Accepted.{new-start, Accepted, token-ok}
 use Rattle.values.specs.Values.{Each}
-use Rattle.guarantees.specs.History.{runs}
-use Rattle.guarantees.specs.Rewrites.{AllOk}
+use Rattle.guarantees.specs.OneCall.{FinishesNone, Finishes, Pending, NextItem, TookItem, OneByte, left, FinishedBy}
 use Rattle.guarantees.proofs.Calls.{put-by}
-use Rattle.guarantees.proofs.Results.{FinishesNone, Finishes, write-more, write-last, Open, write-open}
+use Rattle.guarantees.proofs.Results.{write-more, write-last, write-open}
 
 -- ---- one item
 
--- t may be the next item, with k more to come: an immediate, whose text is text, whose target is listed, and which has
--- room with a byte for each of the k
-pub record Item (k : ℕ) (t : Token) (target : ℕ) (s : State) (out table : List ℕ) : Type 0 where
-  pub immediate : opens t ≡ false
-  pub text : t .kind ≡ 4 → isText (t .body) ≡ true
-  pub aim : 14 ≤ t .kind → isListed s table target ≡ true
-  pub fits : length (emit t) + k ≤ room s (length out)
-
--- an item of n bytes was taken, and k are left: the value stays open, with its start, or is finished, and its start is listed
-pub record TookItem (k n : ℕ) (s : State) (table : List ℕ) (r : Result) : Type 0 where
-  pub answer : r .answer ≡ ok tt
-  pub written : r .writer .written ≡ s .written + n
-  pub start : r .writer .start ≡ s .start
-  pub after : Open k (r .writer) (r .out) (r .table)
-  pub more : 0 < k → FinishesNone s table r
-  pub last : k ≡ 0 → Finishes (s .start) s table r
-
-module _ (k : ℕ) (s : State) (out table : List ℕ) (o : Open (suc k) s out table) where
+module _ (k : ℕ) (s : State) (out table : List ℕ) (o : Pending (suc k) s out table) where
   some : eqb (s .pending) 0 ≡ false
   some = ne-eqb (s .pending) 0 (λ e. omega (arith, o .items))
 
@@ -56,7 +39,7 @@ module _ (k : ℕ) (s : State) (out table : List ℕ) (o : Open (suc k) s out ta
   start-is : startOf s ≡ s .start
   start-is = rw some
 
-  item-accepted : (t : Token) (target : ℕ) → Item k t target s out table → Accepted (opens t) t target s out table
+  item-accepted : (t : Token) (target : ℕ) → NextItem k t target s out table → Accepted (opens t) t target s out table
   item-accepted t target i = record {
     granted = record {
       good = o .good;
@@ -70,8 +53,8 @@ module _ (k : ℕ) (s : State) (out table : List ℕ) (o : Open (suc k) s out ta
   }
 
 -- an open value takes any immediate that has room
-pub item-taken : (k : ℕ) (c : Call) (t : Token) (target : ℕ) (s : State) (out table : List ℕ) → Open (suc k) s out table
-    → moveOf c (s .written) ≡ puts t target → Item k t target s out table → TookItem k (length (emit t)) s table (step c s out table)
+pub item-taken : (k : ℕ) (c : Call) (t : Token) (target : ℕ) (s : State) (out table : List ℕ) → Pending (suc k) s out table
+    → moveOf c (s .written) ≡ puts t target → NextItem k t target s out table → TookItem k (length (emit t)) s table (step c s out table)
 unfolding putToken write
 item-taken k c t target s out table o e i =
     let r = write t s out table in
@@ -82,21 +65,12 @@ item-taken k c t target s out table o e i =
       answer = refl;
       written = refl;
       start = start;
-      after = subst (λ n. Open n (r .writer) (r .out) (r .table)) left (write-open _ t target s out table a);
+      after = subst (λ n. Pending n (r .writer) (r .out) (r .table)) left (write-open _ t target s out table a);
       more = λ h. write-more _ t target s out table a (rw left h);
       last = λ z. subst (λ x. Finishes x s table r) start (write-last _ t target s out table a (left ∙ z));
     })
 
 -- ---- items of one byte
-
--- at whatever offset it is written, the call puts an immediate of one byte, which has no target and is not a bad text
-pub record OneByte (c : Call) : Type 0 where
-  pub item : Token
-  pub always : (w : ℕ) → moveOf c w ≡ puts item 0
-  pub immediate : opens item ≡ false
-  pub text : item .kind ≡ 4 → isText (item .body) ≡ true
-  pub aim : item .kind < 14
-  pub byte : length (emit item) ≡ 1
 
 pub scalar-one : (x : Scalar) → OneByte (scalar x)
 unfolding emit putIf rule
@@ -114,7 +88,7 @@ scalar-one x = record {
     one True = refl
     one Null = refl
 
-one-taken : (k : ℕ) (c : Call) (s : State) (out table : List ℕ) → Open (suc k) s out table → OneByte c → TookItem k 1 s table (step c s out table)
+one-taken : (k : ℕ) (c : Call) (s : State) (out table : List ℕ) → Pending (suc k) s out table → OneByte c → TookItem k 1 s table (step c s out table)
 one-taken k c s out table o b =
     subst (λ n. TookItem k n s table (step c s out table)) (b .byte)
     (item-taken k c (b .item) 0 s out table o (b .always (s .written)) (record {
@@ -134,23 +108,13 @@ finishes-then x s table r q n e f = record {
   listed = rw (n .count, e) at (f .listed);
 }
 
--- what the calls cs leave after r
-abbrev left : List Call → Result → Result
-left cs r = let q = runs cs (r .writer) (r .out) (r .table) in result (ok tt) (q .writer) (q .out) (q .table)
-
--- the calls cs after r are all accepted; the value that starts at x is then finished, with w bytes written
-pub record FinishedBy (cs : List Call) (x w : ℕ) (s : State) (table : List ℕ) (r : Result) : Type 0 where
-  pub accepted : AllOk (runs cs (r .writer) (r .out) (r .table) .answers)
-  pub finishes : Finishes x s table (left cs r)
-  pub written : left cs r .writer .written ≡ w
-
 -- a value is finished by what a call leaves, and not by its answer
 finishes-left : (x : ℕ) (s : State) (table : List ℕ) (r : Result) → Finishes x s table r → Finishes x s table (left [] r)
 unfolding runs
 finishes-left x s table r f = record { none = f .none; count = f .count; words = f .words; listed = f .listed }
 
 -- an open value is finished by calls of one byte, as many as it has items pending
-pub finishable : (cs : List Call) (r : Result) → 0 < length cs → Open (length cs) (r .writer) (r .out) (r .table) → Each OneByte cs
+pub finishable : (cs : List Call) (r : Result) → 0 < length cs → Pending (length cs) (r .writer) (r .out) (r .table) → Each OneByte cs
     → FinishedBy cs (r .writer .start) (r .writer .written + length cs) (r .writer) (r .table) r
 unfolding runs
 finishable [] r h o b = absurd (omega arith)
@@ -178,7 +142,7 @@ opened t target s out table a [] l b = record {
 }
 opened t target s out table a (c ∷ cs) l b =
     let r = write t s out table in
-    let o = subst (λ n. Open n (r .writer) (r .out) (r .table)) (sym l) (write-open true t target s out table a) in
+    let o = subst (λ n. Pending n (r .writer) (r .out) (r .table)) (sym l) (write-open true t target s out table a) in
     let f = finishable (c ∷ cs) r (omega arith) o b in
     record {
       accepted = f .accepted;

@@ -1,8 +1,8 @@
 -- The writer does what the reference model says, over every list of calls.
 --
--- In order: a call of the writer is a request to the model; the bytes of the model with its next part; how state,
--- output and table follow the model (`Follows`), and that the answers are then the same; what an accepted part and an
--- accepted close leave; one call (`step-follows`), and a list of calls (`history`).
+-- In order: a call of the writer is a request to the model; a writer that follows the model gives its answers; what an
+-- accepted part and an accepted close leave; one call (`step-follows`), a list of calls from any writer that follows a model
+-- (`history-from`), and from a new writer (`history`).
 use mathlib.Core.Path.{_≡_, refl, sym, ap, _∙_, subst}
 use mathlib.Core.Bool.{Bool, true, false, not, _&&_, true≢false}
 use mathlib.Core.List.{List, [], _∷_, _++_}
@@ -21,12 +21,14 @@ use Rattle.prelude.proofs.Lists.{take-sets}
 use Rattle.kind.specs.Kind.{rule, pending, due}
 use Rattle.token.specs.Token.{token, emit}
 use Rattle.values.specs.Values.{bytes, region, starts}
-use Rattle.writer_refusal.specs.Refusal.{badState, isListed, limit, Verdict, refusalOf}
+use Rattle.writer_refusal.specs.Refusal.{isListed, limit, Verdict, refusalOf}
 use Rattle.writer_refusal.specs.declared.State.{State}
 use Rattle.writer_refusal.proofs.Refusals.{sound, not-bad}
-use Rattle.writer.specs.Step.{Call, scalar, integer, float32, float64, text, bytes as byteString, variant, reference, pointer, openArray, openMap}
-use Rattle.writer.specs.Step.{openTag, openVariant1, openVariantN, close, Move, puts, closes, moveOf, fresh, opens, pendingOf, tokenRefusal}
-use Rattle.writer.specs.Step.{deltaRefusal, Result, startOf, write, writeDelta, writePointerDelta, settled, putToken, closeAt, move, step}
+use Rattle.writer.specs.Call.{Call, scalar, integer, float32, float64, text, bytes as byteString, variant, reference, pointer, openArray, openMap, openTag}
+use Rattle.writer.specs.Call.{openVariant1, openVariantN, close}
+use Rattle.writer.specs.Step.{Move, puts, closes, moveOf, fresh, opens, pendingOf, tokenRefusal, deltaRefusal, Result, startOf, write, writeDelta}
+use Rattle.writer.specs.Step.{writePointerDelta, settled, putToken, closeAt, move, step}
+use Rattle.writer.specs.Runs.{runs}
 use Rattle.writer.specs.declared.Scalar.the-variants.{False, True, Null}
 use Rattle.writer.proofs.Accepted.{Accepted, token-inv, free-word, room-after, none-pending, delta-inv, delta-fits}
 use Rattle.writer.proofs.Refused.{refused-same}
@@ -35,11 +37,10 @@ use Rattle.guarantees.proofs.Results.{write-open}
 use Rattle.guarantees.proofs.Errors.{fresh-not-bad}
 use Rattle.guarantees.specs.Model.{Part, part, Request, adds, ends, requestOf, formOf, ModelValue, modelValue, valuesAt}
 use Rattle.guarantees.specs.Model.{Stage, between, within, closed, Model, model, emptyModel, modelBytes, modelStarts}
-use Rattle.guarantees.specs.Model.{isClosed, pendingIn, pendingAt, grown, settle, modelAnswer, modelAfter, backTo}
-use Rattle.guarantees.specs.History.{runs, modelRun, unlessRefused, Agree}
-use Rattle.guarantees.specs.ReadsBack.{endOf}
+use Rattle.guarantees.specs.Model.{endOf, isClosed, pendingIn, pendingAt, grown, settle, modelAnswer, modelAfter, backTo}
+use Rattle.guarantees.specs.History.{modelRun, unlessRefused, Agree, Started, Follows, Alike}
 use Rattle.guarantees.proofs.Models.{pending-form, length-startsOf, starts-snoc, start-lt, bytes-between}
-use Rattle.guarantees.proofs.Models.{bytes-closed, end-le, bytes-grown, bytes-settle}
+use Rattle.guarantees.proofs.Models.{bytes-closed, end-le, bytes-grown, bytes-settle, answer-part, answer-close}
 
 -- ---- a call of the writer is a request to the model
 
@@ -70,17 +71,6 @@ move-request (close e) w = refl
 
 -- ---- the writer follows the model
 
--- an open value has items pending, and the state has its start
-abbrev Begun : State → List ModelValue → Stage → Type 0
-Begun s vs between = Unit {0}
-Begun s vs (within v) = (0 < pendingIn v) × (s .start ≡ endOf vs)
-Begun s vs (closed d) = Unit {0}
-
-pub record Follows (s : State) (out table : List ℕ) (b : Model) : Type 0 where
-  pub agree : Agree s out table b
-  pub good : badState s (length out) (length table) ≡ false
-  pub begun : Begun s (b .finished) (b .stage)
-
 module _ (s : State) (out table : List ℕ) (b : Model) (f : Follows s out table b) where
   listed-same : (x : ℕ) → isListed s table x ≡ among x (modelStarts b)
   unfolding modelStarts
@@ -96,7 +86,7 @@ module _ (s : State) (out table : List ℕ) (b : Model) (f : Follows s out table
   count-same = f .agree .count ∙ length-startsOf b
 
 -- the items pending after the next part, if the model is not closed
-due-same : (s : State) (vs : List ModelValue) (g : Stage) (q : ℕ) (p : Part) → Begun s vs g → isClosed g ≡ false
+due-same : (s : State) (vs : List ModelValue) (g : Stage) (q : ℕ) (p : Part) → Started s vs g → isClosed g ≡ false
     → due (pendingAt g) (pendingOf (formOf q p)) ≡ pendingIn (grown g p)
 due-same s vs between q p h c = omega (arith, pending-form q p)
 due-same s vs (within v) q p h c = rw (ne-eqb (pendingIn v) 0 (λ z. omega (arith, h .0)), length-append (v .items) (p ∷ [])) (omega arith)
@@ -105,12 +95,18 @@ due-same s vs (closed d) q p h c = absurd (true≢false c)
 -- where the value starts that the next part belongs to
 start-same : (s : State) (out table : List ℕ) (vs : List ModelValue) (g : Stage) → Follows s out table (model vs g) → isClosed g ≡ false → startOf s ≡ endOf vs
 start-same s out table vs between f c = rw (f .agree .pending) (f .agree .written ∙ ap length (bytes-between vs))
-start-same s out table vs (within v) f c = rw (f .agree .pending, ne-eqb (pendingIn v) 0 (λ z. omega (arith, f .begun .0))) (f .begun .1)
+start-same s out table vs (within v) f c = rw (f .agree .pending, ne-eqb (pendingIn v) 0 (λ z. omega (arith, f .started .0))) (f .started .1)
 start-same s out table vs (closed d) f c = absurd (true≢false c)
+
+-- nothing is pending and there was no close: no value is open
+stage-between : (s : State) (vs : List ModelValue) (g : Stage) → Started s vs g → isClosed g ≡ false → pendingAt g ≡ 0 → g ≡ between
+stage-between s vs between h o z = refl
+stage-between s vs (within v) h o z = absurd (omega (arith, h .0))
+stage-between s vs (closed d) h o z = absurd (true≢false o)
 
 -- ---- the answers
 
-settled-answer : (v : Verdict) (s : State) (out table : List ℕ) (r : Result) → r .answer ≡ ok tt → settled v s out table r .answer ≡ v
+pub settled-answer : (v : Verdict) (s : State) (out table : List ℕ) (r : Result) → r .answer ≡ ok tt → settled v s out table r .answer ≡ v
 settled-answer (ok tt) s out table r e = e
 settled-answer (error g) s out table r e = refl
 
@@ -120,6 +116,7 @@ module _ (s : State) (out table : List ℕ) (b : Model) (f : Follows s out table
   unfolding tokenRefusal refusalOf formOf
   part-same p =
       rw (
+        answer-part p b (length out) (length table),
         f .good,
         f .agree .closed,
         f .agree .pending,
@@ -127,14 +124,22 @@ module _ (s : State) (out table : List ℕ) (b : Model) (f : Follows s out table
         count-same s out table b f,
         f .agree .written,
       )
-      (pick-cong (isClosed (b .stage)) (λ _. refl) (λ c. rw (due-same s (b .finished) (b .stage) (length (modelBytes b)) p (f .begun) c)))
+      (pick-cong (isClosed (b .stage)) (λ _. refl) (λ c. rw (due-same s (b .finished) (b .stage) (length (modelBytes b)) p (f .started) c)))
 
   -- a close by the delta byte
   near-same : (e : ℕ) → s .written - e - 1 ≤ 255 → deltaRefusal e s out table ≡ modelAnswer (ends e) b (length out) (length table)
   unfolding deltaRefusal refusalOf
   near-same e h =
       let back : backTo e b ≤ 255 = omega (arith, f .agree .written) in
-      rw (f .good, f .agree .closed, f .agree .pending, listed-same s out table b f e, f .agree .written, le-ltb 255 (backTo e b) back)
+      rw (
+        answer-close e b (length out) (length table) (stage-between s (b .finished) (b .stage) (f .started)),
+        f .good,
+        f .agree .closed,
+        f .agree .pending,
+        listed-same s out table b f e,
+        f .agree .written,
+        le-ltb 255 (backTo e b) back,
+      )
 
   -- a close by a pointer
   far-same : (e : ℕ) → 255 < s .written - e - 1
@@ -143,6 +148,7 @@ module _ (s : State) (out table : List ℕ) (b : Model) (f : Follows s out table
   far-same e h =
       let back : 255 < backTo e b = omega (arith, f .agree .written) in
       rw (
+        answer-close e b (length out) (length table) (stage-between s (b .finished) (b .stage) (f .started)),
         f .good,
         f .agree .closed,
         f .agree .pending,
@@ -188,9 +194,9 @@ pending-settled k vs v e = pick-elim (λ (b : Model). k ≡ pendingAt (b .stage)
 unclosed-settled : (vs : List ModelValue) (v : ModelValue) → false ≡ isClosed (settle vs v .stage)
 unclosed-settled vs v = pick-elim (λ (b : Model). false ≡ isClosed (b .stage)) (eqb (pendingIn v) 0) (λ _. refl) (λ _. refl)
 
-begun-settled : (s : State) (vs : List ModelValue) (v : ModelValue) → s .start ≡ endOf vs → Begun s (settle vs v .finished) (settle vs v .stage)
-begun-settled s vs v e =
-    pick-elim (λ (b : Model). Begun s (b .finished) (b .stage)) (eqb (pendingIn v) 0) (λ _. tt) (λ z. (omega (arith, eqb-false (pendingIn v) 0 z), e))
+started-settled : (s : State) (vs : List ModelValue) (v : ModelValue) → s .start ≡ endOf vs → Started s (settle vs v .finished) (settle vs v .stage)
+started-settled s vs v e =
+    pick-elim (λ (b : Model). Started s (b .finished) (b .stage)) (eqb (pendingIn v) 0) (λ _. tt) (λ z. (omega (arith, eqb-false (pendingIn v) 0 z), e))
 
 module _ (s : State) (out table : List ℕ) (vs : List ModelValue) (g : Stage) (f : Follows s out table (model vs g)) (c : isClosed g ≡ false) (p : Part)
     (alone : Bool) (target : ℕ) (a : Accepted alone (formOf (s .written) p) target s out table) where
@@ -199,7 +205,7 @@ module _ (s : State) (out table : List ℕ) (vs : List ModelValue) (g : Stage) (
   write-agree =
       let t = formOf (s .written) p in
       let v = grown g p in
-      let left : due (s .pending) (pendingOf t) ≡ pendingIn v = rw (f .agree .pending) (due-same s vs g (s .written) p (f .begun) c) in
+      let left : due (s .pending) (pendingOf t) ≡ pendingIn v = rw (f .agree .pending) (due-same s vs g (s .written) p (f .started) c) in
       let start = start-same s out table vs g f c in
       let word = free-word alone t target s out table a in
       let more : modelBytes (settle vs v) ≡ modelBytes (model vs g) ++ emit t = bytes-settle vs v ∙ bytes-grown vs g p c ∙ rw (f .agree .written) in
@@ -212,25 +218,18 @@ module _ (s : State) (out table : List ℕ) (vs : List ModelValue) (g : Stage) (
         closed = unclosed-settled vs v;
       })
 
-  write-begun : let r = write (formOf (s .written) p) s out table in Begun (r .writer) (settle vs (grown g p) .finished) (settle vs (grown g p) .stage)
+  write-started : let r = write (formOf (s .written) p) s out table in Started (r .writer) (settle vs (grown g p) .finished) (settle vs (grown g p) .stage)
   unfolding write
-  write-begun = begun-settled (write (formOf (s .written) p) s out table .writer) vs (grown g p) (start-same s out table vs g f c)
+  write-started = started-settled (write (formOf (s .written) p) s out table .writer) vs (grown g p) (start-same s out table vs g f c)
 
   write-follows : let r = write (formOf (s .written) p) s out table in Follows (r .writer) (r .out) (r .table) (settle vs (grown g p))
   write-follows = record {
     agree = write-agree;
     good = write-open alone (formOf (s .written) p) target s out table a .good;
-    begun = write-begun;
+    started = write-started;
   }
 
 -- ---- what an accepted close leaves
-
--- nothing is pending and there was no close: no value is open
-stage-between : (s : State) (out table : List ℕ) (vs : List ModelValue) (g : Stage) → Follows s out table (model vs g) → s .closed ≡ false → s .pending ≡ 0
-    → g ≡ between
-stage-between s out table vs between f c e = refl
-stage-between s out table vs (within v) f c e = absurd (omega (arith, f .begun .0, f .agree .pending))
-stage-between s out table vs (closed d) f c e = absurd (true≢false (sym (f .agree .closed) ∙ c))
 
 delta-follows : (d : ℕ) (s : State) (out table : List ℕ) (vs : List ModelValue) → Follows s out table (model vs between) → s .written < limit (length out)
     → let r = writeDelta d s out table in Follows (r .writer) (r .out) (r .table) (model vs (closed d))
@@ -256,7 +255,7 @@ delta-follows d s out table vs f byte =
         free = λ k. absurd (omega arith);
         begun = λ k. absurd (omega arith);
       });
-      begun = tt;
+      started = tt;
     }
 
 module _ (s : State) (out table : List ℕ) (vs : List ModelValue) (f : Follows s out table (model vs between)) (e : ℕ) where
@@ -290,6 +289,9 @@ module _ (s : State) (out table : List ℕ) (vs : List ModelValue) (g : Stage) (
       (λ near. settled-answer _ s out table _ refl ∙ near-same s out table b f e (leb-true _ 255 near))
       (λ far. settled-answer _ s out table _ refl ∙ far-same s out table b f e (leb-false _ 255 far))
 
+  closing-between : s .closed ≡ false → s .pending ≡ 0 → g ≡ between
+  closing-between o z = stage-between s vs g (f .started) (sym (f .agree .closed) ∙ o) (sym (f .agree .pending) ∙ z)
+
   request-follows : (l : Request) → modelAnswer l b (length out) (length table) ≡ ok tt
       → let r = move (moveAs (s .written) l) s out table in Follows (r .writer) (r .out) (r .table) (modelAfter l b)
   unfolding putToken closeAt formOf
@@ -302,13 +304,13 @@ module _ (s : State) (out table : List ℕ) (vs : List ModelValue) (g : Stage) (
       (λ far.
       let j = far-same s out table b f e far ∙ o in
       let a = token-inv _ _ _ s out table j in
-      let z = stage-between s out table vs g f (a .granted .unclosed) (none-pending s (a .granted .alike)) in
+      let z = closing-between (a .granted .unclosed) (none-pending s (a .granted .alike)) in
       rw (lt-leb (s .written - e - 1) 255 far, j, ← f .agree .written, lt-ltb 255 (s .written - e - 1) far)
       (far-follows s out table vs (subst (λ x. Follows s out table (model vs x)) z f) e a))
       (λ near.
       let j = near-same s out table b f e near ∙ o in
       let n = delta-inv e s out table j in
-      let z = stage-between s out table vs g f (n .granted .unclosed) (none-pending s (n .granted .alike)) in
+      let z = closing-between (n .granted .unclosed) (none-pending s (n .granted .alike)) in
       rw (le-leb (s .written - e - 1) 255 near, j, ← f .agree .written, le-ltb 255 (s .written - e - 1) near)
       (delta-follows (s .written - e - 1) s out table vs (subst (λ x. Follows s out table (model vs x)) z f) (delta-fits e s out table n)))
 
@@ -332,43 +334,51 @@ module _ (c : Call) (s : State) (out table : List ℕ) (b : Model) (f : Follows 
 
 -- output and table keep their lengths
 module _ (c : Call) (s : State) (out table : List ℕ) where
-  abbrev ModelInvariant : Result → Type 0
-  ModelInvariant r = (length (r .out) ≡ length out) × (length (r .table) ≡ length table)
+  abbrev SameLengths : Result → Type 0
+  SameLengths r = (length (r .out) ≡ length out) × (length (r .table) ≡ length table)
 
-  step-lengths : ModelInvariant (step c s out table)
+  step-lengths : SameLengths (step c s out table)
   step-lengths = by-answer (step c s out table .answer) refl
     where
-      by-answer : (v : Verdict) → step c s out table .answer ≡ v → ModelInvariant (step c s out table)
+      by-answer : (v : Verdict) → step c s out table .answer ≡ v → SameLengths (step c s out table)
       by-answer (ok tt) e = let o = accepted-only c s out table e in (o .bytes, o .words)
       by-answer (error g) e = rw (refused-same c s out table g e) (refl, refl)
 
-pub record Alike (cs : List Call) (s : State) (out table : List ℕ) (b : Model) (n m : ℕ) : Type 0 where
-  -- each call was refused exactly when the model refuses it, with the same number
-  pub answers : runs cs s out table .answers ≡ modelRun cs b n m .answers
-  pub follows : let r = runs cs s out table in Follows (r .writer) (r .out) (r .table) (modelRun cs b n m .model)
+pub runs-lengths : (cs : List Call) (s : State) (out table : List ℕ) → let r = runs cs s out table in
+    (length (r .out) ≡ length out) × (length (r .table) ≡ length table)
+unfolding runs
+runs-lengths [] s out table = (refl, refl)
+runs-lengths (c ∷ cs) s out table =
+    let r = step c s out table in
+    let one = step-lengths c s out table in
+    let more = runs-lengths cs (r .writer) (r .out) (r .table) in
+    (more .0 ∙ one .0, more .1 ∙ one .1)
 
-calls-alike : (cs : List Call) (s : State) (out table : List ℕ) (b : Model) → Follows s out table b → Alike cs s out table b (length out) (length table)
+-- from any writer that follows any model, with an output and a table that it follows it with: it does what the model says, over
+-- every list of calls, and follows it after them
+pub history-from : (cs : List Call) (s : State) (out table : List ℕ) (b : Model) → Follows s out table b → Alike cs s out table b
 unfolding runs modelRun
-calls-alike [] s out table b f = record { answers = refl; follows = f }
-calls-alike (c ∷ cs) s out table b f =
+history-from [] s out table b f = record { answers = refl; follows = f }
+history-from (c ∷ cs) s out table b f =
     let r = step c s out table in
     let v = modelAnswer (requestOf c) b (length out) (length table) in
     let same = step-lengths c s out table in
-    let next = unlessRefused v b (modelAfter (requestOf c) b) in
-    let more : Alike cs (r .writer) (r .out) (r .table) next (length out) (length table) =
-    rw (same .0, same .1) at (calls-alike cs (r .writer) (r .out) (r .table) next (step-follows c s out table b f)) in
-    record { answers = rw (step-answer c s out table b f, more .answers); follows = more .follows }
+    let more = history-from cs (r .writer) (r .out) (r .table) (unlessRefused v b (modelAfter (requestOf c) b)) (step-follows c s out table b f) in
+    record {
+      answers = rw (step-answer c s out table b f) (ap (λ l. v ∷ l) (rw (same .0, same .1) at (more .answers)));
+      follows = rw (same .0, same .1) at (more .follows);
+    }
 
-fresh-follows : (out table : List ℕ) → Follows fresh out table emptyModel
+pub fresh-follows : (out table : List ℕ) → Follows fresh out table emptyModel
 unfolding modelBytes modelStarts valuesAt region starts
 fresh-follows out table = record {
   agree = record { bytes = refl; written = refl; starts = refl; count = refl; pending = refl; closed = refl };
   good = fresh-not-bad (length out) (length table);
-  begun = tt;
+  started = tt;
 }
 
 -- for every list of calls from a new writer, whatever output and table hold at first: each call is refused exactly when the
 -- reference model refuses it, with the same number, and after them the bytes written and the starts listed are the model's
 pub history : (cs : List Call) (out table : List ℕ) → let r = runs cs fresh out table in let k = modelRun cs emptyModel (length out) (length table) in
     (r .answers ≡ k .answers) × Agree (r .writer) (r .out) (r .table) (k .model)
-history cs out table = let a = calls-alike cs fresh out table emptyModel (fresh-follows out table) in (a .answers, a .follows .agree)
+history cs out table = let a = history-from cs fresh out table emptyModel (fresh-follows out table) in (a .answers, a .follows .agree)

@@ -11,7 +11,7 @@
 -- In order: finished values joined (`finished-append`), and their parts (`holds-fit`); their starts; what an accepted
 -- request is (`adds-inv`, `ends-inv`), the bytes that it adds, and what it leaves (`invariant-adds`, `closes-near`,
 -- `closes-far`); lists of calls (`invariant-run`, `invariant-any`).
-use mathlib.Core.Path.{_≡_, refl, ap, _∙_, subst}
+use mathlib.Core.Path.{_≡_, refl, sym, ap, _∙_, subst}
 use mathlib.Core.Logic.{_↔_}
 use mathlib.Core.Bool.{Bool, true, false, not, _&&_, true≢false}
 use mathlib.Core.List.{List, [], _∷_, _++_, append-nil}
@@ -35,13 +35,13 @@ use Rattle.values.proofs.Members.{each-all, each-append, each-imp}
 use Rattle.values.proofs.Laws.{emit-pos, length-starts, start-of}
 use Rattle.writer_refusal.specs.Refusal.{Verdict}
 use Rattle.writer_refusal.proofs.Refusals.{past}
-use Rattle.writer.specs.Step.{Call}
+use Rattle.writer.specs.Call.{Call}
 use Rattle.guarantees.specs.Model.{Part, part, Request, adds, ends, requestOf, ModelValue, modelValue, formOf, valueAt, valuesAt}
 use Rattle.guarantees.specs.Model.{Stage, between, within, closed, isClosed, Model, model, emptyModel, modelBytes, modelStarts}
-use Rattle.guarantees.specs.Model.{pendingIn, pendingAt, grown, firstOf, modelRoom, backTo, modelAnswer, settle, modelAfter}
+use Rattle.guarantees.specs.Model.{endOf, pendingIn, pendingAt, grown, firstOf, backTo, modelAnswer, settle, modelAfter}
 use Rattle.guarantees.specs.History.{modelRun, unlessRefused}
-use Rattle.guarantees.specs.ReadsBack.{endOf, Holds}
-use Rattle.guarantees.proofs.Models.{values-snoc, start-lt, bytes-between, bytes-closed, bytes-grown, bytes-settle}
+use Rattle.guarantees.specs.ReadsBack.{Holds}
+use Rattle.guarantees.proofs.Models.{values-snoc, start-lt, bytes-between, bytes-closed, bytes-grown, bytes-settle, modelRoom, answer-part, answer-close}
 
 -- ---- what is kept
 
@@ -127,7 +127,7 @@ adds-inv : (p : Part) (b : Model) (n m : ℕ) → modelAnswer (adds p) b n m ≡
 adds-inv p b n m q =
     firstOf-by (isClosed (b .stage)) (not (immediate (rule (p .kind))) && ltb 0 (pendingAt (b .stage))) (eqb (p .kind) 4 && not (isText (p .body)))
     (leb 14 (p .kind) && not (among (p .number) (modelStarts b))) (eqb (pendingAt (b .stage)) 0 && leb m (length (b .finished)))
-    (ltb (modelRoom b n) (length (emit (formOf (length (modelBytes b)) p)) + pendingIn (grown (b .stage) p))) q
+    (ltb (modelRoom b n) (length (emit (formOf (length (modelBytes b)) p)) + pendingIn (grown (b .stage) p))) (sym (answer-part p b n m) ∙ q)
     (λ unclosed flat text names full room. record {
       unclosed = unclosed;
       flat = λ h. and-false _ _ flat (λ a. not-false _ a) (λ a. absurd (omega facts));
@@ -143,13 +143,14 @@ record Ended (e : ℕ) (b : Model) (n : ℕ) : Type 0 where
   far : 255 < backTo e b → length (emit (formOf (length (modelBytes b)) (part 15 e 0 []))) ≤ modelRoom b n
   near : backTo e b ≤ 255 → length (modelBytes b) < min n LIMIT
 
-ends-inv : (e : ℕ) (b : Model) (n m : ℕ) → modelAnswer (ends e) b n m ≡ ok tt → Ended e b n
-ends-inv e b n m q =
+ends-inv : (e : ℕ) (b : Model) (n m : ℕ) → (isClosed (b .stage) ≡ false → pendingAt (b .stage) ≡ 0 → b .stage ≡ between)
+    → modelAnswer (ends e) b n m ≡ ok tt → Ended e b n
+ends-inv e b n m h q =
     let far = ltb 255 (backTo e b) in
     let wide = ltb (modelRoom b n) (length (emit (formOf (length (modelBytes b)) (part 15 e 0 [])))) in
     let end = leb (min n LIMIT) (length (modelBytes b)) in
     firstOf-by (isClosed (b .stage)) (ltb 0 (pendingAt (b .stage))) false (not (among e (modelStarts b)))
-    (far && leb m (length (b .finished))) (pick far wide end) q
+    (far && leb m (length (b .finished))) (pick far wide end) (sym (answer-close e b n m h) ∙ q)
     (λ unclosed none text names full room. record {
       unclosed = unclosed;
       none = omega facts;
@@ -213,8 +214,11 @@ module _ (P : Part → Type 0) (b : Model) (n m : ℕ) (k : ModelInvariant P b) 
     abbrev w : ℕ
     w = length (modelBytes b)
 
+    ended : Ended e b n
+    ended = ends-inv e b n m (stage-between P vs (b .stage) (k .stage)) q
+
     same : modelBytes b ≡ modelBytes (model vs between)
-    same = let a = ends-inv e b n m q in ap (λ g. modelBytes (model vs g)) (stage-between P vs (b .stage) (k .stage) (a .unclosed) (a .none))
+    same = let a = ended in ap (λ g. modelBytes (model vs g)) (stage-between P vs (b .stage) (k .stage) (a .unclosed) (a .none))
 
     end : w ≡ endOf vs
     end = ap length (same ∙ bytes-between vs)
@@ -222,14 +226,14 @@ module _ (P : Part → Type 0) (b : Model) (n m : ℕ) (k : ModelInvariant P b) 
     pub closes-near : backTo e b ≤ 255 → Closes P vs (backTo e b) e
     unfolding modelStarts
     closes-near h =
-        let a = ends-inv e b n m q in
+        let a = ended in
         closes P vs (k .finished) e (backTo e b) (a .names) (omega (arith, start-lt vs e (a .names), end)) (omega (arith, a .near h, end))
 
     pub closes-far : P (part 15 e 0 []) → 255 < backTo e b
         → Closes P (vs ++ (modelValue (part 15 e 0 []) [] ∷ [])) (length (emit (formOf w (part 15 e 0 []))) - 1) w
     unfolding rule
     closes-far own h =
-        let a = ends-inv e b n m q in
+        let a = ended in
         let p = part 15 e 0 [] in
         let v = modelValue p [] in
         let long = ap length (rw (← same) at (bytes-grown vs between p refl)) ∙ length-append (modelBytes b) (emit (formOf w p)) in

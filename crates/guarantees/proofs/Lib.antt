@@ -58,6 +58,14 @@ pub mod Errors
 pub mod Models
 -- the writer does what the reference model says
 pub mod History
+-- what a call is refused for, in any state
+pub mod RefusedCall
+-- what an accepted call writes, in any state
+pub mod AcceptedCall
+-- the model's parts, and the bytes written, are those of the accepted calls
+pub mod AcceptedParts
+-- output and table may get longer between two calls
+pub mod Longer
 -- lists of calls joined, and what comes after a close
 pub mod Lists
 -- over every list of calls the rest of output and table is as it was

@@ -8,7 +8,7 @@ use Rattle.prelude.specs.Answer.{error}
 use Rattle.prelude.proofs.Tests.{pick-elim}
 use Rattle.error.specs.Error.{CLOSED}
 use Rattle.values.specs.Values.{Each}
-use Rattle.writer.specs.Step.{Call}
+use Rattle.writer.specs.Call.{Call}
 use Rattle.guarantees.specs.Model.{Request, adds, ends, requestOf, ModelValue, closed, Model, model, backTo, modelAnswer, modelAfter}
 use Rattle.guarantees.specs.History.{modelRan, unlessRefused, modelRun}
 

@@ -2,29 +2,33 @@
 --
 -- In order: the items of a part (`target-each`, `pending-form`); parts joined (`forms-append`); values joined
 -- (`values-append`, `values-snoc`), as many as there were, and their starts; the bytes of a model at each stage, and
--- with one part more (`bytes-grown`).
+-- with one part more (`bytes-grown`); what NO_ROOM means by the bytes before a request (`room-part`, `room-close`), and the
+-- model's answers in these terms (`answer-part`, `answer-close`).
 use mathlib.Core.Path.{_≡_, refl, sym, ap, _∙_}
-use mathlib.Core.Bool.{true, false, true≢false}
+use mathlib.Core.Bool.{Bool, true, false, not, _&&_, true≢false}
 use mathlib.Core.List.{List, [], _∷_, _++_, append-assoc, append-nil}
-use Prim.Native.Nat.{ℕ, suc, _+_, _-_, _≤_, _<_}
+use Prim.Native.Nat.{ℕ, suc, _+_, _-_, _≤_, _<_, min}
 use native.Mathlib.Nat.{zero-add, add-zero}
 use native.Mathlib.Omega.{arith}
-use lib.Dec.{eqb, leb}
+use lib.Dec.{eqb, ltb, leb}
 use lib.ListN.{length, drop, length-append}
 use lib.Seq.{getD-drop}
-use borrow.Author.Tests.{eqb-true, leb-true}
+use borrow.Author.Tests.{eqb-true, leb-true, ltb-false, lt-ltb, le-ltb, le-leb, lt-leb}
+use Rattle.prelude.specs.Pick.{pick}
 use Rattle.prelude.specs.Search.{among}
-use Rattle.prelude.proofs.Tests.{pick-elim}
+use Rattle.prelude.proofs.Tests.{pick-elim, pick-cong, split}
 use Rattle.prelude.proofs.Tables.{every-getD}
 use Rattle.prelude.proofs.Searches.{among-by}
-use Rattle.kind.specs.Kind.{rule, table, reserved, pending}
-use Rattle.token.specs.Token.{emit}
+use Rattle.error.specs.Error.{LIMIT}
+use Rattle.utf8.specs.Text.{isText}
+use Rattle.kind.specs.Kind.{rule, table, reserved, pending, immediate}
+use Rattle.token.specs.Token.{Token, emit}
 use Rattle.values.specs.Values.{tokens, bytes, region, starts}
-use Rattle.values.proofs.Laws.{bytes-append, region-append, starts-append, starts-lt, length-starts}
+use Rattle.values.proofs.Laws.{emit-pos, bytes-append, region-append, starts-append, starts-lt, length-starts}
 use Rattle.writer.specs.Step.{pendingOf}
-use Rattle.guarantees.specs.Model.{Part, formOf, formsOf, ModelValue, modelValue, valueAt, valuesAt, Stage, between, within}
-use Rattle.guarantees.specs.Model.{closed, isClosed, Model, model, modelBytes, modelStarts, pendingIn, grown, settle}
-use Rattle.guarantees.specs.ReadsBack.{endOf}
+use Rattle.guarantees.specs.Model.{Part, part, adds, ends, formOf, formsOf, ModelValue, modelValue, valueAt, valuesAt, endOf, Stage, between, within}
+use Rattle.guarantees.specs.Model.{closed, isClosed, Model, model, modelBytes, modelStarts, pendingIn, pendingAt, grown, settle, backTo}
+use Rattle.guarantees.specs.Model.{modelAfter, firstOf, noRoom, modelAnswer}
 
 -- ---- parts
 
@@ -113,11 +117,14 @@ module _ (vs : List ModelValue) where
   unfolding modelBytes
   bytes-closed d = rw (append-nil vs)
 
+-- the bytes begin with those of the finished values
+pub front-bytes : (vs : List ModelValue) (g : Stage) → (rest : List ℕ) × (modelBytes (model vs g) ≡ region (valuesAt 0 vs) ++ rest)
+front-bytes vs between = ([], bytes-between vs ∙ sym (append-nil (region (valuesAt 0 vs))))
+front-bytes vs (within v) = (_, bytes-within vs v)
+front-bytes vs (closed d) = (_, bytes-closed vs d)
+
 pub end-le : (vs : List ModelValue) (g : Stage) → endOf vs ≤ length (modelBytes (model vs g))
-end-le vs between = omega (arith, ap length (bytes-between vs))
-end-le vs (within v) =
-    omega (arith, ap length (bytes-within vs v), length-append (region (valuesAt 0 vs)) (bytes (tokens (valueAt (endOf vs) v))))
-end-le vs (closed d) = omega (arith, ap length (bytes-closed vs d), length-append (region (valuesAt 0 vs)) (d ∷ []))
+end-le vs g = let (rest, e) = front-bytes vs g in omega (arith, ap length e, length-append (region (valuesAt 0 vs)) rest)
 
 -- ---- the bytes that a part adds
 
@@ -138,3 +145,83 @@ pub bytes-settle : (vs : List ModelValue) (v : ModelValue) → modelBytes (settl
 bytes-settle vs v =
     pick-elim (λ b. modelBytes b ≡ region (valuesAt 0 (vs ++ (v ∷ [])))) (eqb (pendingIn v) 0) (λ _. bytes-between (vs ++ (v ∷ [])))
     (λ _. bytes-within vs v ∙ sym (region-snoc vs v))
+
+-- ---- the room
+
+-- "the smaller of output length and 16,777,216, less 1, less the bytes written, and 0 if that is negative"
+abbrev pub modelRoom : Model → ℕ → ℕ
+modelRoom b n = min n LIMIT - 1 - length (modelBytes b)
+
+-- x bytes exceed the limit: w bytes, `size` more, k items and the delta
+pub room-test : (end w size k x : ℕ) → 0 < size → x ≡ w + size + k + 1 → ltb end x ≡ ltb (end - 1 - w) (size + k)
+room-test end w size k x pos e =
+    split end x (λ h. lt-ltb end x h ∙ sym (lt-ltb (end - 1 - w) (size + k) (omega arith)))
+    (λ h. le-ltb end x h ∙ sym (le-ltb (end - 1 - w) (size + k) (omega arith)))
+
+-- a part is NO_ROOM if its bytes, and the items pending after it, exceed the room
+module _ (vs : List ModelValue) (g : Stage) (p : Part) (n : ℕ) where
+  abbrev b : Model
+  b = model vs g
+
+  abbrev size : ℕ
+  size = length (emit (formOf (length (modelBytes b)) p))
+
+  pub room-part : isClosed g ≡ false → noRoom (settle vs (grown g p)) n ≡ ltb (modelRoom b n) (size + pendingIn (grown g p))
+  room-part o =
+      let v = grown g p in
+      let long = ap length (bytes-settle vs v ∙ bytes-grown vs g p o) ∙ length-append (modelBytes b) (emit (formOf (length (modelBytes b)) p)) in
+      let pos = emit-pos (formOf (length (modelBytes b)) p) in
+      pick-elim (λ c. length (modelBytes c) ≡ length (modelBytes b) + size → noRoom c n ≡ ltb (modelRoom b n) (size + pendingIn v)) (eqb (pendingIn v) 0)
+      (λ z e. room-test (min n LIMIT) (length (modelBytes b)) size (pendingIn v) _ pos (omega (arith, eqb-true (pendingIn v) 0 z)))
+      (λ _ e. room-test (min n LIMIT) (length (modelBytes b)) size (pendingIn v) _ pos (omega arith))
+      long
+
+-- a close is NO_ROOM if its pointer exceeds the room, or if no byte is left for the delta
+module _ (vs : List ModelValue) (e n : ℕ) where
+  abbrev whole : Model
+  whole = model vs between
+
+  abbrev closing : Part
+  closing = part 15 e 0 []
+
+  abbrev tail : Token
+  tail = formOf (length (modelBytes whole)) closing
+
+  pub room-close : noRoom (modelAfter (ends e) whole) n
+      ≡ pick (ltb 255 (backTo e whole)) (ltb (modelRoom whole n) (length (emit tail))) (leb (min n LIMIT) (length (modelBytes whole)))
+  room-close = by-reach (ltb 255 (backTo e whole))
+    where
+      by-reach : (far : Bool)
+          → noRoom (pick far (model (vs ++ (modelValue closing [] ∷ [])) (closed (length (emit tail) - 1))) (model vs (closed (backTo e whole)))) n
+          ≡ pick far (ltb (modelRoom whole n) (length (emit tail))) (leb (min n LIMIT) (length (modelBytes whole)))
+      by-reach true =
+          let vs′ = vs ++ (modelValue closing [] ∷ []) in
+          let d = length (emit tail) - 1 in
+          let long = ap length (bytes-closed vs′ d) ∙ length-append (region (valuesAt 0 vs′)) (d ∷ []) in
+          let more = ap length (bytes-grown vs between closing refl) ∙ length-append (modelBytes whole) (emit tail) in
+          room-test (min n LIMIT) (length (modelBytes whole)) (length (emit tail)) 0 _ (emit-pos tail) (omega arith) ∙ rw add-zero
+      by-reach false =
+          let d = backTo e whole in
+          let long = ap length (bytes-closed vs d) ∙ length-append (region (valuesAt 0 vs)) (d ∷ []) in
+          let same = ap length (bytes-between vs) in
+          let end = min n LIMIT in
+          let w = length (modelBytes whole) in
+          split w end (λ h. le-ltb end _ (omega arith) ∙ sym (lt-leb end w h)) (λ h. lt-ltb end _ (omega arith) ∙ sym (le-leb end w h))
+
+-- ---- the model's answers, by the bytes before
+
+pub answer-part : (p : Part) (b : Model) (n m : ℕ) → modelAnswer (adds p) b n m
+    ≡ firstOf (isClosed (b .stage)) (not (immediate (rule (p .kind))) && ltb 0 (pendingAt (b .stage))) (eqb (p .kind) 4 && not (isText (p .body)))
+    (leb 14 (p .kind) && not (among (p .number) (modelStarts b))) (eqb (pendingAt (b .stage)) 0 && leb m (length (b .finished)))
+    (ltb (modelRoom b n) (length (emit (formOf (length (modelBytes b)) p)) + pendingIn (grown (b .stage) p)))
+answer-part p b n m = pick-cong (isClosed (b .stage)) (λ _. refl) (λ o. rw (room-part (b .finished) (b .stage) p n o))
+
+-- in a model of the calls, no value is open if no item is pending
+pub answer-close : (e : ℕ) (b : Model) (n m : ℕ) → (isClosed (b .stage) ≡ false → pendingAt (b .stage) ≡ 0 → b .stage ≡ between) → modelAnswer (ends e) b n m
+    ≡ firstOf (isClosed (b .stage)) (ltb 0 (pendingAt (b .stage))) false (not (among e (modelStarts b)))
+    (ltb 255 (backTo e b) && leb m (length (b .finished)))
+    (pick (ltb 255 (backTo e b)) (ltb (modelRoom b n) (length (emit (formOf (length (modelBytes b)) (part 15 e 0 [])))))
+    (leb (min n LIMIT) (length (modelBytes b))))
+answer-close e b n m none =
+    pick-cong (isClosed (b .stage)) (λ _. refl) (λ o. pick-cong (ltb 0 (pendingAt (b .stage))) (λ _. refl) (λ z.
+    rw (none o (omega (arith, ltb-false 0 (pendingAt (b .stage)) z)), room-close (b .finished) e n)))

@@ -25,15 +25,15 @@ use Rattle.reader_value.specs.Value.{readOf}
 use Rattle.reader_value.specs.declared.Value.the-variants.{Reference, Pointer}
 use Rattle.reader_items.specs.Items.{itemOf}
 use Rattle.reader_body.specs.Body.{bodyPlaceOf, bodyOf}
-use Rattle.writer.specs.Step.{Call, close}
+use Rattle.writer.specs.Call.{Call, close}
 use Rattle.writer.specs.Given.{Given}
 use Rattle.checker.specs.Check.{checked, filled, checkOf}
 use Rattle.guarantees.specs.TokenValues.{tokenEnd, valueOfToken}
 use Rattle.guarantees.specs.Places.{TokenAt}
-use Rattle.guarantees.specs.Model.{Part, ends, ModelValue, formOf, formsOf, valueAt, valuesAt, closed, Model}
+use Rattle.guarantees.specs.Model.{Part, ends, ModelValue, formOf, formsOf, valueAt, valuesAt, closed, Model, endOf}
 use Rattle.guarantees.specs.Model.{model, emptyModel, modelBytes, backTo, modelAnswer, modelAfter}
 use Rattle.guarantees.specs.History.{modelRun}
-use Rattle.guarantees.specs.ReadsBack.{endOf, Holds, valueOfPart, GivesBack, ReadsBack}
+use Rattle.guarantees.specs.ReadsBack.{Holds, valueOfPart, GivesBack, ReadsBack}
 use Rattle.guarantees.proofs.Accepts.{accepts}
 use Rattle.guarantees.proofs.ReadsFile.{reads-token, reads-body, reads-end, reads-item, reads-none, reads-leaf}
 use Rattle.guarantees.proofs.Models.{forms-append, length-forms, values-append, length-values, start-lt, bytes-closed}

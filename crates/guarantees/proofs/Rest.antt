@@ -12,18 +12,14 @@ use Rattle.prelude.proofs.Tests.{split}
 use Rattle.prelude.proofs.Lists.{drop-later}
 use Rattle.writer_refusal.specs.Refusal.{Verdict}
 use Rattle.writer_refusal.specs.declared.State.{State}
-use Rattle.writer.specs.Step.{Call, Result, startOf, step}
-use Rattle.guarantees.specs.History.{runs}
+use Rattle.writer.specs.Call.{Call}
+use Rattle.writer.specs.Step.{Result, startOf, step}
+use Rattle.writer.specs.Runs.{runs}
+use Rattle.guarantees.specs.SoFar.{Rest}
 use Rattle.writer.proofs.Refused.{refused-same}
+use Rattle.guarantees.specs.OneCall.{FinishesNone, Finishes, Finishing}
 use Rattle.guarantees.proofs.Calls.{accepted-only}
-use Rattle.guarantees.proofs.Results.{FinishesNone, Finishes, Finishing, accepted-finishes}
-
--- from a state s on, calls that leave these count only upwards, and leave the rest as it was
-pub record Rest (s : State) (out table : List ℕ) (next : State) (out′ table′ : List ℕ) : Type 0 where
-  pub written : s .written ≤ next .written
-  pub count : s .count ≤ next .count
-  pub bytes : drop (next .written) out′ ≡ drop (next .written) out
-  pub words : drop (next .count) table′ ≡ drop (next .count) table
+use Rattle.guarantees.proofs.Results.{accepted-finishes}
 
 -- ---- one call
 

@@ -5,11 +5,11 @@
 use mathlib.Core.Path.{_≡_, refl, sym, ap, _∙_}
 use mathlib.Core.Bool.{Bool, true, false, true≢false}
 use mathlib.Core.List.{List, [], _∷_}
-use mathlib.Core.Logic.{_⊎_, inl, inr}
+use mathlib.Core.Logic.{inl, inr}
 use Prim.Native.Nat.{ℕ, _+_, _-_, _≤_, _<_}
 use native.Mathlib.Omega.{arith}
 use lib.Dec.{eqb}
-use lib.ListN.{length, set, getD}
+use lib.ListN.{length, set}
 use lib.Seq.{length-sets, getD-set-same}
 use borrow.Author.Tests.{eq-eqb, ne-eqb}
 use Rattle.prelude.specs.Answer.{ok, error}
@@ -20,31 +20,14 @@ use Rattle.token.specs.Token.{Token, emit}
 use Rattle.writer_refusal.specs.Refusal.{badState, limit, refusalOf}
 use Rattle.writer_refusal.specs.declared.State.{State}
 use Rattle.writer_refusal.proofs.Refusals.{Sound, sound, not-bad}
-use Rattle.writer.specs.Step.{Call, close, moveOf, pendingOf, tokenRefusal, deltaRefusal, Result, result, startOf, write, writeDelta, writePointerDelta, step}
+use Rattle.writer.specs.Call.{Call, close}
+use Rattle.writer.specs.Step.{moveOf, pendingOf, tokenRefusal, deltaRefusal, result, startOf, write, writeDelta, writePointerDelta, step}
 use Rattle.writer.proofs.Accepted.{token-fits, none-pending, new-start, Accepted, free-word, room-after, start-lt, emit-pos, Near, delta-fits}
 use Rattle.writer.proofs.Refused.{pointerTo, settled-by}
+use Rattle.guarantees.specs.OneCall.{FinishesNone, Finishes, Finishing, Pending, Closed}
 use Rattle.guarantees.proofs.Calls.{close-by, accepted-by, length-pick-set, accepted-only}
 
 -- ---- the value that it finishes
-
--- none: count and table are as before
-pub record FinishesNone (s : State) (table : List ℕ) (r : Result) : Type 0 where
-  pub count : r .writer .count ≡ s .count
-  pub words : r .table ≡ table
-
--- the value that starts at x: no items are pending, and x is listed, in the word at the old count
-pub record Finishes (x : ℕ) (s : State) (table : List ℕ) (r : Result) : Type 0 where
-  pub none : r .writer .pending ≡ 0
-  pub count : r .writer .count ≡ s .count + 1
-  pub words : r .table ≡ set table (s .count) x
-  pub listed : getD (r .table) (s .count) 0 ≡ x
-
--- what a call that leaves r finishes: a token with items pending after it, none; the last token of a value, that value;
--- a close, none or the pointer that it adds
-pub record Finishing (s : State) (table : List ℕ) (r : Result) : Type 0 where
-  pub more : 0 < r .writer .pending → FinishesNone s table r
-  pub last : r .writer .pending ≡ 0 → r .writer .closed ≡ false → Finishes (startOf s) s table r
-  pub closed : r .writer .closed ≡ true → FinishesNone s table r ⊎ Finishes (s .written) s table r
 
 module _ (alone : Bool) (t : Token) (target : ℕ) (s : State) (out table : List ℕ) (a : Accepted alone t target s out table) where
   pub write-more : 0 < due (s .pending) (pendingOf t) → FinishesNone s table (write t s out table)
@@ -102,13 +85,6 @@ accepted-finishes c s out table =
 
 -- ---- the state
 
--- an open value, or none if k is 0: k items are pending, with room for them and for the delta after them
-pub record Open (k : ℕ) (s : State) (out table : List ℕ) : Type 0 where
-  pub good : badState s (length out) (length table) ≡ false
-  pub unclosed : s .closed ≡ false
-  pub items : s .pending ≡ k
-  pub room : s .written + k + 1 ≤ limit (length out)
-
 write-sound : (alone : Bool) (t : Token) (target : ℕ) (s : State) (out table : List ℕ) → Accepted alone t target s out table
     → let r = write t s out table in Sound (r .writer) (length (r .out)) (length (r .table))
 unfolding write
@@ -158,7 +134,7 @@ accepted-not-bad c s out table =
     c
 
 pub write-open : (alone : Bool) (t : Token) (target : ℕ) (s : State) (out table : List ℕ) → Accepted alone t target s out table
-    → let r = write t s out table in Open (due (s .pending) (pendingOf t)) (r .writer) (r .out) (r .table)
+    → let r = write t s out table in Pending (due (s .pending) (pendingOf t)) (r .writer) (r .out) (r .table)
 unfolding write
 write-open alone t target s out table a = record {
   good = not-bad _ _ _ (write-sound alone t target s out table a);
@@ -169,10 +145,10 @@ write-open alone t target s out table a = record {
 
 -- a token leaves a state from which the open value, if any, can be finished
 pub accepted-open : (c : Call) (s : State) (out table : List ℕ) → step c s out table .answer ≡ ok tt
-    → let r = step c s out table in r .writer .closed ≡ false → Open (r .writer .pending) (r .writer) (r .out) (r .table)
+    → let r = step c s out table in r .writer .closed ≡ false → Pending (r .writer .pending) (r .writer) (r .out) (r .table)
 unfolding write writeDelta writePointerDelta
 accepted-open c s out table =
-    accepted-by s out table (λ r. r .writer .closed ≡ false → Open (r .writer .pending) (r .writer) (r .out) (r .table))
+    accepted-by s out table (λ r. r .writer .closed ≡ false → Pending (r .writer .pending) (r .writer) (r .out) (r .table))
     (λ t x a _. write-open _ t x s out table a)
     (λ x n z. absurd (true≢false z))
     (λ x a z. absurd (true≢false z))
@@ -191,16 +167,6 @@ closed-step : (c : Call) (s : State) (out table : List ℕ) → badState s (leng
 unfolding refusalOf tokenRefusal deltaRefusal
 closed-step c s out table g z =
     settled-by s out table (λ r. r ≡ result (error CLOSED) s out table) (λ _ _ _ _ _. rw (g, z)) (λ _ _ _. rw (g, z)) (moveOf c (s .written))
-
--- a close at x that leaves r: by the delta byte if it reaches x, else by a pointer, which is one more value; each later
--- call is refused with CLOSED, and changes nothing
-pub record Closed (x : ℕ) (s : State) (table : List ℕ) (r : Result) : Type 0 where
-  pub closed : r .writer .closed ≡ true
-  pub none : r .writer .pending ≡ 0
-  pub near : s .written - x - 1 ≤ 255 → FinishesNone s table r
-  pub far : 255 < s .written - x - 1 → Finishes (s .written) s table r
-  pub good : badState (r .writer) (length (r .out)) (length (r .table)) ≡ false
-  pub later : (c : Call) → step c (r .writer) (r .out) (r .table) ≡ result (error CLOSED) (r .writer) (r .out) (r .table)
 
 pub accepted-close : (x : ℕ) (s : State) (out table : List ℕ) → step (close x) s out table .answer ≡ ok tt
     → Closed x s table (step (close x) s out table)

@@ -27,16 +27,16 @@ use Rattle.token.specs.Token.{Token, emit, putIf}
 use Rattle.values.specs.Values.{Value, tokens, bytes, region, starts, Each, Sound, Item, Formed, HasTarget, HasTargets, TargetsEarlier, WellFormed}
 use Rattle.values.proofs.Members.{each-append, each-imp}
 use Rattle.values.proofs.Laws.{bytes-append, region-append, starts-append, items-room}
-use Rattle.writer.specs.Step.{Call, close}
+use Rattle.writer.specs.Call.{Call, close}
 use Rattle.writer.specs.Given.{Given}
 use Rattle.guarantees.specs.Model.{Part, ModelValue, modelValue, formOf, formsOf, valuesAt, Request, adds, ends, requestOf}
-use Rattle.guarantees.specs.Model.{between, within, closed, Model, model, emptyModel, modelRoom, backTo, modelBytes, modelStarts}
+use Rattle.guarantees.specs.Model.{between, within, closed, Model, model, emptyModel, endOf, backTo, modelBytes, modelStarts}
 use Rattle.guarantees.specs.Model.{pendingIn, pendingAt, grown, isClosed, firstOf, modelAnswer, settle, modelAfter}
 use Rattle.guarantees.specs.History.{modelRun}
 use Rattle.guarantees.specs.Rewrites.{callOf, callsAt, callsOf, rewriting, AllOk}
-use Rattle.guarantees.specs.ReadsBack.{endOf}
 use Rattle.guarantees.proofs.Lists.{modelRun-append}
-use Rattle.guarantees.proofs.Models.{target-each, forms-append, values-snoc, region-snoc, bytes-between, bytes-closed}
+use Rattle.guarantees.proofs.Models.{target-each, forms-append, values-snoc, region-snoc, bytes-between, bytes-closed, modelRoom, answer-part}
+use Rattle.guarantees.proofs.Models.{answer-close}
 use Rattle.guarantees.proofs.RewritesRead.{partOf, partsOf, modelValueOf, modelValuesOf, form-part, value-model, values-models, request-call, call-given}
 
 -- ---- lists of calls
@@ -91,7 +91,8 @@ answered n m b q t at s r unclosed late full room =
     let p = partOf q t in
     let own = formOf (length (modelBytes b)) p in
     let form : own ≡ t = rw at (form-part q t (λ k. r k .0)) in
-    first-ok unclosed late (unless (eqb (t .kind) 4) (isText (t .body)) (λ e. text-isText (s .text (eqb-true _ _ e))))
+    answer-part p b n m
+    ∙ first-ok unclosed late (unless (eqb (t .kind) 4) (isText (t .body)) (λ e. text-isText (s .text (eqb-true _ _ e))))
     (unless (leb 14 (t .kind)) (among (p .number) (modelStarts b)) (λ e. rw e (r (leb-true _ _ e) .1)))
     full (le-ltb (modelRoom b n) (length (emit own) + pendingIn (grown (b .stage) p)) (omega (arith, ap (λ x. length (emit x)) form)))
 
@@ -205,7 +206,7 @@ module _ (n m : ℕ) where
       let left : leb (min n LIMIT) (length (modelBytes b)) ≡ false = lt-leb (min n LIMIT) (length (modelBytes b)) (omega arith) in
       let known : among entry (modelStarts b) ≡ true = ap (λ l. among entry (starts 0 l)) same ∙ start in
       let after : modelAfter (ends entry) b ≡ model done (closed delta) = rw (reach, back) in
-      leads-cons n m (close entry) [] (ends entry) b _ refl (rw (known, reach, left)) (rw after (leads-none n m _))
+      leads-cons n m (close entry) [] (ends entry) b _ refl (answer-close entry b n m (λ _ _. refl) ∙ rw (known, reach, left)) (rw after (leads-none n m _))
 
 -- ---- that a program can make the calls
 

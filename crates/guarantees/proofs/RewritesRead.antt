@@ -25,7 +25,7 @@ use Rattle.kind.specs.Kind.{rule, size}
 use Rattle.kind.proofs.Laws.{most-fits, used-lt}
 use Rattle.token.specs.Token.{Token, emit, Allowed}
 use Rattle.values.specs.Values.{Value, tokens, bytes, HasTargets, TargetsEarlier, WellFormed}
-use Rattle.writer.specs.Step.{Call, scalar, float32, float64, text, bytes as byteString}
+use Rattle.writer.specs.Call.{Call, scalar, float32, float64, text, bytes as byteString}
 use Rattle.writer.specs.declared.Scalar.the-variants.{False, True, Null}
 use Rattle.writer.specs.Given.{Given}
 use Rattle.reader_value.specs.Value.{readOf}

@@ -10,7 +10,7 @@ use Rattle.kind.specs.Kind.{rule}
 use Rattle.token.specs.Token.{putIf, emit}
 use Rattle.writer_refusal.specs.Refusal.{refusalOf}
 use Rattle.writer.specs.Step.{tokenRefusal, deltaRefusal, write, writeDelta, writePointerDelta, putToken as puts, closeAt}
-use Rattle.guarantees.specs.History.{runs}
+use Rattle.writer.specs.Runs.{runs}
 use Rattle.guarantees.specs.Written.{writes, expects, written}
 
 pub the-written : map writes written ≡ map expects written

@@ -7,8 +7,8 @@ use Prim.Native.Nat.{ℕ, _+_, _*_}
 use mathlib.Core.List.{[]}
 use lib.ListN.{length}
 use Rattle.token.specs.Token.{token, emit}
-use Rattle.writer.specs.Step.{Call, scalar, integer, float32, float64, text, bytes, variant, reference}
-use Rattle.writer.specs.Step.{pointer, openArray, openMap, openTag, openVariant1, openVariantN, close}
+use Rattle.writer.specs.Call.{Call, scalar, integer, float32, float64, text, bytes, variant, reference, pointer, openArray, openMap, openTag, openVariant1}
+use Rattle.writer.specs.Call.{openVariantN, close}
 use Rattle.writer.specs.declared.Scalar.the-variants.{False, True, Null}
 use Rattle.reader_value.specs.declared.Value.{Value}
 use Rattle.reader_value.specs.declared.Value.the-variants as Value

@@ -1,4 +1,4 @@
--- Which errors each reading call can give (document 01, "Numbers of refusal", "Check and depths", "Questions at an offset"), by their numbers.
+-- Which errors each call can give (document 01, "Numbers of refusal", "Check and depths", "Questions at an offset", "Writer"), by their numbers.
 --
 --   checkErrors    check and depths: 1 to 11
 --   readErrors     reading and following: of the file and the offset, of a token that is read as a value of its own, so not NESTED, and BAD_TARGET of
@@ -6,9 +6,11 @@
 --   skipErrors     skipping: also NESTED, of an item
 --   itemErrors     item access and lookup: also NO_ITEM and WRONG_KIND
 --   bodyErrors     bodies: those of following, and WRONG_KIND
+--   writeErrors    the writer's calls, in the order of their reasons; so neither RESERVED nor RANGE
 use Prim.Native.Nat.{ℕ}
 use mathlib.Core.List.{List, [], _∷_}
 use Rattle.error.specs.Error.{EMPTY, TOO_LONG, TRUNC, RESERVED, OVERLONG, RANGE, NESTED, BAD_TEXT, BAD_TARGET, FULL, BAD_ENTRY, OUTSIDE, NO_ITEM, WRONG_KIND}
+use Rattle.error.specs.Error.{NO_ROOM, OWED, CLOSED, BAD_STATE}
 
 abbrev pub checkErrors : List ℕ
 checkErrors = EMPTY ∷ TOO_LONG ∷ TRUNC ∷ RESERVED ∷ OVERLONG ∷ RANGE ∷ NESTED ∷ BAD_TEXT ∷ BAD_TARGET ∷ FULL ∷ BAD_ENTRY ∷ []
@@ -24,3 +26,6 @@ itemErrors = EMPTY ∷ TOO_LONG ∷ TRUNC ∷ RESERVED ∷ OVERLONG ∷ RANGE �
 
 abbrev pub bodyErrors : List ℕ
 bodyErrors = EMPTY ∷ TOO_LONG ∷ TRUNC ∷ RESERVED ∷ OVERLONG ∷ RANGE ∷ BAD_TARGET ∷ OUTSIDE ∷ WRONG_KIND ∷ []
+
+abbrev pub writeErrors : List ℕ
+writeErrors = BAD_STATE ∷ CLOSED ∷ OWED ∷ BAD_TEXT ∷ BAD_TARGET ∷ FULL ∷ NO_ROOM ∷ []

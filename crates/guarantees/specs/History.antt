@@ -1,9 +1,5 @@
--- Lists of the writer's calls, and the reference model's answers to them.
+-- Lists of the writer's calls, and the reference model's answers to them (document 01: "demand 3 makes a single claim about the list").
 --
---   Ran, ran vs s out table
---                      the answers of a list of calls, and the state, output and table that the last one left
---   runs cs s out table
---                      the calls cs one after the other, each given the state, output and table that the one before left
 --   ModelRan, modelRan vs b
 --                      the model's answers to a list of calls, and the model after the last one
 --   unlessRefused v b next
@@ -12,31 +8,25 @@
 --   Agree s out table b
 --                      the bytes written and the starts listed are the model's, and so are the items pending and the
 --                      close. Nothing is said here about the rest of the output and of the table
-use Prim.Native.Nat.{ℕ}
+--   Started s vs g     at the stage g, after the values vs: an open value has an item pending, and the state has its start
+--   Follows s out table b
+--                      they agree, the state is not refused with BAD_STATE, and has the start of an open value: whatever calls come, the writer
+--                      then does what the model says
+--   Alike cs s out table b
+--                      it does so for the calls cs: each is refused exactly when the model refuses it, with the same number, and after them
+--                      the writer still follows the model
+use Prim.Native.Nat.{ℕ, _<_}
 use mathlib.Core.Path.{_≡_}
+use mathlib.Core.Bool.{false}
 use mathlib.Core.List.{List, [], _∷_}
 use lib.ListN.{length, take}
 use Rattle.prelude.specs.Answer.{ok, error}
-use Rattle.writer_refusal.specs.Refusal.{Verdict}
+use Rattle.writer_refusal.specs.Refusal.{badState, Verdict}
 use Rattle.writer_refusal.specs.declared.State.{State}
-use Rattle.writer.specs.Step.{Call, step}
-use Rattle.guarantees.specs.Model.{Model, requestOf, modelAnswer, modelAfter, modelBytes, modelStarts, pendingAt, isClosed}
-
-pub record Ran : Type 0 where
-  pub answers : List Verdict
-  pub writer : State
-  pub out : List ℕ
-  pub table : List ℕ
-
-abbrev pub ran : List Verdict → State → List ℕ → List ℕ → Ran
-ran vs s out table = record { answers = vs; writer = s; out = out; table = table }
-
-unfoldable pub runs : List Call → State → List ℕ → List ℕ → Ran
-runs [] s out table = ran [] s out table
-runs (c ∷ cs) s out table =
-    let r = step c s out table in
-    let more = runs cs (r .writer) (r .out) (r .table) in
-    ran (r .answer ∷ more .answers) (more .writer) (more .out) (more .table)
+use Rattle.writer.specs.Call.{Call}
+use Rattle.writer.specs.Runs.{runs}
+use Rattle.guarantees.specs.Model.{requestOf, ModelValue, Stage, between, within, closed, isClosed, Model, modelBytes, modelStarts, endOf}
+use Rattle.guarantees.specs.Model.{pendingIn, pendingAt, modelAnswer, modelAfter}
 
 pub record ModelRan : Type 0 where
   pub answers : List Verdict
@@ -63,3 +53,17 @@ pub record Agree (s : State) (out table : List ℕ) (b : Model) : Type 0 where
   pub count : s .count ≡ length (modelStarts b)
   pub pending : s .pending ≡ pendingAt (b .stage)
   pub closed : s .closed ≡ isClosed (b .stage)
+
+abbrev pub Started : State → List ModelValue → Stage → Type 0
+Started s vs between = Unit {0}
+Started s vs (within v) = (0 < pendingIn v) × (s .start ≡ endOf vs)
+Started s vs (closed d) = Unit {0}
+
+pub record Follows (s : State) (out table : List ℕ) (b : Model) : Type 0 where
+  pub agree : Agree s out table b
+  pub good : badState s (length out) (length table) ≡ false
+  pub started : Started s (b .finished) (b .stage)
+
+pub record Alike (cs : List Call) (s : State) (out table : List ℕ) (b : Model) : Type 0 where
+  pub answers : runs cs s out table .answers ≡ modelRun cs b (length out) (length table) .answers
+  pub follows : let r = runs cs s out table in Follows (r .writer) (r .out) (r .table) (modelRun cs b (length out) (length table) .model)

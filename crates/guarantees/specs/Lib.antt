@@ -10,7 +10,7 @@ pub mod Places
 pub mod Items
 -- what map lookup means
 pub mod Lookup
--- which errors each reading call can give
+-- which errors each call can give
 pub mod Errors
 -- what is so of the paths in a file that check accepts
 pub mod AcceptedPaths
@@ -18,13 +18,25 @@ pub mod AcceptedPaths
 pub mod Samples
 -- the reference model of the writer
 pub mod Model
+-- what a call is refused for, in any state
+pub mod RefusedCall
 -- lists of calls, of the writer and of the model
 pub mod History
+-- the parts of accepted calls
+pub mod AcceptedParts
+-- what is written so far
+pub mod SoFar
+-- longer memory
+pub mod Longer
 -- what the reader gives back for the model's values
 pub mod ReadsBack
 -- the calls that write values again
 pub mod Rewrites
 -- what reading must return for what a call wrote
 pub mod CallValues
+-- what one call may change and leaves
+pub mod OneCall
 -- lists of calls, and the bytes that they write
 pub mod Written
+-- the demands
+pub mod Demands

@@ -13,6 +13,7 @@
 --                      stops at 0: a target that is not below q is not a start, and p is BAD_TARGET
 --   formsOf q ps       the tokens of parts, the first at q
 --   valueAt, valuesAt  values as a file has them, the first at an offset
+--   endOf vs           where the values vs end, and the next value starts
 --   Stage              no value is open; one is, as far as it got; or the model is closed, with this delta byte
 --   openOf g, deltaOf g
 --                      the open value of a stage, and its delta byte, as lists: empty if it has none
@@ -24,14 +25,15 @@
 --   pendingIn v, pendingAt g
 --                      the items still pending in a value, and at a stage
 --   grown g p          the value that p begins, or whose next item p is
---   firstOf ..         the first reason to refuse, in document 01's order; without BAD_STATE, since the model is handed no state
---   modelRoom b n      the bytes left for parts, with an output of n bytes
+--   settle vs v        the model with v after the finished values vs: finished if none of its items is pending, else open
 --   backTo e b         the delta that would name the value at e
+--   modelAfter l b     the model after the request l was accepted
+--   firstOf ..         the first reason to refuse, in document 01's order; without BAD_STATE, since the model is handed no state
+--   noRoom c n         an output of n bytes, of which LIMIT at most are used, is too short for the model c: for its bytes, a byte for each item
+--                      pending, and the delta if c is not closed yet
 --   modelAnswer l b n m
 --                      the answer to the request l, with an output of n bytes and a table of m words. Each value has a
 --                      byte, so the model's starts are all below its bytes, as targets must be
---   settle vs v        the model with v after the finished values vs: finished if none of its items is pending, else open
---   modelAfter l b     the model after the request l was accepted
 use Prim.Native.Nat.{ℕ, _+_, _-_, min}
 use mathlib.Core.Bool.{Bool, true, false, not, _&&_}
 use mathlib.Core.List.{List, [], _∷_, _++_}
@@ -47,8 +49,8 @@ use Rattle.little_endian.specs.LittleEndian.{little}
 use Rattle.kind.specs.Kind.{rule, pending, immediate}
 use Rattle.token.specs.Token.{Token, token, emit}
 use Rattle.values.specs.Values.{Value, tokens, bytes, region, starts}
-use Rattle.writer.specs.Step.{Call, scalar, integer, float32, float64, text, bytes as byteString, variant, reference}
-use Rattle.writer.specs.Step.{pointer, openArray, openMap, openTag, openVariant1, openVariantN, close}
+use Rattle.writer.specs.Call.{Call, scalar, integer, float32, float64, text, bytes as byteString, variant, reference, pointer, openArray, openMap, openTag}
+use Rattle.writer.specs.Call.{openVariant1, openVariantN, close}
 use Rattle.writer.specs.declared.Scalar.the-variants.{False, True, Null}
 
 -- ---- what a call asks for
@@ -109,6 +111,9 @@ unfoldable pub valuesAt : ℕ → List ModelValue → List Value
 valuesAt q [] = []
 valuesAt q (v ∷ vs) = valueAt q v ∷ valuesAt (q + length (bytes (tokens (valueAt q v)))) vs
 
+abbrev pub endOf : List ModelValue → ℕ
+endOf vs = length (region (valuesAt 0 vs))
+
 -- ---- the model
 
 pub data Stage : Type 0 where
@@ -147,7 +152,7 @@ modelBytes b = region (valuesAt 0 (b .finished ++ openOf (b .stage))) ++ deltaOf
 unfoldable pub modelStarts : Model → List ℕ
 modelStarts b = starts 0 (valuesAt 0 (b .finished))
 
--- ---- the reasons to refuse
+-- ---- what an accepted request leaves
 
 abbrev pub pendingIn : ModelValue → ℕ
 pendingIn v = pending (rule (v .head .kind)) (v .head .number) (v .head .args) - length (v .items)
@@ -162,6 +167,22 @@ grown between p = modelValue p []
 grown (within v) p = modelValue (v .head) (v .items ++ (p ∷ []))
 grown (closed d) p = modelValue p []
 
+abbrev pub settle : List ModelValue → ModelValue → Model
+settle vs v = pick (eqb (pendingIn v) 0) (model (vs ++ (v ∷ [])) between) (model vs (within v))
+
+abbrev pub backTo : ℕ → Model → ℕ
+backTo e b = length (modelBytes b) - e - 1
+
+-- a delta byte reaches back 256 bytes; farther back, a pointer is added as a new value, and its delta follows
+abbrev pub modelAfter : Request → Model → Model
+modelAfter (adds p) b = settle (b .finished) (grown (b .stage) p)
+modelAfter (ends e) b =
+    let p = part 15 e 0 [] in
+    pick (ltb 255 (backTo e b)) (model (b .finished ++ (modelValue p [] ∷ [])) (closed (length (emit (formOf (length (modelBytes b)) p)) - 1)))
+    (model (b .finished) (closed (backTo e b)))
+
+-- ---- the reasons to refuse
+
 abbrev pub firstOf : Bool → Bool → Bool → Bool → Bool → Bool → Answer ℕ (Unit {0})
 firstOf isClosed isOwed isBadText isBadTarget isFull hasNoRoom =
     pick isClosed (error CLOSED)
@@ -172,31 +193,14 @@ firstOf isClosed isOwed isBadText isBadTarget isFull hasNoRoom =
     (pick hasNoRoom (error NO_ROOM)
     (ok tt))))))
 
-abbrev pub modelRoom : Model → ℕ → ℕ
-modelRoom b n = min n LIMIT - 1 - length (modelBytes b)
-
-abbrev pub backTo : ℕ → Model → ℕ
-backTo e b = length (modelBytes b) - e - 1
+abbrev pub noRoom : Model → ℕ → Bool
+noRoom c n = ltb (min n LIMIT) (length (modelBytes c) + pendingAt (c .stage) + pick (isClosed (c .stage)) 0 1)
 
 abbrev pub modelAnswer : Request → Model → ℕ → ℕ → Answer ℕ (Unit {0})
 modelAnswer (adds p) b n m =
     firstOf (isClosed (b .stage)) (not (immediate (rule (p .kind))) && ltb 0 (pendingAt (b .stage))) (eqb (p .kind) 4 && not (isText (p .body)))
     (leb 14 (p .kind) && not (among (p .number) (modelStarts b))) (eqb (pendingAt (b .stage)) 0 && leb m (length (b .finished)))
-    (ltb (modelRoom b n) (length (emit (formOf (length (modelBytes b)) p)) + pendingIn (grown (b .stage) p)))
--- a delta byte reaches back 256 bytes; farther back, a pointer is added as a new value, and the room keeps a byte for its delta
+    (noRoom (modelAfter (adds p) b) n)
 modelAnswer (ends e) b n m =
-    let far = ltb 255 (backTo e b) in
-    firstOf (isClosed (b .stage)) (ltb 0 (pendingAt (b .stage))) false (not (among e (modelStarts b))) (far && leb m (length (b .finished)))
-    (pick far (ltb (modelRoom b n) (length (emit (formOf (length (modelBytes b)) (part 15 e 0 []))))) (leb (min n LIMIT) (length (modelBytes b))))
-
--- ---- what was accepted
-
-abbrev pub settle : List ModelValue → ModelValue → Model
-settle vs v = pick (eqb (pendingIn v) 0) (model (vs ++ (v ∷ [])) between) (model vs (within v))
-
-abbrev pub modelAfter : Request → Model → Model
-modelAfter (adds p) b = settle (b .finished) (grown (b .stage) p)
-modelAfter (ends e) b =
-    let p = part 15 e 0 [] in
-    pick (ltb 255 (backTo e b)) (model (b .finished ++ (modelValue p [] ∷ [])) (closed (length (emit (formOf (length (modelBytes b)) p)) - 1)))
-    (model (b .finished) (closed (backTo e b)))
+    firstOf (isClosed (b .stage)) (ltb 0 (pendingAt (b .stage))) false (not (among e (modelStarts b)))
+    (ltb 255 (backTo e b) && leb m (length (b .finished))) (noRoom (modelAfter (ends e) b) n)

@@ -1,9 +1,6 @@
 -- What the reader gives back for a file that the writer closed, in terms of the reference model's values.
 --
---   endOf vs           where the values vs end, and the next value starts
 --   Holds vs j q p     p is a part of value number j of the values vs, its head or an item, and its header is at q
---   Names b j q p      p at q, a part of value number j of the model b, names a finished value before that one: its
---                      start is p's number, the offset that was handed in
 --   valueOfPart q p    what reading must return for p at q; for a reference or pointer, the offset that was handed in
 --   GivesBack file vs entry
 --                      the file is well formed, with the values vs; check, given enough words, accepts it, with their
@@ -17,12 +14,12 @@ use mathlib.Core.Bool.{true, false}
 use mathlib.Core.Logic.{_⊎_}
 use mathlib.Core.List.{List, [], _∷_, _++_}
 use lib.Dec.{eqb, leb}
-use lib.ListN.{length, getD}
+use lib.ListN.{length}
 use Rattle.prelude.specs.Pick.{pick}
 use Rattle.prelude.specs.Answer.{ok, error}
 use Rattle.error.specs.Error.{fault, NO_ITEM, WRONG_KIND}
 use Rattle.kind.specs.Kind.{rule, immediate}
-use Rattle.values.specs.Values.{tokens, bytes, region, starts, WellFormed}
+use Rattle.values.specs.Values.{tokens, bytes, starts, WellFormed}
 use Rattle.reader_value.specs.Value.{readOf}
 use Rattle.reader_value.specs.declared.Value.{Value}
 use Rattle.reader_value.specs.declared.Value.the-variants.{Reference, Pointer}
@@ -30,10 +27,7 @@ use Rattle.reader_items.specs.Items.{skipOf, itemOf}
 use Rattle.reader_body.specs.Body.{bodyPlaceOf, bodyOf}
 use Rattle.checker.specs.Check.{checked, filled, checkOf}
 use Rattle.guarantees.specs.TokenValues.{tokenEnd, valueOfToken}
-use Rattle.guarantees.specs.Model.{Part, part, ModelValue, modelValue, formOf, formsOf, valueAt, valuesAt, Model, modelBytes, modelStarts, backTo}
-
-abbrev pub endOf : List ModelValue → ℕ
-endOf vs = length (region (valuesAt 0 vs))
+use Rattle.guarantees.specs.Model.{Part, part, ModelValue, modelValue, formOf, formsOf, valueAt, valuesAt, endOf, Model, modelBytes, backTo}
 
 pub record Holds (vs : List ModelValue) (j q : ℕ) (p : Part) : Type 0 where
   pub before : List ModelValue
@@ -45,12 +39,6 @@ pub record Holds (vs : List ModelValue) (j q : ℕ) (p : Part) : Type 0 where
   pub back : List Part
   pub parts : value .head ∷ value .items ≡ front ++ (p ∷ back)
   pub place : q ≡ endOf before + length (bytes (formsOf (endOf before) front))
-
-pub record Names (b : Model) (j q : ℕ) (p : Part) : Type 0 where
-  pub number : ℕ
-  pub earlier : number < j
-  pub start : getD (modelStarts b) number 0 ≡ p .number
-  pub behind : p .number < q
 
 unfoldable pub valueOfPart : ℕ → Part → Value
 valueOfPart q p = pick (leb 14 (p .kind)) (pick (eqb (p .kind) 14) (Reference (p .number)) (Pointer (p .number))) (valueOfToken q (formOf q p))

@@ -12,7 +12,8 @@
 --   AllOk as         each of the answers is `ok`
 --   Rewritten file entry out table
 --                    the file has values; a new writer accepts each call that writes them again in order, and the close
---                    at the entry; what it has written then is the file, and what it has listed are the values' starts
+--                    at the entry; it has then written as many bytes as the file has, and they are the file, and what it has listed are
+--                    the values' starts
 use Prim.Native.Nat.{ℕ, _+_, _-_}
 use mathlib.Core.Path.{_≡_}
 use mathlib.Core.List.{List, [], _∷_, _++_}
@@ -25,11 +26,12 @@ use Rattle.little_endian.specs.LittleEndian.{fromLittle}
 use Rattle.token.specs.Token.{Token, emit}
 use Rattle.values.specs.Values.{Value, tokens, bytes, starts, Each, WellFormed}
 use Rattle.writer_refusal.specs.Refusal.{Verdict}
-use Rattle.writer.specs.Step.{Call, scalar, integer, float32, float64, text, bytes as byteString, variant, reference}
-use Rattle.writer.specs.Step.{pointer, openArray, openMap, openTag, openVariant1, openVariantN, close, fresh}
+use Rattle.writer.specs.Call.{Call, scalar, integer, float32, float64, text, bytes as byteString, variant, reference, pointer, openArray, openMap, openTag}
+use Rattle.writer.specs.Call.{openVariant1, openVariantN, close}
+use Rattle.writer.specs.Step.{fresh}
+use Rattle.writer.specs.Runs.{runs}
 use Rattle.writer.specs.Given.{Given}
 use Rattle.writer.specs.declared.Scalar.the-variants.{False, True, Null}
-use Rattle.guarantees.specs.History.{runs}
 use Rattle.reader_value.specs.declared.Value.{Value as ReadValue}
 use Rattle.reader_value.specs.declared.Value.the-variants.{False as ReadFalse, True as ReadTrue, Null as ReadNull, Integer, Float32, Float64}
 use Rattle.reader_value.specs.declared.Value.the-variants.{Text, Bytes, Array, Map, Tag, Variant, Variant1, VariantN, Reference, Pointer}
@@ -94,5 +96,6 @@ pub record Rewritten (file : List ℕ) (entry : ℕ) (out table : List ℕ) : Ty
   pub wellFormed : WellFormed file values entry
   pub given : Each Given (rewriting values entry)
   pub accepted : AllOk (runs (rewriting values entry) fresh out table .answers)
+  pub written : runs (rewriting values entry) fresh out table .writer .written ≡ length file
   pub same : let r = runs (rewriting values entry) fresh out table in take (r .writer .written) (r .out) ≡ file
   pub listed : let r = runs (rewriting values entry) fresh out table in take (r .writer .count) (r .table) ≡ starts 0 values

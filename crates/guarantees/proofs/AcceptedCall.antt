@@ -1,0 +1,73 @@
+-- What an accepted call writes, in any state, with any output and table (`accepted-writes`).
+use mathlib.Core.Path.{_≡_, refl, _∙_}
+use mathlib.Core.Bool.{true}
+use mathlib.Core.List.{List, [], _∷_, append-assoc}
+use Prim.Native.Nat.{ℕ, _+_, _-_, _≤_, _<_}
+use native.Mathlib.Omega.{arith}
+use lib.ListN.{length, take, length-append}
+use lib.Seq.{sets, length-sets}
+use borrow.Author.Tests.{lt-ltb, le-ltb}
+use Rattle.prelude.specs.Answer.{ok}
+use Rattle.prelude.proofs.Lists.{take-sets}
+use Rattle.kind.specs.Kind.{rule}
+use Rattle.token.specs.Token.{emit}
+use Rattle.writer_refusal.specs.Refusal.{limit}
+use Rattle.writer_refusal.specs.declared.State.{State}
+use Rattle.writer.specs.Call.{Call}
+use Rattle.writer.specs.Step.{write, writeDelta, writePointerDelta, move, step}
+use Rattle.writer.proofs.Accepted.{none-pending, Accepted, room-after, Near, delta-fits}
+use Rattle.writer.proofs.Refused.{pointerTo}
+use Rattle.guarantees.specs.Model.{Part, formOf, Request, adds, ends, requestOf}
+use Rattle.guarantees.specs.OneCall.{Writes}
+use Rattle.guarantees.proofs.Calls.{put-by, close-by}
+use Rattle.guarantees.proofs.Models.{pending-form}
+use Rattle.guarantees.proofs.History.{moveAs, move-request}
+
+module _ (s : State) (out table : List ℕ) where
+  part-writes : (p : Part) → let t = formOf (s .written) p in s .written + length (emit t) < limit (length out)
+      → Writes (adds p) s out (write t s out table)
+  unfolding write
+  part-writes p h = record {
+    written = refl;
+    bytes = take-sets out (emit (formOf (s .written) p)) (s .written) (omega arith);
+    pending = rw (pending-form (s .written) p);
+    closed = refl;
+  }
+
+  near-writes : (e : ℕ) → s .written - e - 1 ≤ 255 → Near e s out table → Writes (ends e) s out (writeDelta (s .written - e - 1) s out table)
+  unfolding writeDelta
+  near-writes e near a =
+      let fits = delta-fits e s out table a in
+      let reach = le-ltb 255 (s .written - e - 1) near in
+      record {
+        written = rw reach;
+        bytes = rw reach (take-sets out ((s .written - e - 1) ∷ []) (s .written) (omega arith));
+        pending = none-pending s (a .granted .alike);
+        closed = refl;
+      }
+
+  far-writes : (e : ℕ) → 255 < s .written - e - 1 → Accepted true (pointerTo e s) e s out table
+      → Writes (ends e) s out (writePointerDelta (pointerTo e s) s out table)
+  unfolding writePointerDelta writeDelta write formOf rule
+  far-writes e far a =
+      let t = emit (pointerTo e s) in
+      let w = s .written in
+      let d = (length t - 1) ∷ [] in
+      let fits = room-after true (pointerTo e s) e s out table a in
+      let reach = lt-ltb 255 (w - e - 1) far in
+      record {
+        written = rw reach (omega (arith, length-append t d));
+        bytes = rw reach (
+            take-sets (sets out w t) d (w + length t) (omega (arith, length-sets out w t)) ∙ rw (take-sets out t w (omega arith)) (append-assoc (take w out) t d)
+            );
+        pending = rw (none-pending s (a .granted .alike)) (omega arith);
+        closed = refl;
+      }
+
+  request-writes : (l : Request) → move (moveAs (s .written) l) s out table .answer ≡ ok tt → Writes l s out (move (moveAs (s .written) l) s out table)
+  request-writes (adds p) =
+      put-by s out table (Writes (adds p) s out) (formOf (s .written) p) _ (λ a. part-writes p (room-after _ (formOf (s .written) p) _ s out table a))
+  request-writes (ends e) = close-by s out table (Writes (ends e) s out) e (near-writes e) (far-writes e)
+
+pub accepted-writes : (c : Call) (s : State) (out table : List ℕ) → step c s out table .answer ≡ ok tt → Writes (requestOf c) s out (step c s out table)
+accepted-writes c s out table = rw (move-request c (s .written)) (request-writes s out table (requestOf c))

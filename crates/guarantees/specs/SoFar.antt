@@ -1,0 +1,41 @@
+-- What a writer has written so far, closed or not (demand 3: "buffer and table may hold anything at first"; "every pointer or reference in a finished
+-- value names an earlier finished value").
+--
+--   Rest s out table s′ out′ table′
+--                      calls that were made from the state s, the output and the table on, and left the others, have counted upwards only, and what
+--                      is after the bytes written and the starts listed is as it was
+--   Names s out table j q p
+--                      the reference or pointer p, a part of value number j, is written at q. It names, by the offset that was handed in, a value
+--                      before that one, whose start the table lists: p's number is the word at that value's number
+--   FormedSoFar s out table vs
+--                      the finished values vs are values that a file may begin with; the output begins with their bytes, and the words listed
+--                      are their starts
+use Prim.Native.Nat.{ℕ, _≤_, _<_}
+use mathlib.Core.Path.{_≡_}
+use mathlib.Core.List.{List}
+use lib.ListN.{length, take, drop, getD}
+use Rattle.token.specs.Token.{emit}
+use Rattle.values.specs.Values.{Value, region, starts, Values}
+use Rattle.writer_refusal.specs.declared.State.{State}
+use Rattle.guarantees.specs.Model.{Part, formOf}
+
+pub record Rest (s : State) (out table : List ℕ) (s′ : State) (out′ table′ : List ℕ) : Type 0 where
+  pub written : s .written ≤ s′ .written
+  pub count : s .count ≤ s′ .count
+  pub bytes : drop (s′ .written) out′ ≡ drop (s′ .written) out
+  pub words : drop (s′ .count) table′ ≡ drop (s′ .count) table
+
+pub record Names (s : State) (out table : List ℕ) (j q : ℕ) (p : Part) : Type 0 where
+  pub written : take (length (emit (formOf q p))) (drop q out) ≡ emit (formOf q p)
+  pub number : ℕ
+  pub earlier : number < j
+  pub listed : j < s .count
+  pub start : getD table number 0 ≡ p .number
+  pub below : p .number < q
+
+pub record FormedSoFar (s : State) (out table : List ℕ) (vs : List Value) : Type 0 where
+  pub formed : Values vs
+  pub within : length (region vs) ≤ s .written
+  pub bytes : take (length (region vs)) out ≡ region vs
+  pub listed : take (s .count) table ≡ starts 0 vs
+  pub count : s .count ≡ length vs
