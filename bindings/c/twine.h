@@ -210,10 +210,10 @@ uint32_t twine_body(const uint8_t *file, size_t len, size_t at, uint64_t out[2])
    pending), and whether the file is closed (any word but 0). Any five words are a state; one that out or starts
    does not fit is TWINE_BAD_STATE.
 
-   out and starts go into each call as the call before left them; they may be longer than before. A call writes after the
-   first `written` bytes of out, and the start of a value that it finishes into the word `count` of starts. TWINE_OK:
-   the state is the next one, and in out and starts nothing else has changed. On an error state, out and starts are as
-   they were, in every word and byte.
+   out and starts go into each call as the call before left them; they may be longer than before, which can change the
+   answers BAD_STATE, FULL and NO_ROOM, and no others. A call writes after the first `written` bytes of out, and the
+   start of a value that it finishes into the word `count` of starts. TWINE_OK: the state is the next one, and in out
+   and starts nothing else has changed. On an error state, out and starts are as they were, in every word and byte.
 
    A byte of out is held back for the close and for each item pending, so that an open value can always be finished.
    As many words as out has bytes less one are always enough. After the close the file is the first `written` bytes.

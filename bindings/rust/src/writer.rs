@@ -184,8 +184,8 @@ impl Writer {
         self.state[4] != 0
     }
 
-    /// Makes a call, and again with more memory if it had too little: a refused call has changed nothing, and the memory is added after
-    /// all that the writer has written.
+    /// Makes a call, and again with more memory if it had too little: a refused call has changed nothing, the memory is added after all
+    /// that the writer has written, and longer memory changes no other answer (`step-longer` in docs/GUARANTEES.md).
     fn call(&mut self, call: Call<'_>) -> Result<usize, Error> {
         let at = self.state[0] as usize;
         loop {
