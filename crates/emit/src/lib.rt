@@ -6,8 +6,7 @@ ghost use mathlib.Core.List.{[]};
 ghost use Prim.Native.Nat.{_+_, _-_, _≤_, _<_, min};
 ghost use lib.Dec.{leb};
 ghost use lib.ListN.{length};
-ghost use Rattle.prelude.specs.Bytes.{stored};
-ghost use Rattle.prelude.proofs.Parts.{Put, PutAt};
+ghost use Rattle.prelude.specs.Bytes.{stored, Put, PutAt};
 ghost use Rattle.kind.specs.Kind.{rule};
 ghost use Rattle.token.specs.Token.{token, putIf, emit, emitInto};
 

@@ -9,6 +9,7 @@ use borrow.Author.Tests.{leb-true, ltb-true, eqb-true, not-true}
 use Rattle.prelude.proofs.Tests.{split, and-l, and-r, or-true}
 use Rattle.prelude.proofs.Tables.{every-getD}
 use Rattle.kind.specs.Kind.{rule, table, reserved, immediate}
+use Rattle.kind.specs.Internal.{Row}
 use Rattle.kind.specs.declared.Rule.{Rule}
 
 pub rule-past : (k : ℕ) → 15 < k → rule k ≡ reserved
@@ -25,18 +26,6 @@ used-lt k u = split k 16 (λ l. l) (λ l. absurd (used-past k u l))
 pub most-fits : (k : ℕ) → rule k .most < 2 ^ 64
 unfolding rule
 most-fits k = ltb-true _ _ (every-getD (λ r. ltb (r .most) (2 ^ 64)) table k reserved refl refl)
-
--- what code may rely on to compute with a rule in 64 bits
-pub record Row (r : Rule) : Type 0 where
-  -- a low nibble in use is within the bound
-  pub lows : r .lows ≤ r .most + 1
-  pub single : r .single ≤ 1
-  pub unit : r .scale + r .each ≤ 4
-  pub need : r .fixed + (r .scale + r .each) * min (r .most) (2 ^ 63 - 1) < 2 ^ 64
-  -- a body has bytes for each n, or none
-  pub fixed : r .fixed ≤ 4 * r .scale
-  -- if a second number counts the items, there is nothing else
-  pub many : r .args ≡ true → r .scale + r .single + r .each ≡ 0
 
 pub rule-row : (k : ℕ) → Row (rule k)
 unfolding rule

@@ -1,7 +1,7 @@
 -- Parts of slices, and stores into them.
 --
--- In order: the part `&s[k..]`; `sets d i p` of `lib.Seq`, the list d with p stored from index i on; `Put`, what a
--- function ensures that stores p at the front of a part with room for it; from `Put` to `store`.
+-- In order: the part `&s[k..]`; `sets d i p` of `lib.Seq`, the list d with p stored from index i on; `Put` and `PutAt`, and from
+-- `Put` to `store`.
 use mathlib.Core.Path.{_≡_, refl, sym, ap, _∙_}
 use mathlib.Core.List.{List, [], _∷_, _++_, append-nil}
 use Prim.Native.Nat.{ℕ, zero, suc, _+_, _-_, _≤_, _<_}
@@ -12,7 +12,7 @@ use lib.Seq.{drop-append-seam, drop-drop, sets, sets-eq, length-sets, take-all, 
 use borrow.Author.Tests.{le-leb, lt-leb}
 use borrow.Rule.Slice.PartMut.{putMid}
 use Rattle.prelude.specs.Pick.{pick}
-use Rattle.prelude.specs.Bytes.{Bytes, stored, store}
+use Rattle.prelude.specs.Bytes.{Bytes, stored, store, Put, PutAt}
 
 -- ---- the part from k on
 
@@ -65,22 +65,12 @@ sets-part p d w h =
 
 -- ---- Put and PutAt
 
--- p stored at the front of d is e; r is how many bytes that is
-pub record Put (p d e : List ℕ) (r : ℕ) : Type 0 where
-  pub size : r ≡ length p
-  pub bytes : e ≡ sets d 0 p
-
 pub put-same : (p d e : List ℕ) (r : ℕ) → Put p d e r → length e ≡ length d
 put-same p d e r put = rw (put .bytes) (length-sets d 0 p)
 
 -- p stored at the front of the part from w on
 put-part : (p d e : List ℕ) (w r : ℕ) → w ≤ length d → Put p (take (length d - w) (drop w d)) e r → putMid w (length d - w) d e ≡ sets d w p
 put-part p d e w r h put = rw (put .bytes) (sets-part p d w h)
-
--- p stored in d from w on is e; r is the offset after it
-pub record PutAt (p d : List ℕ) (w : ℕ) (e : List ℕ) (r : ℕ) : Type 0 where
-  pub after : r ≡ w + length p
-  pub bytes : e ≡ sets d w p
 
 -- p stored at the front of the part from w on
 pub putAt-part : (p d e : List ℕ) (w r : ℕ) → w ≤ length d → Put p (take (length d - w) (drop w d)) e r

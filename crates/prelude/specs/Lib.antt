@@ -2,7 +2,7 @@
 pub mod Pick
 -- what a call answers, and what a reader of bytes answers
 pub mod Answer
--- bytes, and bytes stored at the front of a buffer
+-- bytes, and bytes stored in a buffer
 pub mod Bytes
 -- a loop as a definition
 pub mod Loop

@@ -24,8 +24,9 @@ use Rattle.leb128.specs.Internal.{leftOf}
 use Rattle.leb128.specs.declared.GetResult.{GetResult}
 use Rattle.leb128.specs.declared.GetResult.the-variants.{Ok, Err}
 use Rattle.kind.specs.Kind.{rule, size, counted, pending, immediate}
+use Rattle.kind.specs.Internal.{Row}
 use Rattle.kind.specs.declared.Rule.{Rule}
-use Rattle.kind.proofs.Laws.{Row, None, rule-row}
+use Rattle.kind.proofs.Laws.{None, rule-row}
 use Rattle.token.specs.Token.{Token}
 use Rattle.token.specs.Scan.{getIf, number, body, scanKind, scan}
 use Rattle.scan.specs.Answers.{headOf, scanAt}

@@ -7,7 +7,7 @@ ghost use Prim.Native.Nat.{_+_, _*_, _≤_, _<_, _^_};
 ghost use lib.Dec.{leb};
 ghost use Rattle.leb128.specs.Answers as numbers;
 ghost use Rattle.kind.specs.Kind.{size};
-ghost use Rattle.kind.proofs.Laws.{Row};
+ghost use Rattle.kind.specs.Internal.{Row};
 ghost use Rattle.scan_number.specs.Internal.{numbered};
 
 // The number n of a header with this low nibble, if s comes after it, and the bytes left after n.

@@ -6,7 +6,8 @@ use native.Mathlib.Omega.{arith}
 use lib.ListN.{length, take, drop}
 use borrow.Rule.Slice.PartMut.{putMid}
 use Rattle.prelude.specs.Answer.{ok, error}
-use Rattle.prelude.proofs.Parts.{Put, putAt-part, length-part}
+use Rattle.prelude.specs.Bytes.{Put}
+use Rattle.prelude.proofs.Parts.{putAt-part, length-part}
 use Rattle.error.specs.Error.{numberOf}
 use Rattle.error.specs.declared.ErrorKind.{ErrorKind}
 use Rattle.token.specs.Token.{Token, token, emit}

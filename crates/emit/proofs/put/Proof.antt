@@ -6,8 +6,8 @@ use native.Mathlib.Omega.{arith}
 use lib.ListN.{length}
 use borrow.Author.Needs.{needs}
 use borrow.Author.Tests.{lt-ltb, le-ltb}
-use Rattle.prelude.specs.Bytes.{stored}
-use Rattle.prelude.proofs.Parts.{Put, store-none, store-put}
+use Rattle.prelude.specs.Bytes.{stored, Put}
+use Rattle.prelude.proofs.Parts.{store-none, store-put}
 use Rattle.token.specs.Token.{Token, emit, emitInto}
 use Rattle.emit.proofs.put.Statement.{statement}
 use Rattle.emit.proofs.put.Tie as tie

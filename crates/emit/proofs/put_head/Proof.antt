@@ -6,7 +6,8 @@ use native.Mathlib.Omega.{arith}
 use lib.Dec.{leb}
 use lib.ListN.{length, set, length-set}
 use borrow.Author.Needs.{needs}
-use Rattle.prelude.proofs.Parts.{PutAt, put-same, put-append, putAt-same}
+use Rattle.prelude.specs.Bytes.{PutAt}
+use Rattle.prelude.proofs.Parts.{put-same, put-append, putAt-same}
 use Rattle.kind.specs.Kind.{rule}
 use Rattle.token.specs.Token.{putIf, emit}
 use Rattle.token.proofs.Laws.{length-emit}

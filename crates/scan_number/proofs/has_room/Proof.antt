@@ -10,7 +10,7 @@ use borrow.Author.Tests.{lt-leb, ltb-true}
 use Rattle.prelude.proofs.Tests.{facts, and-l, and-r, and-false}
 use Rattle.kind.specs.Kind.{size}
 use Rattle.kind.specs.declared.Rule.{Rule}
-use Rattle.kind.proofs.Laws.{Row}
+use Rattle.kind.specs.Internal.{Row}
 use Rattle.scan_number.proofs.has_room.Statement.{statement}
 use Rattle.scan_number.proofs.has_room.Tie as tie
 
