@@ -29,8 +29,8 @@ module _ (t : Token) (x : ℕ) (s : State) (out table : List ℕ) (r : Fit) (a :
     pub inside : s .written ≤ length out
     inside = omega (arith, room-after (opens t) t x s out table accepted)
 
-    pub fits-rest : length (emit t) ≤ length (take (length out - s .written) (drop (s .written) out))
-    fits-rest = rw length-part (omega (arith, room-after (opens t) t x s out table accepted))
+    pub fits-rest : (w : ℕ) → w ≤ s .written → length (emit t) ≤ length (take (length out - w) (drop w out))
+    fits-rest w h = rw length-part (omega (arith, room-after (opens t) t x s out table accepted))
 
     -- what `advance` requires
     pub start-word : startOf s < 2 ^ 32

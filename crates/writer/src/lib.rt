@@ -175,17 +175,17 @@ impl Writer {
     }
 
     // The writer after a token is written; lists the start of the value if the token finishes it.
-    fn advance(self, ask: Fit, starts: &mut [u32]) -> Writer
-        requires { ⌜ (startOf (self .state) < 2 ^ 32) × (self .state .count < length (now starts)) × (self .state .written + ask .size < 2 ^ 64) ⌝ }
-        ensures { λ r. ⌜ Advanced ask (self .state) (now (starts .entry)) (r .state) (now (starts .exit)) ⌝ }
+    fn advance(self, fit: Fit, starts: &mut [u32]) -> Writer
+        requires { ⌜ (startOf (self .state) < 2 ^ 32) × (self .state .count < length (now starts)) × (self .state .written + fit .size < 2 ^ 64) ⌝ }
+        ensures { λ r. ⌜ Advanced fit (self .state) (now (starts .entry)) (r .state) (now (starts .exit)) ⌝ }
     {
-        let left = ask.left;
+        let left = fit.left;
         let first = self.state.pending == 0;
         let start = pick(first, self.state.written, self.state.start);
         let count = writer_listing::list_start(left, start, self.state.count, starts);
         Writer {
             state: State {
-                written: self.state.written + ask.size,
+                written: self.state.written + fit.size,
                 count,
                 pending: left,
                 start,
@@ -195,12 +195,12 @@ impl Writer {
     }
 
     // The result of a refused call: the writer stays as it was.
-    fn fail(self, e: ErrorKind) -> WriteResult
-        ensures { λ r. ⌜ Failed e (self .state) r ⌝ }
+    fn fail(self, error: ErrorKind) -> WriteResult
+        ensures { λ r. ⌜ Failed error (self .state) r ⌝ }
     {
         WriteResult {
             writer: self,
-            answer: WriteAnswer::Err(e),
+            answer: WriteAnswer::Err(error),
         }
     }
 
@@ -215,7 +215,7 @@ impl Writer {
     // Writes or refuses a token that has no body.
     fn put_token(
         self,
-        ask: Fit,
+        fit: Fit,
         kind: u8,
         n: u64,
         args: u64,
@@ -223,18 +223,18 @@ impl Writer {
         out: &mut [u8],
         starts: &mut [u32],
     ) -> WriteResult
-        requires { ⌜ FitOf (token kind n args []) target (self .state) (now out) (now starts) ask ⌝ }
+        requires { ⌜ FitOf (token kind n args []) target (self .state) (now out) (now starts) fit ⌝ }
         ensures { λ r. ⌜ wrote r (now (out .exit)) (now (starts .exit))
             ≡ putToken (token kind n args []) target (self .state) (now (out .entry)) (now (starts .entry)) ⌝ }
     {
-        let answer = ask.answer;
+        let answer = fit.answer;
         match answer {
             WriteAnswer::Err(e) => self.fail(e),
             WriteAnswer::Ok => {
                 let written = self.state.written;
-                emit::put_head(&mut out[written..], kind, n, ask.second, args);
+                emit::put_head(&mut out[written..], kind, n, fit.second, args);
                 WriteResult {
-                    writer: self.advance(ask, starts),
+                    writer: self.advance(fit, starts),
                     answer: WriteAnswer::Ok,
                 }
             }
@@ -244,25 +244,25 @@ impl Writer {
     // Writes or refuses a token that has a body.
     fn put_body(
         self,
-        ask: Fit,
+        fit: Fit,
         kind: u8,
         n: u64,
         body: &[u8],
         out: &mut [u8],
         starts: &mut [u32],
     ) -> WriteResult
-        requires { ⌜ FitOf (token kind n 0 (now body)) 0 (self .state) (now out) (now starts) ask ⌝ }
+        requires { ⌜ FitOf (token kind n 0 (now body)) 0 (self .state) (now out) (now starts) fit ⌝ }
         ensures { λ r. ⌜ wrote r (now (out .exit)) (now (starts .exit))
             ≡ putToken (token kind n 0 (now (body .entry))) 0 (self .state) (now (out .entry)) (now (starts .entry)) ⌝ }
     {
-        let answer = ask.answer;
+        let answer = fit.answer;
         match answer {
             WriteAnswer::Err(e) => self.fail(e),
             WriteAnswer::Ok => {
                 let written = self.state.written;
-                emit::put_within(&mut out[written..], kind, n, ask.second, 0, body);
+                emit::put_within(&mut out[written..], kind, n, fit.second, 0, body);
                 WriteResult {
-                    writer: self.advance(ask, starts),
+                    writer: self.advance(fit, starts),
                     answer: WriteAnswer::Ok,
                 }
             }
@@ -338,8 +338,8 @@ impl Writer {
         }
         let kind = kind::KIND_POINTER;
         let rule = kind::rule_of(kind);
-        let ask = self.fit(good, rule, kind, back, 0, b"", at, out, starts);
-        let r = self.put_token(ask, kind, back, 0, at, out, starts);
+        let fit = self.fit(good, rule, kind, back, 0, b"", at, out, starts);
+        let r = self.put_token(fit, kind, back, 0, at, out, starts);
         let answer = r.answer;
         let next = r.writer;
         match answer {
@@ -380,8 +380,8 @@ impl Writer {
         let kind = kind::KIND_SCALAR;
         let rule = kind::rule_of(kind);
         let n = number(value);
-        let ask = self.fit(true, rule, kind, n, 0, b"", 0, out, starts);
-        self.put_token(ask, kind, n, 0, 0, out, starts)
+        let fit = self.fit(true, rule, kind, n, 0, b"", 0, out, starts);
+        self.put_token(fit, kind, n, 0, 0, out, starts)
     }
 
     pub fn integer(self, value: i64, out: &mut [u8], starts: &mut [u32]) -> WriteResult
@@ -390,8 +390,8 @@ impl Writer {
         let kind = sign(value);
         let rule = kind::rule_of(kind);
         let n = magnitude(value);
-        let ask = self.fit(true, rule, kind, n, 0, b"", 0, out, starts);
-        self.put_token(ask, kind, n, 0, 0, out, starts)
+        let fit = self.fit(true, rule, kind, n, 0, b"", 0, out, starts);
+        self.put_token(fit, kind, n, 0, 0, out, starts)
     }
 
     // Takes the bits, which are never computed with.
@@ -401,8 +401,8 @@ impl Writer {
         let kind = kind::KIND_FLOAT;
         let rule = kind::rule_of(kind);
         let body = little_endian::bytes4(bits);
-        let ask = self.fit(true, rule, kind, 0, 0, &body, 0, out, starts);
-        self.put_body(ask, kind, 0, &body, out, starts)
+        let fit = self.fit(true, rule, kind, 0, 0, &body, 0, out, starts);
+        self.put_body(fit, kind, 0, &body, out, starts)
     }
 
     pub fn float64(self, bits: u64, out: &mut [u8], starts: &mut [u32]) -> WriteResult
@@ -411,8 +411,8 @@ impl Writer {
         let kind = kind::KIND_FLOAT;
         let rule = kind::rule_of(kind);
         let body = little_endian::bytes8(bits);
-        let ask = self.fit(true, rule, kind, 1, 0, &body, 0, out, starts);
-        self.put_body(ask, kind, 1, &body, out, starts)
+        let fit = self.fit(true, rule, kind, 1, 0, &body, 0, out, starts);
+        self.put_body(fit, kind, 1, &body, out, starts)
     }
 
     pub fn text(self, body: &[u8], out: &mut [u8], starts: &mut [u32]) -> WriteResult
@@ -423,8 +423,8 @@ impl Writer {
         let rule = kind::rule_of(kind);
         let good = utf8::is_text(body);
         let n = body.len() as u64;
-        let ask = self.fit(good, rule, kind, n, 0, body, 0, out, starts);
-        self.put_body(ask, kind, n, body, out, starts)
+        let fit = self.fit(good, rule, kind, n, 0, body, 0, out, starts);
+        self.put_body(fit, kind, n, body, out, starts)
     }
 
     pub fn bytes(self, body: &[u8], out: &mut [u8], starts: &mut [u32]) -> WriteResult
@@ -434,8 +434,8 @@ impl Writer {
         let kind = kind::KIND_BYTES;
         let rule = kind::rule_of(kind);
         let n = body.len() as u64;
-        let ask = self.fit(true, rule, kind, n, 0, body, 0, out, starts);
-        self.put_body(ask, kind, n, body, out, starts)
+        let fit = self.fit(true, rule, kind, n, 0, body, 0, out, starts);
+        self.put_body(fit, kind, n, body, out, starts)
     }
 
     // A variant with no argument.
@@ -444,8 +444,8 @@ impl Writer {
     {
         let kind = kind::KIND_VARIANT;
         let rule = kind::rule_of(kind);
-        let ask = self.fit(true, rule, kind, index as u64, 0, b"", 0, out, starts);
-        self.put_token(ask, kind, index as u64, 0, 0, out, starts)
+        let fit = self.fit(true, rule, kind, index as u64, 0, b"", 0, out, starts);
+        self.put_token(fit, kind, index as u64, 0, 0, out, starts)
     }
 
     // A reference to the value that starts at `at`.
@@ -456,8 +456,8 @@ impl Writer {
         let rule = kind::rule_of(kind);
         let n = distance(self.state.written, at);
         let good = self.is_listed(starts, at);
-        let ask = self.fit(good, rule, kind, n, 0, b"", at, out, starts);
-        self.put_token(ask, kind, n, 0, at, out, starts)
+        let fit = self.fit(good, rule, kind, n, 0, b"", at, out, starts);
+        self.put_token(fit, kind, n, 0, at, out, starts)
     }
 
     // A pointer to the value that starts at `at`.
@@ -468,8 +468,8 @@ impl Writer {
         let rule = kind::rule_of(kind);
         let n = distance(self.state.written, at);
         let good = self.is_listed(starts, at);
-        let ask = self.fit(good, rule, kind, n, 0, b"", at, out, starts);
-        self.put_token(ask, kind, n, 0, at, out, starts)
+        let fit = self.fit(good, rule, kind, n, 0, b"", at, out, starts);
+        self.put_token(fit, kind, n, 0, at, out, starts)
     }
 
     // An array of n items, which are the next immediates.
@@ -478,8 +478,8 @@ impl Writer {
     {
         let kind = kind::KIND_ARRAY;
         let rule = kind::rule_of(kind);
-        let ask = self.fit(true, rule, kind, n, 0, b"", 0, out, starts);
-        self.put_token(ask, kind, n, 0, 0, out, starts)
+        let fit = self.fit(true, rule, kind, n, 0, b"", 0, out, starts);
+        self.put_token(fit, kind, n, 0, 0, out, starts)
     }
 
     // A map of n pairs, whose keys and values, alternating, are the next immediates.
@@ -488,8 +488,8 @@ impl Writer {
     {
         let kind = kind::KIND_MAP;
         let rule = kind::rule_of(kind);
-        let ask = self.fit(true, rule, kind, n, 0, b"", 0, out, starts);
-        self.put_token(ask, kind, n, 0, 0, out, starts)
+        let fit = self.fit(true, rule, kind, n, 0, b"", 0, out, starts);
+        self.put_token(fit, kind, n, 0, 0, out, starts)
     }
 
     // A tag of the next immediate.
@@ -498,8 +498,8 @@ impl Writer {
     {
         let kind = kind::KIND_TAG;
         let rule = kind::rule_of(kind);
-        let ask = self.fit(true, rule, kind, tag, 0, b"", 0, out, starts);
-        self.put_token(ask, kind, tag, 0, 0, out, starts)
+        let fit = self.fit(true, rule, kind, tag, 0, b"", 0, out, starts);
+        self.put_token(fit, kind, tag, 0, 0, out, starts)
     }
 
     // A variant whose one argument is the next immediate.
@@ -509,8 +509,8 @@ impl Writer {
     {
         let kind = kind::KIND_VARIANT1;
         let rule = kind::rule_of(kind);
-        let ask = self.fit(true, rule, kind, index as u64, 0, b"", 0, out, starts);
-        self.put_token(ask, kind, index as u64, 0, 0, out, starts)
+        let fit = self.fit(true, rule, kind, index as u64, 0, b"", 0, out, starts);
+        self.put_token(fit, kind, index as u64, 0, 0, out, starts)
     }
 
     // A variant whose n arguments are the next immediates.
@@ -526,8 +526,8 @@ impl Writer {
     {
         let kind = kind::KIND_VARIANTN;
         let rule = kind::rule_of(kind);
-        let ask = self.fit(true, rule, kind, index as u64, n, b"", 0, out, starts);
-        self.put_token(ask, kind, index as u64, n, 0, out, starts)
+        let fit = self.fit(true, rule, kind, index as u64, n, b"", 0, out, starts);
+        self.put_token(fit, kind, index as u64, n, 0, out, starts)
     }
 
     // Closes at the value that starts at `at`: the file's entry is that value, or, if one delta byte does not reach back to it,
