@@ -1,4 +1,4 @@
--- What an accepted call writes, in any state, with any output and table (`accepted-writes`).
+-- What an accepted call writes (`accepted-writes`), and which value it finishes (`accepted-finishes`), in any state, with any output and table.
 use mathlib.Core.Path.{_≡_, refl, _∙_}
 use mathlib.Core.Bool.{true}
 use mathlib.Core.List.{List, [], _∷_, append-assoc}
@@ -18,8 +18,9 @@ use Rattle.writer.specs.Step.{write, writeDelta, writePointerDelta, move, step}
 use Rattle.writer.proofs.Accepted.{none-pending, Accepted, room-after, Near, delta-fits}
 use Rattle.writer.proofs.Refused.{pointerTo}
 use Rattle.guarantees.specs.Model.{Part, formOf, Request, adds, ends, requestOf}
-use Rattle.guarantees.specs.OneCall.{Writes}
+use Rattle.guarantees.specs.OneCall.{Writes, Finishing}
 use Rattle.guarantees.proofs.Calls.{put-by, close-by}
+use Rattle.guarantees.proofs.Results.{write-more, write-last, far-last, near-none}
 use Rattle.guarantees.proofs.Models.{pending-form}
 use Rattle.guarantees.proofs.History.{moveAs, move-request}
 
@@ -31,6 +32,7 @@ module _ (s : State) (out table : List ℕ) where
     written = refl;
     bytes = take-sets out (emit (formOf (s .written) p)) (s .written) (omega arith);
     pending = rw (pending-form (s .written) p);
+    start = λ _. refl;
     closed = refl;
   }
 
@@ -43,6 +45,7 @@ module _ (s : State) (out table : List ℕ) where
         written = rw reach;
         bytes = rw reach (take-sets out ((s .written - e - 1) ∷ []) (s .written) (omega arith));
         pending = none-pending s (a .granted .alike);
+        start = λ some. absurd (omega (arith, none-pending s (a .granted .alike)));
         closed = refl;
       }
 
@@ -61,6 +64,7 @@ module _ (s : State) (out table : List ℕ) where
             take-sets (sets out w t) d (w + length t) (omega (arith, length-sets out w t)) ∙ rw (take-sets out t w (omega arith)) (append-assoc (take w out) t d)
             );
         pending = rw (none-pending s (a .granted .alike)) (omega arith);
+        start = λ _. refl;
         closed = refl;
       }
 
@@ -69,5 +73,20 @@ module _ (s : State) (out table : List ℕ) where
       put-by s out table (Writes (adds p) s out) (formOf (s .written) p) _ (λ a. part-writes p (room-after _ (formOf (s .written) p) _ s out table a))
   request-writes (ends e) = close-by s out table (Writes (ends e) s out) e (near-writes e) (far-writes e)
 
+  request-finishes : (l : Request) → move (moveAs (s .written) l) s out table .answer ≡ ok tt → Finishing l s table (move (moveAs (s .written) l) s out table)
+  unfolding write
+  request-finishes (adds p) =
+      let t = formOf (s .written) p in
+      put-by s out table (Finishing (adds p) s table) t _ (λ a. (write-more _ t _ s out table a, write-last _ t _ s out table a))
+  request-finishes (ends e) =
+      close-by s out table (Finishing (ends e) s table) e
+      (λ near n. (λ _. near-none _ s out table, λ far. absurd (omega arith)))
+      (λ far a. (λ near. absurd (omega arith), λ _. far-last e s out table a))
+
 pub accepted-writes : (c : Call) (s : State) (out table : List ℕ) → step c s out table .answer ≡ ok tt → Writes (requestOf c) s out (step c s out table)
 accepted-writes c s out table = rw (move-request c (s .written)) (request-writes s out table (requestOf c))
+
+-- an accepted call lists the start of the value that it finishes, if any, and nothing else
+pub accepted-finishes : (c : Call) (s : State) (out table : List ℕ) → step c s out table .answer ≡ ok tt
+    → Finishing (requestOf c) s table (step c s out table)
+accepted-finishes c s out table = rw (move-request c (s .written)) (request-finishes s out table (requestOf c))

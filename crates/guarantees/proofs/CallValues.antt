@@ -1,19 +1,23 @@
 -- The value of a part is what reading must return for the call that asked for it.
-use mathlib.Core.Path.{_≡_, refl, sym, ap, _∙_}
+use mathlib.Core.Path.{_≡_, refl}
 use mathlib.Core.List.{List, []}
 use Prim.Native.Nat.{ℕ, _-_}
 use native.Mathlib.Omega.{arith}
+use lib.Dec.{ltb}
 use lib.IntN.{pos, negsuc}
 use lib.ListN.{length}
+use Rattle.prelude.proofs.Tests.{pick-elim}
 use Rattle.little_endian.proofs.Laws.{value-little}
 use Rattle.token.specs.Token.{token}
 use Rattle.token.proofs.Laws.{length-emit}
+use Rattle.values.specs.Values.{Each}
 use Rattle.writer.specs.Call.{Call, scalar, integer, float32, float64, text, bytes, variant, reference, pointer, openArray, openMap, openTag, openVariant1}
 use Rattle.writer.specs.Call.{openVariantN, close}
 use Rattle.writer.specs.Given.{Given}
 use Rattle.writer.specs.declared.Scalar.the-variants.{False, True, Null}
 use Rattle.guarantees.specs.TokenValues.{tokenEnd, valueOfToken}
-use Rattle.guarantees.specs.Model.{Part, adds, requestOf, formOf}
+use Rattle.guarantees.specs.Model.{Part, Request, adds, ends, requestOf, formOf}
+use Rattle.guarantees.specs.AcceptedParts.{partsAdded}
 use Rattle.guarantees.specs.ReadsBack.{valueOfPart}
 use Rattle.guarantees.specs.CallValues.{first, valueOfCall}
 use Rattle.guarantees.proofs.Invariant.{addedBy}
@@ -43,5 +47,10 @@ call-value (reference x) g q = refl
 call-value (pointer x) g q = refl
 call-value (close e) g q = refl
 
-pub value-of-call : (c : Call) → Given c → (q : ℕ) (p : Part) → requestOf c ≡ adds p → valueOfPart q p ≡ valueOfCall q c
-value-of-call c g q p e = ap (λ l. valueOfPart q (addedBy l)) (sym e) ∙ call-value c g q
+-- each part that an accepted request adds is the one that it asks for
+added-parts : (P : Part → Type 0) (l : Request) (w : ℕ) → P (addedBy l) → Each P (partsAdded l w)
+added-parts P (adds p) w own = (own, tt)
+added-parts P (ends e) w own = pick-elim (Each P) (ltb 255 (w - e - 1)) (λ _. (own, tt)) (λ _. tt)
+
+pub value-of-call : (c : Call) → Given c → (w q : ℕ) → Each (λ p. valueOfPart q p ≡ valueOfCall q c) (partsAdded (requestOf c) w)
+value-of-call c g w q = added-parts (λ p. valueOfPart q p ≡ valueOfCall q c) (requestOf c) w (call-value c g q)

@@ -16,13 +16,14 @@ use Rattle.prelude.specs.Answer.{ok, error}
 use Rattle.prelude.proofs.Tests.{pick-elim}
 use Rattle.prelude.proofs.Lists.{take-earlier, drop-later}
 use Rattle.token.specs.Token.{Token, emit}
+use Rattle.token.proofs.Laws.{emit-pos}
 use Rattle.kind.specs.Kind.{due}
 use Rattle.writer_refusal.specs.Refusal.{limit, Verdict}
 use Rattle.writer_refusal.specs.declared.State.{State}
 use Rattle.writer.specs.Call.{Call}
 use Rattle.writer.specs.Step.{Move, puts, closes, moveOf, opens, pendingOf, tokenRefusal, deltaRefusal, Result, startOf, write, writeDelta}
 use Rattle.writer.specs.Step.{writePointerDelta, settled, putToken, closeAt, move, step}
-use Rattle.writer.proofs.Accepted.{Accepted, token-inv, room-after, emit-pos, Near, delta-inv, delta-fits}
+use Rattle.writer.proofs.Accepted.{Accepted, token-inv, room-after, Near, delta-inv, delta-fits}
 use Rattle.writer.proofs.Refused.{pointerTo}
 use Rattle.guarantees.specs.OneCall.{Only}
 

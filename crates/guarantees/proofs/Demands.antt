@@ -4,7 +4,7 @@
 -- read back (`reads-back`), and each call after it is CLOSED (`closed-after`); the calls of the library for C (`history-c`); all
 -- that holds after a list of calls (`after-calls`); all that the queries return of a well-formed file (`tells-values`).
 use mathlib.Core.Path.{_≡_, refl, sym, ap, _∙_, subst}
-use mathlib.Core.List.{List, _∷_, _++_, map}
+use mathlib.Core.List.{List, [], _∷_, _++_, map}
 use Prim.Native.Nat.{ℕ, _+_, _≤_}
 use native.Mathlib.Omega.{arith}
 use lib.ListN.{length, take, drop, getD}
@@ -22,17 +22,21 @@ use Rattle.abi_writer.specs.Calls.{writerOf, wordsOf, numberC, runsC}
 use Rattle.abi_writer.proofs.Theorems.{writerOf-wordsOf, runs-words}
 use Rattle.guarantees.specs.Model.{ends, Model, emptyModel, modelAnswer, modelAfter}
 use Rattle.guarantees.specs.History.{ModelRan, modelRun, Agree}
+use Rattle.guarantees.specs.AcceptedParts.{acceptedParts}
 use Rattle.guarantees.specs.ReadsBack.{ReadsBack}
 use Rattle.guarantees.specs.Rewrites.{rewriting, AllOk, Rewritten}
 use Rattle.guarantees.specs.Demands.{TellsValues, AfterCalls}
 use Rattle.guarantees.proofs.Accepted.{accepted}
-use Rattle.guarantees.proofs.ReadsFile.{reads-token, reads-body, reads-body-of-pointer, reads-no-body, reads-end, reads-item, reads-none, reads-leaf}
-use Rattle.guarantees.proofs.ReadsLookup.{reads-lookup, reads-no-lookup}
-use Rattle.guarantees.proofs.Hops.{hops}
+use Rattle.guarantees.proofs.ReadsFile.{reads-token, reads-body, reads-body-of-pointer, reads-no-body, reads-end, reads-item, reads-none}
+use Rattle.guarantees.proofs.ReadsFile.{reads-immediate-end, reads-no-items}
+use Rattle.guarantees.proofs.ReadsLookup.{reads-lookup, reads-no-lookup, reads-lookup-kind}
+use Rattle.guarantees.proofs.Hops.{hops-none, follows-pointer, hops}
 use Rattle.guarantees.proofs.History.{history}
 use Rattle.guarantees.proofs.Lists.{modelRun-append, length-answers, ended-same, ended-answers}
+use Rattle.guarantees.proofs.AcceptedParts.{parts-accepted}
 use Rattle.guarantees.proofs.Rest.{rest-kept}
 use Rattle.guarantees.proofs.Targets.{targets-earlier, formed-so-far}
+use Rattle.guarantees.proofs.RewritesRead.{rewrites-read}
 use Rattle.guarantees.proofs.Rewrites.{model-rewrites, calls-given}
 use Rattle.guarantees.proofs.ReadsBack.{model-reads-back}
 
@@ -54,6 +58,7 @@ rewrites file cap count entry b e out table long words =
       written = h .1 .written ∙ ap length (m .1);
       same = h .1 .bytes ∙ m .1;
       listed = h .1 .starts ∙ m .2;
+      read = rewrites-read file vs entry (a .wellFormed);
     }
 
 -- ---- read back
@@ -116,6 +121,7 @@ pub after-calls : (cs : List Call) (out table : List ℕ) → AfterCalls cs out 
 after-calls cs out table = record {
   agree = history cs out table .1;
   answers = history cs out table .0;
+  parts = parts-accepted cs (length out) (length table) ∙ ap (acceptedParts [] cs) (sym (history cs out table .0));
   rest = rest-kept cs fresh out table;
   inC = runs-words cs fresh out table;
   targets = targets-earlier cs out table;
@@ -132,10 +138,14 @@ tells-values file vs entry w = record {
   body = reads-body file vs entry w;
   pointerBody = reads-body-of-pointer file vs entry w;
   noBody = reads-no-body file vs entry w;
+  stays = hops-none file vs entry w;
+  hop = follows-pointer file vs entry w;
+  noMap = reads-lookup-kind file vs entry w;
+  end = reads-immediate-end file vs entry w;
+  noItems = reads-no-items file vs entry w;
   skip = reads-end file vs entry w;
   item = λ a v b e is t js i. reads-item file vs entry w a v b e is t js _ i refl .0;
   noItem = λ a v b e has i past. reads-none file vs entry w a v b e i past has;
-  noItems = λ a v b e one i. reads-leaf file vs entry w a v b e i one;
   lookup = λ a v b e map key. reads-lookup file vs entry w a v b e map key;
   noLookup = λ a v b e map key. reads-no-lookup file vs entry w a v b e map key;
   follow = hops file vs entry w;

@@ -18,13 +18,14 @@ use Rattle.prelude.specs.Search.{rank}
 use Rattle.prelude.proofs.Tests.{pick-elim}
 use Rattle.error.specs.Error.{Fault, fault, FULL}
 use Rattle.token.specs.Token.{Token, emit, Fits}
+use Rattle.token.proofs.Laws.{emit-pos}
 use Rattle.scan.specs.Answers.{scanAt}
 use Rattle.scan.specs.declared.ScanResult.the-variants.{Ok}
 use Rattle.scan.proofs.Places.{headAt, scanAt-emit, scanAt-item}
 use Rattle.values.specs.Values.{Value, tokens, bytes, region, starts, Each, Item, Formed, HasTargets, HasTarget, TargetsEarlier, Values, WellFormed}
 use Rattle.values.specs.Paths.{targets, targetsOf, deepest, depthsFrom, Depth}
 use Rattle.values.specs.Paths as paths
-use Rattle.values.proofs.Laws.{emit-pos, region-append, region-at, length-starts, starts-append, start-of, fits-item, fits-head}
+use Rattle.values.proofs.Laws.{region-append, region-at, length-starts, starts-append, start-of, fits-item, fits-head}
 use Rattle.values.proofs.Depths.{length-depths, depth-is}
 use Rattle.checker.specs.Check.{filled, checkIn, checkOf}
 use Rattle.depths_value.specs.Depth.{targetDepth, depthState, deepestFrom, depthAt, depthsTo}

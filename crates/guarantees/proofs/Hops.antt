@@ -20,8 +20,8 @@ use Rattle.values.specs.Values.{Value, region, starts, WellFormed}
 use Rattle.values.proofs.Laws.{value-at, start-of, length-starts, starts-append}
 use Rattle.reader_follow.specs.Follow.{followIn, followOf}
 use Rattle.reader_follow.proofs.Laws.{followFrom-end}
-use Rattle.guarantees.specs.Places.{TokenAt, FollowsTo}
-use Rattle.guarantees.proofs.Pointers.{further, follow-pointer}
+use Rattle.guarantees.specs.Places.{TokenAt, FollowsTo, further}
+use Rattle.guarantees.proofs.Pointers.{follow-pointer}
 use Rattle.guarantees.proofs.ReadsFile.{in-region-is, within, peeked, has-target, head-token-at}
 
 pub starts-before : (vs a b : List Value) (i : ℕ) → vs ≡ a ++ b → i < length (starts 0 a) → getD (starts 0 vs) i 0 ≡ getD (starts 0 a) i 0

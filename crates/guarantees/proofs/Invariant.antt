@@ -30,9 +30,10 @@ use Rattle.error.specs.Error.{LIMIT}
 use Rattle.utf8.specs.Text.{isText}
 use Rattle.kind.specs.Kind.{rule, pending, immediate}
 use Rattle.token.specs.Token.{emit}
+use Rattle.token.proofs.Laws.{emit-pos}
 use Rattle.values.specs.Values.{region, starts, Each}
 use Rattle.values.proofs.Members.{each-all, each-append, each-imp}
-use Rattle.values.proofs.Laws.{emit-pos, length-starts, start-of}
+use Rattle.values.proofs.Laws.{length-starts, start-of}
 use Rattle.writer_refusal.specs.Refusal.{Verdict}
 use Rattle.writer_refusal.proofs.Refusals.{past}
 use Rattle.writer.specs.Call.{Call}

@@ -66,6 +66,8 @@ pub mod AcceptedCall
 pub mod AcceptedParts
 -- output and table may get longer between two calls
 pub mod Longer
+-- how many words are always enough
+pub mod EnoughWords
 -- lists of calls joined, and what comes after a close
 pub mod Lists
 -- over every list of calls the rest of output and table is as it was

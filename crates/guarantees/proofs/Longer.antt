@@ -2,11 +2,12 @@
 --
 -- In order: a refusal that does not depend on how long they are is the same with longer ones (`refusal-longer`); so is an accepted
 -- token or close; a call (`step-longer`), and a list of calls (`runs-longer`); what follows a model goes on following it
--- (`follows-longer`), over every list of calls with memory added between them (`history-growing`).
-use mathlib.Core.Path.{_≡_, refl, ap, _∙_}
-use mathlib.Core.Bool.{Bool, true, false, _&&_}
+-- (`follows-longer`), over every list of calls with memory added between them (`history-growing`). Memory that is added between calls
+-- is as good as memory that was there before the first, but for the calls that were refused (`growing-ahead`).
+use mathlib.Core.Path.{_≡_, refl, ap, _∙_, subst}
+use mathlib.Core.Bool.{Bool, true, false, _&&_, true≢false}
 use mathlib.Core.Logic.{inl, inr}
-use mathlib.Core.List.{List, [], _∷_, _++_}
+use mathlib.Core.List.{List, [], _∷_, _++_, append-assoc, append-nil}
 use Prim.Native.Nat.{ℕ, suc, _+_, _-_, _≤_, _<_}
 use native.Mathlib.Omega.{arith}
 use lib.Dec.{eqb, ltb, leb}
@@ -20,7 +21,8 @@ use Rattle.error.specs.Error.{BAD_STATE, FULL, NO_ROOM}
 use Rattle.kind.specs.Kind.{due}
 use Rattle.token.specs.Token.{Token, emit}
 use Rattle.values.specs.Values.{Each}
-use Rattle.writer_refusal.specs.Refusal.{badState, room, limit, isListed, Verdict, refusalOf}
+use Rattle.values.proofs.Members.{each-append}
+use Rattle.writer_refusal.specs.Refusal.{badState, room, limit, isListed, Verdict, isOk, refusalOf}
 use Rattle.writer_refusal.specs.declared.State.{State}
 use Rattle.writer_refusal.specs.declared.CallFlags.{CallFlags}
 use Rattle.writer_refusal.proofs.Refusals.{sound, not-bad}
@@ -29,11 +31,12 @@ use Rattle.writer.specs.Step.{Move, puts, closes, moveOf, opens, pendingOf, byt
 use Rattle.writer.specs.Step.{fresh, startOf, write, writeDelta, writePointerDelta, settled, putToken, closeAt, move, step}
 use Rattle.writer.specs.Runs.{runs}
 use Rattle.writer.proofs.Accepted.{Accepted, token-inv, free-word, room-after, delta-inv, delta-fits}
-use Rattle.writer.proofs.Refused.{pointerTo}
+use Rattle.writer.proofs.Refused.{pointerTo, refused-same}
+use Rattle.writer.proofs.Runs.{length-answers, runs-append}
 use Rattle.guarantees.specs.Model.{Model, emptyModel}
 use Rattle.guarantees.specs.History.{Agree, Follows}
 use Rattle.guarantees.proofs.History.{settled-answer, runs-lengths, history-from, fresh-follows}
-use Rattle.guarantees.specs.Longer.{MemoryAnswer, longer, longerAll, Stretch, runsGrowing, modelGrowing}
+use Rattle.guarantees.specs.Longer.{MemoryAnswer, longer, longerAll, Stretch, runsGrowing, callsIn, bytesIn, wordsIn, acceptedOf, Leaves, modelGrowing}
 
 -- ---- refusals
 
@@ -252,3 +255,67 @@ pub history-growing : (gs : List Stretch) (out table : List ℕ)
     → let r = runsGrowing gs fresh out table in let k = modelGrowing gs emptyModel (length out) (length table) in
     (r .answers ≡ k .answers) × Agree (r .writer) (r .out) (r .table) (k .model)
 history-growing gs out table = let a = growing-from gs fresh out table emptyModel (fresh-follows out table) in (a .0, a .1 .agree)
+
+-- ---- memory there from the beginning
+
+-- no accepted call is among those that longer memory could change
+not-accepted : MemoryAnswer (ok tt) → ⊥
+not-accepted (inl e) = true≢false (ap isOk e)
+not-accepted (inr (inl e)) = true≢false (ap isOk e)
+not-accepted (inr (inr e)) = true≢false (ap isOk e)
+
+-- one call more in front
+leaves-one : (c : Call) (cs : List Call) (s : State) (out x table y : List ℕ) (v : Verdict) → step c s out table .answer ≡ v
+    → let r = step c s out table in let q = runs cs (r .writer) (r .out) (r .table) in
+    Leaves (acceptedOf cs (q .answers)) (r .writer) (r .out ++ x) (r .table ++ y) (q .writer) (q .out ++ x) (q .table ++ y)
+    → Leaves (acceptedOf (c ∷ cs) (v ∷ q .answers)) s (out ++ x) (table ++ y) (q .writer) (q .out ++ x) (q .table ++ y)
+unfolding runs acceptedOf
+leaves-one c cs s out x table y (ok tt) e more =
+    let one = step-longer c s out x table y (λ h. not-accepted (subst MemoryAnswer e h)) in
+    record { accepted = rw one (e, more .accepted); writer = rw one (more .writer); bytes = rw one (more .bytes); words = rw one (more .words) }
+leaves-one c cs s out x table y (error f) e more = rw (refused-same c s out table f e) (rw (refused-same c s out table f e) at more)
+
+-- the accepted ones of the calls, with longer memory, leave what they left, and the memory after it as it was
+leaves-longer : (cs : List Call) (s : State) (out x table y : List ℕ) → let r = runs cs s out table in
+    Leaves (acceptedOf cs (r .answers)) s (out ++ x) (table ++ y) (r .writer) (r .out ++ x) (r .table ++ y)
+unfolding runs acceptedOf
+leaves-longer [] s out x table y = record { accepted = tt; writer = refl; bytes = refl; words = refl }
+leaves-longer (c ∷ cs) s out x table y =
+    let r = step c s out table in leaves-one c cs s out x table y (r .answer) refl (leaves-longer cs (r .writer) (r .out) x (r .table) y)
+
+accepted-append : (a b : List Call) (v w : List Verdict) → length v ≡ length a → acceptedOf (a ++ b) (v ++ w) ≡ acceptedOf a v ++ acceptedOf b w
+unfolding acceptedOf
+accepted-append [] b [] w h = refl
+accepted-append [] b (x ∷ v) w h = absurd (omega arith)
+accepted-append (c ∷ a) b [] w h = absurd (omega arith)
+accepted-append (c ∷ a) b (ok u ∷ v) w h = ap (λ cs. c ∷ cs) (accepted-append a b v w (omega arith))
+accepted-append (c ∷ a) b (error f ∷ v) w h = accepted-append a b v w (omega arith)
+
+-- one list after another
+leaves-append : (a b : List Call) (s : State) (out table : List ℕ) (s₁ : State) (out₁ table₁ : List ℕ) (s₂ : State) (out₂ table₂ : List ℕ)
+    → Leaves a s out table s₁ out₁ table₁ → Leaves b s₁ out₁ table₁ s₂ out₂ table₂ → Leaves (a ++ b) s out table s₂ out₂ table₂
+leaves-append a b s out table s₁ out₁ table₁ s₂ out₂ table₂ one more =
+    let joined = runs-append a b s out table in
+    let next = rw (← one .writer, ← one .bytes, ← one .words) at more in
+    record {
+      accepted = rw joined (each-append (λ v. v ≡ ok tt) (runs a s out table .answers) _ .1 (one .accepted, next .accepted));
+      writer = rw joined (next .writer);
+      bytes = rw joined (next .bytes);
+      words = rw joined (next .words);
+    }
+
+pub growing-ahead : (gs : List Stretch) (s : State) (out table : List ℕ) → let r = runsGrowing gs s out table in
+    Leaves (acceptedOf (callsIn gs) (r .answers)) s (out ++ bytesIn gs) (table ++ wordsIn gs) (r .writer) (r .out) (r .table)
+unfolding runsGrowing callsIn bytesIn wordsIn acceptedOf runs
+growing-ahead [] s out table = record { accepted = tt; writer = refl; bytes = append-nil out; words = append-nil table }
+growing-ahead (g ∷ gs) s out table =
+    let x = out ++ g .bytes in
+    let y = table ++ g .words in
+    let r = runs (g .calls) s x y in
+    let q = runsGrowing gs (r .writer) (r .out) (r .table) in
+    rw (
+      accepted-append (g .calls) (callsIn gs) (r .answers) (q .answers) (length-answers (g .calls) s x y),
+      ← append-assoc out (g .bytes) (bytesIn gs),
+      ← append-assoc table (g .words) (wordsIn gs),
+    )
+    (leaves-append _ _ s _ _ _ _ _ _ _ _ (leaves-longer (g .calls) s x (bytesIn gs) y (wordsIn gs)) (growing-ahead gs (r .writer) (r .out) (r .table)))

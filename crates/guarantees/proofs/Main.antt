@@ -2,8 +2,8 @@
 -- docs/GUARANTEES.md quotes these statements and records, and reads them aloud.
 --
 -- After the three demands, what says more than they do: check's answers (by one reading at most, and which refusal when); lookup on every file;
--- one call of the writer in any state; lists of calls from any state, in C, by their parts and by their values, and an open value finished; longer memory;
--- paths; what all of this rests on (numbers and tokens there and back); document 01's samples.
+-- one call of the writer in any state; lists of calls from any state, in C and by their parts, and an open value finished; longer memory, and how
+-- many words are enough; paths; what all of this rests on (numbers and tokens there and back); document 01's samples.
 use mathlib.Core.Path.{_≡_}
 use mathlib.Core.Bool.{Bool, true}
 use mathlib.Core.Logic.{_⊎_, _↔_}
@@ -30,7 +30,6 @@ use Rattle.writer_refusal.specs.declared.State.{State}
 use Rattle.writer.specs.Call.{Call}
 use Rattle.writer.specs.Step.{puts, moveOf, fresh, opens, step}
 use Rattle.writer.specs.Runs.{runs}
-use Rattle.writer.specs.Given.{Given}
 use Rattle.writer.proofs.Refused as writer
 use Rattle.abi_writer.specs.Calls.{writerOf, wordsOf, numberC, runsC}
 use Rattle.guarantees_faults.specs.Faults.{RefusedToken}
@@ -39,13 +38,11 @@ use Rattle.guarantees.specs.Accepts.{Overfull}
 use Rattle.guarantees.specs.Refused.{Unnamed, Faulty}
 use Rattle.guarantees.specs.Lookup.{Found, Missing}
 use Rattle.guarantees.specs.Samples.{Query, SampleAnswer, sampleAnswer, samples}
-use Rattle.guarantees.specs.Model.{Part, adds, requestOf, formsOf, deltaOf, Model, emptyModel}
-use Rattle.guarantees.specs.RefusedCall.{RefusedCall}
+use Rattle.guarantees.specs.Model.{requestOf, formsOf, deltaOf, Model, emptyModel}
+use Rattle.guarantees.specs.RefusedCall.{NoRoom, RefusedCall}
 use Rattle.guarantees.specs.History.{modelRun, Agree, Follows, Alike}
 use Rattle.guarantees.specs.AcceptedParts.{acceptedParts}
-use Rattle.guarantees.specs.Longer.{MemoryAnswer, longer, Stretch, runsGrowing, modelGrowing}
-use Rattle.guarantees.specs.ReadsBack.{valueOfPart}
-use Rattle.guarantees.specs.CallValues.{valueOfCall}
+use Rattle.guarantees.specs.Longer.{MemoryAnswer, longer, Stretch, runsGrowing, callsIn, bytesIn, wordsIn, acceptedOf, Leaves, modelGrowing}
 use Rattle.guarantees.specs.Written.{writes, expects, written}
 use Rattle.guarantees.specs.OneCall.{Writes, Only, Finishing, OneByte, FinishedBy}
 use Rattle.guarantees.specs.Demands.{Demand1, Demand2, Demand3}
@@ -61,12 +58,12 @@ use Rattle.guarantees.proofs.Depths as depths
 use Rattle.guarantees.proofs.Samples as sampled
 use Rattle.guarantees.proofs.Finish as finishes
 use Rattle.guarantees.proofs.Calls as single
-use Rattle.guarantees.proofs.Results as results
 use Rattle.guarantees.proofs.RefusedCall as refusals
 use Rattle.guarantees.proofs.AcceptedCall as accepted-call
 use Rattle.guarantees.proofs.History as calls
 use Rattle.guarantees.proofs.AcceptedParts as parts
 use Rattle.guarantees.proofs.Longer as memory
+use Rattle.guarantees.proofs.EnoughWords as words
 use Rattle.guarantees.proofs.CallValues as call-values
 use Rattle.guarantees.proofs.Demands as demands
 use Rattle.guarantees.proofs.Written as lists
@@ -78,6 +75,7 @@ demand-1 = record {
   numbered = record {
     check = errors.check-errors;
     depths = errors.depths-errors-known;
+    peek = errors.peek-errors;
     read = errors.read-errors;
     skip = errors.skip-errors;
     item = errors.item-errors;
@@ -96,7 +94,7 @@ pub demand-2 : Demand2
 demand-2 = record { accepts = accepted.accepts-exactly; tells = demands.tells-values; rewrites = demands.rewrites }
 
 pub demand-3 : Demand3
-demand-3 = record { list = demands.after-calls; paths = path-facts.accepted-paths }
+demand-3 = record { list = demands.after-calls; values = call-values.value-of-call; paths = path-facts.accepted-paths }
 
 -- ---- check's answers
 
@@ -151,8 +149,9 @@ accepted-writes = accepted-call.accepted-writes
 pub accepted-only : (c : Call) (s : State) (out table : List ℕ) → step c s out table .answer ≡ ok tt → Only s out table (step c s out table)
 accepted-only = single.accepted-only
 
-pub accepted-finishes : (c : Call) (s : State) (out table : List ℕ) → step c s out table .answer ≡ ok tt → Finishing s table (step c s out table)
-accepted-finishes = results.accepted-finishes
+pub accepted-finishes : (c : Call) (s : State) (out table : List ℕ) → step c s out table .answer ≡ ok tt
+    → Finishing (requestOf c) s table (step c s out table)
+accepted-finishes = accepted-call.accepted-finishes
 
 -- ---- lists of calls
 
@@ -169,9 +168,6 @@ history-c = demands.history-c
 pub parts-written : (cs : List Call) (out table : List ℕ) → let r = runs cs fresh out table in let k = modelRun cs emptyModel (length out) (length table) in
     take (r .writer .written) (r .out) ≡ bytes (formsOf 0 (acceptedParts [] cs (r .answers))) ++ deltaOf (k .model .stage)
 parts-written = parts.parts-written
-
-pub value-of-call : (c : Call) → Given c → (q : ℕ) (p : Part) → requestOf c ≡ adds p → valueOfPart q p ≡ valueOfCall q c
-value-of-call = call-values.value-of-call
 
 -- "an open value can always be finished"
 pub opening-finishable : (c : Call) (t : Token) (target : ℕ) (s : State) (out table : List ℕ) → moveOf c (s .written) ≡ puts t target
@@ -193,6 +189,16 @@ pub history-growing : (gs : List Stretch) (out table : List ℕ)
     → let r = runsGrowing gs fresh out table in let k = modelGrowing gs emptyModel (length out) (length table) in
     (r .answers ≡ k .answers) × Agree (r .writer) (r .out) (r .table) (k .model)
 history-growing = memory.history-growing
+
+-- memory that is added between calls, and memory that was there before the first
+pub growing-ahead : (gs : List Stretch) (s : State) (out table : List ℕ) → let r = runsGrowing gs s out table in
+    Leaves (acceptedOf (callsIn gs) (r .answers)) s (out ++ bytesIn gs) (table ++ wordsIn gs) (r .writer) (r .out) (r .table)
+growing-ahead = memory.growing-ahead
+
+-- how many words are always enough
+pub enough-words : (cs : List Call) (c : Call) (out table : List ℕ) → length out ≤ suc (length table) → let r = runs cs fresh out table in
+    step c (r .writer) (r .out) (r .table) .answer ≡ error FULL → NoRoom (requestOf c) (r .writer) (length out)
+enough-words = words.enough-words
 
 -- ---- paths
 

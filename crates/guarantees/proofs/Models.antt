@@ -23,8 +23,9 @@ use Rattle.error.specs.Error.{LIMIT}
 use Rattle.utf8.specs.Text.{isText}
 use Rattle.kind.specs.Kind.{rule, table, reserved, pending, immediate}
 use Rattle.token.specs.Token.{Token, emit}
+use Rattle.token.proofs.Laws.{emit-pos}
 use Rattle.values.specs.Values.{tokens, bytes, region, starts}
-use Rattle.values.proofs.Laws.{emit-pos, bytes-append, region-append, starts-append, starts-lt, length-starts}
+use Rattle.values.proofs.Laws.{bytes-append, region-append, starts-append, starts-lt, length-starts}
 use Rattle.writer.specs.Step.{pendingOf}
 use Rattle.guarantees.specs.Model.{Part, part, adds, ends, formOf, formsOf, ModelValue, modelValue, valueAt, valuesAt, endOf, Stage, between, within}
 use Rattle.guarantees.specs.Model.{closed, isClosed, Model, model, modelBytes, modelStarts, pendingIn, pendingAt, grown, settle, backTo}

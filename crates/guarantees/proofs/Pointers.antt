@@ -17,16 +17,12 @@ use Rattle.reader_region.proofs.Laws.{pointer-lt}
 use Rattle.reader_follow.specs.Follow.{Followed, followed, position, followFrom, followIn}
 use Rattle.reader_follow.proofs.Laws.{followFrom-pointer, followFrom-end, followFrom-error}
 use Rattle.reader_body.specs.Body.{bodyPlaceOn, bodyPlaceIn}
+use Rattle.guarantees.specs.Places.{further}
 
 -- one hop more
 abbrev more : Answer Fault Followed → Answer Fault Followed
 more (ok m) = ok (followed (m .place) (m .hops + 1) (m .head))
 more (error e) = error e
-
--- one hop more, in the answer of following
-abbrev pub further : Answer Fault (ℕ × ℕ) → Answer Fault (ℕ × ℕ)
-further (ok p) = ok (p .0, p .1 + 1)
-further (error e) = error e
 
 abbrev place : Followed → Answer Fault (ℕ × ℕ)
 place m = ok (m .place, m .hops)

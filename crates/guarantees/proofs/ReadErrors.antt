@@ -1,7 +1,7 @@
 -- Which errors each reading call can give, of every file: the lists of specs/Errors.antt.
 --
 -- In order: what holds of an answer's error, by the parts of the answer; a token that a query looks at, following, items, pairs, in any region; the
--- queries on a file (`read-errors`, `skip-errors`, `item-errors`, `follow-errors`, `lookup-errors`, `body-errors`); check and depths (`check-errors`,
+-- queries on a file (`peek-errors`, `read-errors`, `skip-errors`, `item-errors`, `follow-errors`, `lookup-errors`, `body-errors`); check and depths (`check-errors`,
 -- `depths-errors-known`).
 use mathlib.Core.Path.{_≡_, refl, sym, subst}
 use mathlib.Core.Bool.{Bool, true, false, _||_}
@@ -24,7 +24,7 @@ use Rattle.scan.specs.Answers.{scanAt}
 use Rattle.scan.specs.declared.Head.{Head}
 use Rattle.values.specs.Values.{Each}
 use Rattle.values.proofs.Members.{each-among}
-use Rattle.reader_region.specs.Region.{regionLen, inRegion, below, peekIn}
+use Rattle.reader_region.specs.Region.{regionLen, inRegion, below, peekIn, peekOf}
 use Rattle.reader_region.proofs.Laws.{pointer-lt}
 use Rattle.reader_value.specs.Value.{readIn, readOf}
 use Rattle.reader_items.specs.Items.{skipItems, skipIn, skipOf, startsIn, itemOn, itemIn, itemOf}
@@ -140,6 +140,10 @@ module _ (file : List ℕ) (at : ℕ) (f : Fault) where
   of-file l k known h e =
       let c = each-every (λ n. among n l) common known in
       subst (Errs l) e (errs-region l c file at k (h c))
+
+  pub peek-errors : peekOf file at ≡ error f → among (f .number) readErrors ≡ true
+  unfolding among
+  peek-errors = of-file readErrors (λ s. peekIn false s at) refl (λ c s. errs-value readErrors c s at)
 
   pub read-errors : readOf file at ≡ error f → among (f .number) readErrors ≡ true
   unfolding readIn among

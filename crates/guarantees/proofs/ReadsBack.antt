@@ -35,7 +35,7 @@ use Rattle.guarantees.specs.Model.{model, emptyModel, modelBytes, backTo
 use Rattle.guarantees.specs.History.{modelRun}
 use Rattle.guarantees.specs.ReadsBack.{Holds, valueOfPart, GivesBack, ReadsBack}
 use Rattle.guarantees.proofs.Accepts.{accepts}
-use Rattle.guarantees.proofs.ReadsFile.{reads-token, reads-body, reads-end, reads-item, reads-none, reads-leaf}
+use Rattle.guarantees.proofs.ReadsFile.{reads-token, reads-body, reads-end, reads-item, reads-none, reads-no-items, head-token-at}
 use Rattle.guarantees.proofs.Models.{forms-append, length-forms, values-append, length-values, start-lt, bytes-closed}
 use Rattle.guarantees.proofs.Invariant.{Finished, Staged, ModelInvariant, holds-fit, closes-near, closes-far}
 use Rattle.guarantees.proofs.Allowed.{AllowedPart, allowed-given, invariant-given, target-form, invariant-values}
@@ -143,7 +143,9 @@ module _ (b : Model) (d entry : ℕ) (k : ModelInvariant AllowedPart b) (c : b .
 
     flat : immediate (rule (v .head .kind)) ≡ true → (i : ℕ) → itemOf file at i ≡ error (fault WRONG_KIND at)
     unfolding formOf
-    flat one i = reads-leaf file (valuesAt 0 vs) entry well-formed (valuesAt 0 a) (valueAt at v) _ (values-at vs a v z e) i one
+    flat one i =
+        reads-no-items file (valuesAt 0 vs) entry well-formed _ at (formOf at (v .head)) (head-token-at (valuesAt 0 vs) (valuesAt 0 a) (valueAt at v) _ (values-at vs a v z e))
+        one i
 
   pub model-gives-back : GivesBack file vs entry
   model-gives-back = record {

@@ -2,10 +2,9 @@
 --
 -- In order: where the tokens of a value are (`head-token-at`, `item-token-at`); queries are answered in the region;
 -- each value is formed, and its tokens fit and have their targets before it. A token: it is read as what the pages say
--- (`reads-token`), and so is its body (`reads-body`, `reads-body-of-pointer`, `reads-no-body`). A value: it is read
--- (`reads-value`) and ends where its bytes do (`reads-end`); its items come one after the other (`reads-item`), with
--- none after the last (`reads-none`), and none in an immediate (`reads-leaf`). An item ends where its own bytes do
--- (`reads-item-end`), and has no items (`reads-item-leaf`).
+-- (`reads-token`), and so is its body (`reads-body`, `reads-body-of-pointer`, `reads-no-body`); an immediate ends where its own
+-- bytes do (`reads-immediate-end`), and has no items (`reads-no-items`). A value: it is read (`reads-value`) and ends where its
+-- bytes do (`reads-end`); its items come one after the other (`reads-item`), with none after the last (`reads-none`).
 use mathlib.Core.Path.{_≡_, refl, sym, ap, _∙_, subst}
 use mathlib.Core.Bool.{true, false, _||_}
 use mathlib.Core.Logic.{_⊎_, inl, inr}
@@ -22,11 +21,12 @@ use Rattle.prelude.proofs.Readers.{bind-ok}
 use Rattle.error.specs.Error.{Fault, fault, LIMIT, NO_ITEM, WRONG_KIND}
 use Rattle.kind.specs.Kind.{rule, immediate}
 use Rattle.token.specs.Token.{Token, emit, Fits}
+use Rattle.token.proofs.Laws.{emit-pos}
 use Rattle.scan.specs.declared.Head.{Head}
 use Rattle.scan.proofs.Places.{headAt}
 use Rattle.values.specs.Values.{Value, tokens, bytes, region, starts, Each, Item, Formed, HasTarget, HasTargets, TargetsEarlier, WellFormed}
 use Rattle.values.proofs.Members.{each-append}
-use Rattle.values.proofs.Laws.{emit-pos, bytes-append, region-at, targets-earlier-append, fits-head, fits-item, immediate-counts}
+use Rattle.values.proofs.Laws.{bytes-append, region-at, targets-earlier-append, fits-head, fits-item, immediate-counts}
 use Rattle.reader_region.specs.Region.{regionLen, inRegion, peekIn}
 use Rattle.reader_region.proofs.Laws.{in-region-ok}
 use Rattle.reader_value.specs.Value.{valueOn, readIn, readOf}
@@ -186,6 +186,17 @@ module _ (file : List ℕ) (vs : List Value) (entry : ℕ) (w : WellFormed file 
     pub reads-no-body : (t .kind ≡ 4 → ⊥) → (t .kind ≡ 5 → ⊥) → (t .kind ≡ 15 → ⊥) → bodyPlaceOf file q ≡ error (fault WRONG_KIND q)
     reads-no-body text string pointer = body-stop pointer ∙ rw (ne-eqb _ _ text, ne-eqb _ _ string)
 
+    -- ---- an immediate, which is a value or an item
+
+    module _ (one : immediate (rule (t .kind)) ≡ true) where
+      pub reads-immediate-end : skipOf file q ≡ ok (tokenEnd q t)
+      unfolding skipIn skipItems
+      reads-immediate-end = opened-as (λ s h. skipItems s (h .items) (h .end)) ∙ rw (immediate-counts t (may .allowed) one .1)
+
+      pub reads-no-items : (i : ℕ) → itemOf file q i ≡ error (fault WRONG_KIND q)
+      unfolding itemIn itemOn
+      reads-no-items i = opened-as (λ s. itemOn s q i) ∙ rw one
+
   -- ---- a value, and its items
 
   module _ (a : List Value) (v : Value) (b : List Value) (e : vs ≡ a ++ (v ∷ b)) where
@@ -204,7 +215,7 @@ module _ (file : List ℕ) (vs : List Value) (entry : ℕ) (w : WellFormed file 
     holds some =
         let f = formed a v b e in
         (elim (immediate (rule (v .head .kind))) as (λ x. immediate (rule (v .head .kind)) ≡ x → x ≡ false) [
-          | true ↦ λ k. absurd (omega (arith, f .count, immediate-counts (v .head) (record { sound = f .head; immediate = k }) .1))
+          | true ↦ λ k. absurd (omega (arith, f .count, immediate-counts (v .head) (f .head .allowed) k .1))
           | false ↦ λ k. refl
         ]) refl
 
@@ -241,25 +252,3 @@ module _ (file : List ℕ) (vs : List Value) (entry : ℕ) (w : WellFormed file 
     pub reads-none : (i : ℕ) → length (v .items) ≤ i → immediate (rule (v .head .kind)) ≡ false → itemOf file at i ≡ error (fault NO_ITEM at)
     unfolding itemIn itemOn
     reads-none i past k = head-opened (λ s. itemOn s at i) ∙ rw (k, ← formed a v b e .count, le-leb _ _ past)
-
-    pub reads-leaf : (i : ℕ) → immediate (rule (v .head .kind)) ≡ true → itemOf file at i ≡ error (fault WRONG_KIND at)
-    unfolding itemIn itemOn
-    reads-leaf i k = head-opened (λ s. itemOn s at i) ∙ rw k
-
-    -- ---- an item
-
-    module _ (is : List Token) (t : Token) (js : List Token) (q : ℕ) (i : v .items ≡ is ++ (t ∷ js))
-        (p : q ≡ tokenEnd at (v .head) + length (bytes is)) where
-      item-own : Item t
-      item-own = each-append Item is (t ∷ js) .0 (subst (Each Item) i (formed a v b e .items)) .1 .0
-
-      item-opened : {A : Type 0} (k : List ℕ → Head → Answer Fault A) → inRegion file q (λ s. bind (peekIn false s q) (k s)) ≡ k (region vs) (headAt q t)
-      item-opened k = opened-as (length a) q t (rw (← p) at (item-token-at vs a v b e is t js i)) k
-
-      pub reads-item-end : skipOf file q ≡ ok (tokenEnd q t)
-      unfolding skipIn skipItems
-      reads-item-end = item-opened (λ s h. skipItems s (h .items) (h .end)) ∙ rw (immediate-counts t item-own .1)
-
-      pub reads-item-leaf : (k : ℕ) → itemOf file q k ≡ error (fault WRONG_KIND q)
-      unfolding itemIn itemOn
-      reads-item-leaf k = item-opened (λ s. itemOn s q k) ∙ rw (item-own .immediate)

@@ -28,10 +28,9 @@ use Rattle.reader_items.specs.Items.{itemOf}
 use Rattle.reader_follow.specs.Follow.{followOf}
 use Rattle.reader_lookup.specs.Lookup.{lookupOf}
 use Rattle.guarantees.specs.TokenValues.{tokenEnd, tokenRows, valueOfToken}
-use Rattle.guarantees.specs.Places.{TokenAt}
+use Rattle.guarantees.specs.Places.{TokenAt, further}
 use Rattle.guarantees.specs.Lookup.{Keyed, OtherKey, IsKey, text, pointer, ItemAt, FirstPair, NoPair}
 use Rattle.guarantees.proofs.Heads.{kindOf, kind-value}
-use Rattle.guarantees.proofs.Pointers.{further}
 use Rattle.guarantees.proofs.Lookups.{keyed-or-not, found-lookup, none-lookup, kind-lookup}
 use Rattle.guarantees.proofs.ReadsFile.{head-token-at, item-token-at, peeked, shows, formed}
 use Rattle.guarantees.proofs.ReadsFile.{reads-token, reads-body, reads-body-of-pointer, reads-value, reads-item, reads-end}

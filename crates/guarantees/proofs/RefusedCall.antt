@@ -21,6 +21,7 @@ use Rattle.utf8.specs.Text.{isText, Text}
 use Rattle.utf8.proofs.Laws.{text-isText, isText-text}
 use Rattle.kind.specs.Kind.{rule, pending, due, immediate}
 use Rattle.token.specs.Token.{emit}
+use Rattle.token.proofs.Laws.{emit-pos}
 use Rattle.writer_refusal.specs.Refusal.{badState, isListed, room, limit, Verdict, refusalOf}
 use Rattle.writer_refusal.specs.declared.State.{State}
 use Rattle.writer_refusal.specs.declared.CallFlags.{CallFlags}
@@ -31,7 +32,6 @@ use Rattle.writer.specs.Step.{settled, putToken, closeAt, move, step}
 use Rattle.guarantees.specs.Model.{Part, formOf, Request, adds, ends, requestOf}
 use Rattle.guarantees.specs.RefusedCall.{BadState, past-output, past-limit, past-table, no-free-word, start-not-below, Owed, BadText, Listed, BadTarget}
 use Rattle.guarantees.specs.RefusedCall.{Full, itemsAfter, NoRoom, RefusedCall, bad-state, closed, owed, text, target, full, room as no-room}
-use Rattle.values.proofs.Laws.{emit-pos}
 use Rattle.writer.proofs.Refused.{pointerTo}
 use Rattle.guarantees.proofs.Models.{pending-form, room-test}
 use Rattle.guarantees.proofs.History.{moveAs, move-request, settled-answer}

@@ -1,9 +1,7 @@
 -- Over every list of calls the output after the bytes written, and the table after the starts listed, are as they were at first.
 use mathlib.Core.Path.{_≡_, refl, ap, _∙_}
-use mathlib.Core.Bool.{Bool, true, false}
-use mathlib.Core.Logic.{inl, inr}
 use mathlib.Core.List.{List, [], _∷_}
-use Prim.Native.Nat.{ℕ, _≤_}
+use Prim.Native.Nat.{ℕ, _-_, _≤_}
 use native.Mathlib.Omega.{arith}
 use lib.ListN.{drop}
 use lib.Seq.{drop-set-lt}
@@ -15,11 +13,12 @@ use Rattle.writer_refusal.specs.declared.State.{State}
 use Rattle.writer.specs.Call.{Call}
 use Rattle.writer.specs.Step.{Result, startOf, step}
 use Rattle.writer.specs.Runs.{runs}
-use Rattle.guarantees.specs.SoFar.{Rest}
 use Rattle.writer.proofs.Refused.{refused-same}
+use Rattle.guarantees.specs.Model.{Request, adds, ends, requestOf}
+use Rattle.guarantees.specs.SoFar.{Rest}
 use Rattle.guarantees.specs.OneCall.{FinishesNone, Finishes, Finishing}
 use Rattle.guarantees.proofs.Calls.{accepted-only}
-use Rattle.guarantees.proofs.Results.{accepted-finishes}
+use Rattle.guarantees.proofs.AcceptedCall.{accepted-finishes}
 
 -- ---- one call
 
@@ -34,12 +33,9 @@ module _ (s : State) (table : List ℕ) (r : Result) where
   one-words x f =
       (omega (arith, f .count), ap (drop (r .writer .count)) (f .words) ∙ drop-set-lt (r .writer .count) table (s .count) x (omega (arith, f .count)))
 
-  finishing-words : Finishing s table r → Words
-  finishing-words f = split 0 (r .writer .pending) (λ h. none-words (f .more h)) (λ h. by-closed (r .writer .closed) refl (omega arith))
-    where
-      by-closed : (c : Bool) → r .writer .closed ≡ c → r .writer .pending ≡ 0 → Words
-      by-closed false e z = one-words (startOf s) (f .last z e)
-      by-closed true e z = elim (f .closed e) [ inl n ↦ none-words n | inr o ↦ one-words (s .written) o ]
+  finishing-words : (l : Request) → Finishing l s table r → Words
+  finishing-words (adds p) f = split 0 (r .writer .pending) (λ some. none-words (f .0 some)) (λ none. one-words (startOf s) (f .1 (omega arith)))
+  finishing-words (ends e) f = split 255 (s .written - e - 1) (λ far. one-words (s .written) (f .1 far)) (λ near. none-words (f .0 near))
 
 step-rest : (c : Call) (s : State) (out table : List ℕ) → let r = step c s out table in Rest s out table (r .writer) (r .out) (r .table)
 step-rest c s out table = by-answer (step c s out table .answer) refl
@@ -47,7 +43,7 @@ step-rest c s out table = by-answer (step c s out table .answer) refl
     by-answer : (v : Verdict) → step c s out table .answer ≡ v → let r = step c s out table in Rest s out table (r .writer) (r .out) (r .table)
     by-answer (ok tt) e =
         let o = accepted-only c s out table e in
-        let w = finishing-words s table (step c s out table) (accepted-finishes c s out table e) in
+        let w = finishing-words s table (step c s out table) (requestOf c) (accepted-finishes c s out table e) in
         record { written = omega (arith, o .grows); count = w .0; bytes = o .after; words = w .1 }
     by-answer (error f) e =
         rw (refused-same c s out table f e) (record { written = omega arith; count = omega arith; bytes = refl; words = refl })

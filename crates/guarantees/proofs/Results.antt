@@ -1,11 +1,10 @@
 -- What an accepted call leaves, for any state, output and table.
 --
--- In order: the value that it finishes (`accepted-finishes`); a state that is not bad (`accepted-not-bad`), with room
+-- In order: the value that it finishes (`write-more`, `write-last`, `far-last`, `near-none`); a state that is not bad (`accepted-not-bad`), with room
 -- for the items pending and the delta (`accepted-open`, `accepted-room`); what a close leaves (`accepted-close`).
-use mathlib.Core.Path.{_≡_, refl, sym, ap, _∙_}
+use mathlib.Core.Path.{_≡_, refl, ap, _∙_}
 use mathlib.Core.Bool.{Bool, true, false, true≢false}
 use mathlib.Core.List.{List, [], _∷_}
-use mathlib.Core.Logic.{inl, inr}
 use Prim.Native.Nat.{ℕ, _+_, _-_, _≤_, _<_}
 use native.Mathlib.Omega.{arith}
 use lib.Dec.{eqb}
@@ -17,14 +16,15 @@ use Rattle.prelude.proofs.Tests.{pick-elim}
 use Rattle.error.specs.Error.{CLOSED}
 use Rattle.kind.specs.Kind.{rule, due}
 use Rattle.token.specs.Token.{Token, emit}
+use Rattle.token.proofs.Laws.{emit-pos}
 use Rattle.writer_refusal.specs.Refusal.{badState, limit, refusalOf}
 use Rattle.writer_refusal.specs.declared.State.{State}
 use Rattle.writer_refusal.proofs.Refusals.{Sound, sound, not-bad}
 use Rattle.writer.specs.Call.{Call, close}
 use Rattle.writer.specs.Step.{moveOf, pendingOf, tokenRefusal, deltaRefusal, result, startOf, write, writeDelta, writePointerDelta, step}
-use Rattle.writer.proofs.Accepted.{token-fits, none-pending, new-start, Accepted, free-word, room-after, start-lt, emit-pos, Near, delta-fits}
+use Rattle.writer.proofs.Accepted.{token-fits, none-pending, new-start, Accepted, free-word, room-after, start-lt, Near, delta-fits}
 use Rattle.writer.proofs.Refused.{pointerTo, settled-by}
-use Rattle.guarantees.specs.OneCall.{FinishesNone, Finishes, Finishing, Pending, Closed}
+use Rattle.guarantees.specs.OneCall.{FinishesNone, Finishes, Pending, Closed}
 use Rattle.guarantees.proofs.Calls.{close-by, accepted-by, length-pick-set, accepted-only}
 
 -- ---- the value that it finishes
@@ -50,38 +50,16 @@ module _ (x : ℕ) (s : State) (out table : List ℕ) (a : Accepted true (pointe
   unfolding rule
   pointer-last = rw (none-pending s (a .granted .alike)) (omega arith)
 
-  far-last : Finishes (s .written) s table (writePointerDelta (pointerTo x s) s out table)
+  pub far-last : Finishes (s .written) s table (writePointerDelta (pointerTo x s) s out table)
   unfolding write writeDelta writePointerDelta
   far-last =
       let f = write-last true (pointerTo x s) x s out table a pointer-last in
       let start = new-start s (a .granted .alike) in
       record { none = f .none; count = f .count; words = f .words ∙ ap (set table (s .count)) start; listed = f .listed ∙ start }
 
-near-none : (x : ℕ) (s : State) (out table : List ℕ) → FinishesNone s table (writeDelta x s out table)
+pub near-none : (x : ℕ) (s : State) (out table : List ℕ) → FinishesNone s table (writeDelta x s out table)
 unfolding writeDelta
 near-none x s out table = record { count = refl; words = refl }
-
--- an accepted call lists the start of the value that it finishes, if any, and nothing else
-pub accepted-finishes : (c : Call) (s : State) (out table : List ℕ) → step c s out table .answer ≡ ok tt → Finishing s table (step c s out table)
-unfolding write writeDelta writePointerDelta
-accepted-finishes c s out table =
-    accepted-by s out table (Finishing s table)
-    (λ t x a. record {
-      more = write-more _ t x s out table a;
-      last = λ e _. write-last _ t x s out table a e;
-      closed = λ z. absurd (true≢false (sym z));
-    })
-    (λ x n. record {
-      more = λ h. absurd (omega (arith, none-pending s (n .granted .alike)));
-      last = λ _ z. absurd (true≢false z);
-      closed = λ _. inl (near-none _ s out table);
-    })
-    (λ x a. let f = far-last x s out table a in record {
-      more = λ h. absurd (omega (arith, f .none));
-      last = λ _ z. absurd (true≢false z);
-      closed = λ _. inr f;
-    })
-    c
 
 -- ---- the state
 

@@ -1,7 +1,7 @@
 -- What the writer has written so far: every reference and pointer in a finished value names a finished value before it, by the
 -- offset that was handed in (`targets-earlier`), and the finished values are values that a file may begin with (`formed-so-far`).
 use mathlib.Core.Path.{_≡_, refl, sym, ap, _∙_}
-use mathlib.Core.List.{List, [], _∷_, _++_, append-assoc}
+use mathlib.Core.List.{List, _∷_, _++_, append-assoc}
 use Prim.Native.Nat.{ℕ, _+_, _≤_, _<_}
 use native.Mathlib.Nat.{zero-add}
 use native.Mathlib.Omega.{arith}

@@ -16,16 +16,15 @@ use lib.Seq.{length-take-le}
 use Rattle.prelude.specs.Answer.{ok, bind}
 use Rattle.prelude.specs.Bytes.{Bytes}
 use Rattle.prelude.proofs.Tests.{and-l, and-r, unless, unless-by}
-use Rattle.prelude.proofs.Parts.{}
 use Rattle.utf8.specs.Text.{Text, isText}
 use Rattle.utf8.proofs.Laws.{text-isText, isText-text}
 use Rattle.kind.specs.Kind.{due}
 use Rattle.token.specs.Token.{Token, emit, Fits}
+use Rattle.token.proofs.Laws.{emit-pos}
 use Rattle.scan.specs.Answers.{scanAt, bodyOn}
 use Rattle.scan.specs.declared.Head.{Head}
 use Rattle.scan.proofs.Places.{headAt, scanAt-emit, emit-scanAt, body-read}
 use Rattle.values.specs.Values.{HasTarget}
-use Rattle.values.proofs.Laws.{emit-pos}
 use Rattle.checker_value.specs.Walk.{hasTarget, tokenFault, Walk, between, nextToken, walkAfter, startsFrom}
 use Rattle.checker_value.proofs.Walks.{taken, walk-token}
 

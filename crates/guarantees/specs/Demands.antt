@@ -14,7 +14,7 @@ use mathlib.Core.Path.{_≡_}
 use mathlib.Core.Bool.{true, false}
 use mathlib.Core.Logic.{_⊎_, _↔_}
 use mathlib.Core.Option.{some}
-use mathlib.Core.List.{List, _∷_, _++_, map}
+use mathlib.Core.List.{List, [], _∷_, _++_, map}
 use lib.ListN.{length, take, drop, getD, replicate}
 use Rattle.prelude.specs.Answer.{ok, error}
 use Rattle.prelude.specs.Bytes.{Bytes}
@@ -23,6 +23,7 @@ use Rattle.error.specs.Error.{Fault, fault, NO_ITEM, WRONG_KIND, CLOSED}
 use Rattle.kind.specs.Kind.{rule, immediate}
 use Rattle.token.specs.Token.{Token}
 use Rattle.values.specs.Values.{Value, tokens, bytes, region, starts, Each, WellFormed}
+use Rattle.reader_region.specs.Region.{peekOf}
 use Rattle.reader_value.specs.Value.{readOf}
 use Rattle.reader_value.specs.declared.Value.{Value as ReadValue}
 use Rattle.reader_items.specs.Items.{skipOf, itemOf}
@@ -39,15 +40,17 @@ use Rattle.writer.specs.Given.{Given}
 use Rattle.abi_writer.specs.Calls.{wordsOf, numberC, ranC, runsC}
 use Rattle.guarantees.specs.Accepts.{Accepted}
 use Rattle.guarantees.specs.TokenValues.{tokenEnd, valueOfToken}
-use Rattle.guarantees.specs.Places.{TokenAt, FollowsTo}
+use Rattle.guarantees.specs.Places.{TokenAt, FollowsTo, further}
 use Rattle.guarantees.specs.Items.{countOf}
 use Rattle.guarantees.specs.Lookup.{FirstPair, NoPair}
 use Rattle.guarantees.specs.Errors.{checkErrors, readErrors, skipErrors, itemErrors, bodyErrors, writeErrors}
 use Rattle.guarantees.specs.AcceptedPaths.{AcceptedPaths}
-use Rattle.guarantees.specs.Model.{Part, emptyModel, valuesAt}
+use Rattle.guarantees.specs.Model.{Part, requestOf, openOf, emptyModel, valuesAt}
 use Rattle.guarantees.specs.History.{modelRun, Agree}
+use Rattle.guarantees.specs.AcceptedParts.{partsIn, partsAdded, acceptedParts}
 use Rattle.guarantees.specs.SoFar.{Rest, Names, FormedSoFar}
-use Rattle.guarantees.specs.ReadsBack.{Holds, ReadsBack}
+use Rattle.guarantees.specs.ReadsBack.{Holds, valueOfPart, ReadsBack}
+use Rattle.guarantees.specs.CallValues.{valueOfCall}
 use Rattle.guarantees.specs.Rewrites.{Rewritten}
 
 -- ---- demand 1
@@ -55,6 +58,7 @@ use Rattle.guarantees.specs.Rewrites.{Rewritten}
 pub record Numbered : Type 0 where
   pub check : (file : List ℕ) (cap : ℕ) (f : Fault) → checkOf file cap .answer ≡ error f → among (f .number) checkErrors ≡ true
   pub depths : (file : List ℕ) (cap room : ℕ) (f : Fault) → depthsOf file cap room .answer ≡ error f → among (f .number) checkErrors ≡ true
+  pub peek : (file : List ℕ) (at : ℕ) (f : Fault) → peekOf file at ≡ error f → among (f .number) readErrors ≡ true
   pub read : (file : List ℕ) (at : ℕ) (f : Fault) → readOf file at ≡ error f → among (f .number) readErrors ≡ true
   pub skip : (file : List ℕ) (at : ℕ) (f : Fault) → skipOf file at ≡ error f → among (f .number) skipErrors ≡ true
   pub item : (file : List ℕ) (at : ℕ) (f : Fault) (i : ℕ) → itemOf file at i ≡ error f → among (f .number) itemErrors ≡ true
@@ -88,6 +92,12 @@ pub record TellsValues (file : List ℕ) (vs : List Value) : Type 0 where
       → (bodyPlaceOf file q ≡ bodyPlaceOf file (q - t .n - 1)) × (bodyOf file q ≡ bodyOf file (q - t .n - 1))
   pub noBody : (j q : ℕ) (t : Token) → TokenAt vs j q t → (t .kind ≡ 4 → ⊥) → (t .kind ≡ 5 → ⊥) → (t .kind ≡ 15 → ⊥)
       → bodyPlaceOf file q ≡ error (fault WRONG_KIND q)
+  pub stays : (j q : ℕ) (t : Token) → TokenAt vs j q t → (t .kind ≡ 15 → ⊥) → followOf file q ≡ ok (q, 0)
+  pub hop : (j q : ℕ) (t : Token) → TokenAt vs j q t → t .kind ≡ 15 → followOf file q ≡ further (followOf file (q - t .n - 1))
+  pub noMap : (j q : ℕ) (t : Token) → TokenAt vs j q t → (key : List ℕ) → (t .kind ≡ 7 → ⊥) → lookupOf file q key ≡ error (fault WRONG_KIND q)
+  pub end : (j q : ℕ) (t : Token) → TokenAt vs j q t → immediate (rule (t .kind)) ≡ true → skipOf file q ≡ ok (tokenEnd q t)
+  pub noItems : (j q : ℕ) (t : Token) → TokenAt vs j q t → immediate (rule (t .kind)) ≡ true
+      → (i : ℕ) → itemOf file q i ≡ error (fault WRONG_KIND q)
   -- each value v, after the values a
   pub skip : (a : List Value) (v : Value) (b : List Value) → vs ≡ a ++ (v ∷ b)
       → skipOf file (length (region a)) ≡ ok (length (region a) + length (bytes (tokens v)))
@@ -96,13 +106,11 @@ pub record TellsValues (file : List ℕ) (vs : List Value) : Type 0 where
       → itemOf file (length (region a)) (length is) ≡ ok (tokenEnd (length (region a)) (v .head) + length (bytes is))
   pub noItem : (a : List Value) (v : Value) (b : List Value) → vs ≡ a ++ (v ∷ b) → immediate (rule (v .head .kind)) ≡ false
       → (i : ℕ) → length (v .items) ≤ i → itemOf file (length (region a)) i ≡ error (fault NO_ITEM (length (region a)))
-  pub noItems : (a : List Value) (v : Value) (b : List Value) → vs ≡ a ++ (v ∷ b) → immediate (rule (v .head .kind)) ≡ true
-      → (i : ℕ) → itemOf file (length (region a)) i ≡ error (fault WRONG_KIND (length (region a)))
   pub lookup : (a : List Value) (v : Value) (b : List Value) → vs ≡ a ++ (v ∷ b) → v .head .kind ≡ 7
       → (key : List ℕ) (x : ℕ) → FirstPair vs (length (region a)) v key x → lookupOf file (length (region a)) key ≡ ok x
   pub noLookup : (a : List Value) (v : Value) (b : List Value) → vs ≡ a ++ (v ∷ b) → v .head .kind ≡ 7
       → (key : List ℕ) → NoPair vs (length (region a)) v key → lookupOf file (length (region a)) key ≡ error (fault NO_ITEM (length (region a)))
-  -- following, from value number j
+  -- following from value number j ends
   pub follow : (j : ℕ) → j < length vs → FollowsTo file vs j (getD (starts 0 vs) j 0)
 
 pub record Demand2 : Type 0 where
@@ -124,6 +132,9 @@ pub record AfterCalls (cs : List Call) (out table : List ℕ) : Type 0 where
       Agree (r .writer) (r .out) (r .table) (modelRun cs emptyModel (length out) (length table) .model)
   -- "and each call in it was refused just where the book refuses it, with the same number."
   pub answers : runs cs fresh out table .answers ≡ modelRun cs emptyModel (length out) (length table) .answers
+  -- the book's parts are those of the accepted calls, in their order; `values` of Demand3 says how each is read
+  pub parts : let k = modelRun cs emptyModel (length out) (length table) .model in
+      partsIn (k .finished ++ openOf (k .stage)) ≡ acceptedParts [] cs (runs cs fresh out table .answers)
   -- "Buffer and table may hold anything at first;" what is after the bytes written and the starts listed stays as it was
   pub rest : let r = runs cs fresh out table in Rest fresh out table (r .writer) (r .out) (r .table)
   -- the calls of the library for C, from a new state's words on: the same answers, as numbers, and the same state, output and table
@@ -150,6 +161,8 @@ pub record AfterCalls (cs : List Call) (out table : List ℕ) : Type 0 where
 pub record Demand3 : Type 0 where
   -- "For every list of the writer's calls (each immediate, each opening, the close, refused ones too) from a fresh writer,"
   pub list : (cs : List Call) (out table : List ℕ) → AfterCalls cs out table
+  -- "gives back exactly the book's finished values: .. kinds, numbers, .. targets", in terms of the calls: what reading returns for a part that c adds
+  pub values : (c : Call) → Given c → (w q : ℕ) → Each (λ p. valueOfPart q p ≡ valueOfCall q c) (partsAdded (requestOf c) w)
   -- "In any accepted file, whoever wrote it, no descent meets a value twice, and depths, lent enough words, accepts it and tells each value's depth:
   -- one descent from it has that many values, none has more."
   pub paths : (file : List ℕ) (cap count entry : ℕ) → Bytes file → checkOf file cap .answer ≡ ok (count, entry) → AcceptedPaths file count entry

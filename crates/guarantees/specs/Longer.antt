@@ -6,6 +6,11 @@
 --   Stretch          bytes and words that are added after output and table, and the calls that come then
 --   runsGrowing gs s out table
 --                    the calls of the stretches gs, one stretch after the other
+--   callsIn gs, bytesIn gs, wordsIn gs
+--                    the calls of all stretches, and the bytes and words that they add
+--   acceptedOf cs vs the calls of cs whose answers, of the list vs, are `ok`
+--   Leaves cs s out table s′ out′ table′
+--                    the calls cs are all accepted, with this state, output and table, and leave the others
 --   modelGrowing gs b n m
 --                    the same calls made to the model b, which is told the lengths that output and table have at each stretch
 use Prim.Native.Nat.{ℕ, _+_}
@@ -13,7 +18,7 @@ use mathlib.Core.Path.{_≡_}
 use mathlib.Core.Logic.{_⊎_}
 use mathlib.Core.List.{List, [], _∷_, _++_}
 use lib.ListN.{length}
-use Rattle.prelude.specs.Answer.{error}
+use Rattle.prelude.specs.Answer.{ok, error}
 use Rattle.error.specs.Error.{BAD_STATE, FULL, NO_ROOM}
 use Rattle.writer_refusal.specs.Refusal.{Verdict}
 use Rattle.writer_refusal.specs.declared.State.{State}
@@ -22,6 +27,7 @@ use Rattle.writer.specs.Step.{Result, result}
 use Rattle.writer.specs.Runs.{Ran, ran, runs}
 use Rattle.guarantees.specs.Model.{Model}
 use Rattle.guarantees.specs.History.{ModelRan, modelRan, modelRun}
+use Rattle.guarantees.specs.Rewrites.{AllOk}
 
 abbrev pub MemoryAnswer : Verdict → Type 0
 MemoryAnswer v = (v ≡ error BAD_STATE) ⊎ ((v ≡ error FULL) ⊎ (v ≡ error NO_ROOM))
@@ -43,6 +49,30 @@ runsGrowing (g ∷ gs) s out table =
     let r = runs (g .calls) s (out ++ g .bytes) (table ++ g .words) in
     let more = runsGrowing gs (r .writer) (r .out) (r .table) in
     ran (r .answers ++ more .answers) (more .writer) (more .out) (more .table)
+
+unfoldable pub callsIn : List Stretch → List Call
+callsIn [] = []
+callsIn (g ∷ gs) = g .calls ++ callsIn gs
+
+unfoldable pub bytesIn : List Stretch → List ℕ
+bytesIn [] = []
+bytesIn (g ∷ gs) = g .bytes ++ bytesIn gs
+
+unfoldable pub wordsIn : List Stretch → List ℕ
+wordsIn [] = []
+wordsIn (g ∷ gs) = g .words ++ wordsIn gs
+
+unfoldable pub acceptedOf : List Call → List Verdict → List Call
+acceptedOf [] vs = []
+acceptedOf (c ∷ cs) [] = []
+acceptedOf (c ∷ cs) (ok u ∷ vs) = c ∷ acceptedOf cs vs
+acceptedOf (c ∷ cs) (error f ∷ vs) = acceptedOf cs vs
+
+pub record Leaves (cs : List Call) (s : State) (out table : List ℕ) (s′ : State) (out′ table′ : List ℕ) : Type 0 where
+  pub accepted : AllOk (runs cs s out table .answers)
+  pub writer : runs cs s out table .writer ≡ s′
+  pub bytes : runs cs s out table .out ≡ out′
+  pub words : runs cs s out table .table ≡ table′
 
 unfoldable pub modelGrowing : List Stretch → Model → ℕ → ℕ → ModelRan
 modelGrowing [] b n m = modelRan [] b

@@ -3,9 +3,12 @@
 --
 --   Only s out table r        an accepted call that leaves r changes no more than the paper allows
 --   requestBytes l w          the bytes that an accepted request adds after w bytes: its token; or the delta byte, perhaps after a pointer
---   Writes l s out r          an accepted request l leaves r: these bytes after those written, the items then pending, and closed if it is a close
---   FinishesNone, Finishes x, Finishing
---                             which value it finishes: none, the one that starts at x, either
+--   pendingAfter l s          the items that are pending after it
+--   closedAfter l             whether the writer is then closed
+--   Writes l s out r          an accepted request l leaves r: these bytes after those written, the items then pending, the start of the value that they
+--                             belong to, and closed if it is a close
+--   FinishesNone, Finishes x  it finishes no value; it finishes the one that starts at x
+--   Finishing l s table r     which value it finishes
 --   Pending k s out table     k items are pending, with room for them
 --   Closed x s table r        a close at x leaves r
 --   NextItem k t target s out table
@@ -17,7 +20,6 @@
 --                             the calls cs finish the open value
 use mathlib.Core.Path.{_≡_}
 use mathlib.Core.Bool.{Bool, true, false}
-use mathlib.Core.Logic.{_⊎_}
 use mathlib.Core.List.{List, [], _∷_, _++_}
 use Prim.Native.Nat.{ℕ, _+_, _-_, _≤_, _<_}
 use lib.Dec.{ltb}
@@ -68,6 +70,7 @@ pub record Writes (l : Request) (s : State) (out : List ℕ) (r : Result) : Type
   pub written : r .writer .written ≡ s .written + length (requestBytes l (s .written))
   pub bytes : take (r .writer .written) (r .out) ≡ take (s .written) out ++ requestBytes l (s .written)
   pub pending : r .writer .pending ≡ pendingAfter l s
+  pub start : 0 < r .writer .pending → r .writer .start ≡ startOf s
   pub closed : r .writer .closed ≡ closedAfter l
 
 -- ---- the value that it finishes
@@ -84,12 +87,11 @@ pub record Finishes (x : ℕ) (s : State) (table : List ℕ) (r : Result) : Type
   pub words : r .table ≡ set table (s .count) x
   pub listed : getD (r .table) (s .count) 0 ≡ x
 
--- what a call that leaves r finishes: a token with items pending after it, none; the last token of a value, that value;
--- a close, none or the pointer that it adds
-pub record Finishing (s : State) (table : List ℕ) (r : Result) : Type 0 where
-  pub more : 0 < r .writer .pending → FinishesNone s table r
-  pub last : r .writer .pending ≡ 0 → r .writer .closed ≡ false → Finishes (startOf s) s table r
-  pub closed : r .writer .closed ≡ true → FinishesNone s table r ⊎ Finishes (s .written) s table r
+-- what a request that leaves r finishes: a token with items pending after it, none; the last token of a value, that value;
+-- a close, none if the delta byte reaches the value closed at, else the pointer that it adds
+abbrev pub Finishing : Request → State → List ℕ → Result → Type 0
+Finishing (adds p) s table r = (0 < r .writer .pending → FinishesNone s table r) × (r .writer .pending ≡ 0 → Finishes (startOf s) s table r)
+Finishing (ends e) s table r = (s .written - e - 1 ≤ 255 → FinishesNone s table r) × (255 < s .written - e - 1 → Finishes (s .written) s table r)
 
 -- ---- the state that it leaves
 

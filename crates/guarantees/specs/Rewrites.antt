@@ -13,7 +13,7 @@
 --   Rewritten file entry out table
 --                    the file has values; a new writer accepts each call that writes them again in order, and the close
 --                    at the entry; it has then written as many bytes as the file has, and they are the file, and what it has listed are
---                    the values' starts
+--                    the values' starts; each call but the close is made from what the reader returns there
 use Prim.Native.Nat.{ℕ, _+_, _-_}
 use mathlib.Core.Path.{_≡_}
 use mathlib.Core.List.{List, [], _∷_, _++_}
@@ -21,7 +21,7 @@ use lib.Dec.{eqb}
 use lib.IntN.{pos, negsuc}
 use lib.ListN.{length, take, getD}
 use Rattle.prelude.specs.Pick.{pick}
-use Rattle.prelude.specs.Answer.{ok}
+use Rattle.prelude.specs.Answer.{ok, bind}
 use Rattle.little_endian.specs.LittleEndian.{fromLittle}
 use Rattle.token.specs.Token.{Token, emit}
 use Rattle.values.specs.Values.{Value, tokens, bytes, starts, Each, WellFormed}
@@ -32,9 +32,12 @@ use Rattle.writer.specs.Step.{fresh}
 use Rattle.writer.specs.Runs.{runs}
 use Rattle.writer.specs.Given.{Given}
 use Rattle.writer.specs.declared.Scalar.the-variants.{False, True, Null}
+use Rattle.reader_value.specs.Value.{readOf}
 use Rattle.reader_value.specs.declared.Value.{Value as ReadValue}
 use Rattle.reader_value.specs.declared.Value.the-variants.{False as ReadFalse, True as ReadTrue, Null as ReadNull, Integer, Float32, Float64}
 use Rattle.reader_value.specs.declared.Value.the-variants.{Text, Bytes, Array, Map, Tag, Variant, Variant1, VariantN, Reference, Pointer}
+use Rattle.reader_body.specs.Body.{bodyOf}
+use Rattle.guarantees.specs.Places.{TokenAt}
 
 abbrev pub callRows : ℕ → Token → List Call
 callRows q t =
@@ -99,3 +102,5 @@ pub record Rewritten (file : List ℕ) (entry : ℕ) (out table : List ℕ) : Ty
   pub written : runs (rewriting values entry) fresh out table .writer .written ≡ length file
   pub same : let r = runs (rewriting values entry) fresh out table in take (r .writer .written) (r .out) ≡ file
   pub listed : let r = runs (rewriting values entry) fresh out table in take (r .writer .count) (r .table) ≡ starts 0 values
+  -- each call is made from what the reader returns for the value or item
+  pub read : (j q : ℕ) (t : Token) → TokenAt values j q t → bind (readOf file q) (λ v. ok (callOfValue v (bodyOf file q))) ≡ ok (callOf q t)

@@ -1,7 +1,7 @@
 -- The table's column "immediate" and the reserved kinds, as document 01 has them.
 use mathlib.Core.Path.{_≡_, refl}
 use mathlib.Core.Bool.{true, false, not, _&&_}
-use mathlib.Core.List.{List, [], _∷_, map}
+use mathlib.Core.List.{[], _∷_, map}
 use lib.Dec.{eqb, ltb}
 use Rattle.kind.specs.Kind.{table, immediate}
 

@@ -2,16 +2,15 @@
 --
 -- In order: the part `&s[k..]`; `sets d i p` of `lib.Seq`, the list d with p stored from index i on; `Put` and `PutAt`, and from
 -- `Put` to `store`.
-use mathlib.Core.Path.{_≡_, refl, sym, ap, _∙_}
+use mathlib.Core.Path.{_≡_, sym, ap, _∙_}
 use mathlib.Core.List.{List, [], _∷_, _++_, append-nil}
 use Prim.Native.Nat.{ℕ, zero, suc, _+_, _-_, _≤_, _<_}
 use native.Mathlib.Nat.{zero-add, add-zero, add-suc, suc-add, le-add-right}
 use native.Mathlib.Omega.{arith}
-use lib.ListN.{length, take, drop, set, length-set, length-drop, length-append, take-append-drop, drop-of-length-le}
+use lib.ListN.{length, take, drop, set, length-drop, length-append, take-append-drop, drop-of-length-le}
 use lib.Seq.{drop-append-seam, drop-drop, sets, sets-eq, length-sets, take-all, drop-set-add, take-set-le}
 use borrow.Author.Tests.{le-leb, lt-leb}
 use borrow.Rule.Slice.PartMut.{putMid}
-use Rattle.prelude.specs.Pick.{pick}
 use Rattle.prelude.specs.Bytes.{Bytes, stored, store, Put, PutAt}
 
 -- ---- the part from k on

@@ -11,7 +11,7 @@ use native.Mathlib.Omega.{arith}
 use borrow.Author.Tests.{not-true, not-false}
 use lib.ListN.{length, drop, length-drop, length-append}
 use lib.Seq.{drop-drop}
-use Rattle.prelude.specs.Answer.{Res, got}
+use Rattle.prelude.specs.Answer.{got}
 use Rattle.prelude.proofs.Tests.{facts}
 use Rattle.prelude.proofs.Readers.{orError-by, need-by, need-ok, bind-by, bad-got}
 use Rattle.leb128.proofs.Laws.{get-ends}

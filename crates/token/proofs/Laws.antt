@@ -4,27 +4,25 @@
 -- follows (`scan-emit`); what is scanned is, in shortest form, what would be emitted (`emit-scan`); a fault is placed
 -- at the header (`scan-place`).
 use mathlib.Core.Path.{_≡_, refl, sym, ap, _∙_, subst}
-use Prim.Native.Nat.{ℕ, zero, suc, _+_, _-_, _*_, _/_, _%_, _^_, _≤_, _<_, min, zero-le}
-use mathlib.Core.Bool.{Bool, true, false, not, _&&_, _||_, true≢false}
+use Prim.Native.Nat.{ℕ, _+_, _-_, _*_, _/_, _%_, _^_, _≤_, _<_, min, zero-le}
+use mathlib.Core.Bool.{Bool, true, false, true≢false}
 use mathlib.Core.List.{List, [], _∷_, _++_, append-assoc}
 use native.Mathlib.Omega.{arith}
 use lib.ListN.{length, take, drop, length-append, take-append-drop, length-drop}
 use lib.Seq.{take-at, drop-at, length-take-le}
-use lib.Dec.{leb, ltb}
-use borrow.Author.Tests.{lt-ltb, le-leb, lt-leb, leb-true}
-use Rattle.prelude.specs.Pick.{pick}
+use lib.Dec.{leb}
+use borrow.Author.Tests.{lt-ltb, le-leb, lt-leb}
 use Rattle.prelude.specs.Answer.{Res, got, bad, guard, then, orError, Need, _>>_, _>>=_}
 use Rattle.prelude.specs.Bytes.{Bytes}
 use Rattle.prelude.proofs.Tests.{split, facts}
 use Rattle.prelude.proofs.Readers.{guard-by, orError-by, need-by, bind-by, bad-got}
 use Rattle.prelude.proofs.Parts.{bytes-after}
 use Rattle.error.specs.Error.{Fault, fault}
-use Rattle.leb128.specs.Leb.{put, get}
 use Rattle.leb128.proofs.Laws.{get-put, put-get}
-use Rattle.kind.specs.Kind.{rule, size, counted, immediate}
+use Rattle.kind.specs.Kind.{rule, size, counted}
 use Rattle.kind.specs.declared.Rule.{Rule}
 use Rattle.kind.proofs.Laws.{most-fits}
-use Rattle.token.specs.Token.{Token, token, putIf, emit, Allowed, Fits}
+use Rattle.token.specs.Token.{Token, token, putIf, emit, Fits}
 use Rattle.token.specs.Scan.{getIf, number, body, scanKind, scan}
 
 -- ---- a number that may be there
@@ -89,6 +87,10 @@ pub length-emit : (k n a : ℕ) (b : List ℕ)
     → length (emit (token k n a b)) ≡ 1 + length (putIf (leb 15 n) (n - 15)) + length (putIf (rule k .args) a) + length b
 unfolding emit
 length-emit k n a b = simp length-append (omega arith)
+
+pub emit-pos : (t : Token) → 1 ≤ length (emit t)
+unfolding emit
+emit-pos t = omega arith
 
 -- the header with its numbers
 abbrev front : Token → List ℕ

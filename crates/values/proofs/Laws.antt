@@ -17,15 +17,12 @@ use Rattle.prelude.specs.Search.{among, Rising}
 use Rattle.prelude.proofs.Tests.{split}
 use Rattle.kind.specs.Kind.{rule, counted, pending, immediate}
 use Rattle.kind.proofs.Laws.{immediate-none}
-use Rattle.token.specs.Token.{Token, emit, Fits}
+use Rattle.token.specs.Token.{Token, emit, Allowed, Fits}
+use Rattle.token.proofs.Laws.{emit-pos}
 use Rattle.values.specs.Values.{Value, tokens, bytes, region, starts, Each, Item, Formed, HasTargets, TargetsEarlier}
 use Rattle.values.specs.Paths.{targets}
 
 -- ---- bytes
-
-pub emit-pos : (t : Token) → 1 ≤ length (emit t)
-unfolding emit
-emit-pos t = omega arith
 
 pub bytes-append : (a b : List Token) → bytes (a ++ b) ≡ bytes a ++ bytes b
 unfolding bytes
@@ -52,6 +49,12 @@ size-pos v = omega (arith, items-room (tokens v))
 length-region : (v : Value) (vs : List Value) → length (region (v ∷ vs)) ≡ size v + length (region vs)
 unfolding region
 length-region v vs = length-append (bytes (tokens v)) (region vs)
+
+-- each value has a byte
+pub count-le : (vs : List Value) → length vs ≤ length (region vs)
+unfolding region
+count-le [] = omega arith
+count-le (v ∷ vs) = omega (arith, length-region v vs, size-pos v, count-le vs)
 
 -- ---- starts
 
@@ -131,14 +134,14 @@ value-at (v ∷ vs) (suc i) h =
 
 -- ---- heads and items fit where they are
 
-pub immediate-counts : (t : Token) → Item t
+pub immediate-counts : (t : Token) → Allowed t → immediate (rule (t .kind)) ≡ true
     → (counted (rule (t .kind)) (t .n) (t .args) ≡ 0) × (pending (rule (t .kind)) (t .n) (t .args) ≡ 0)
-immediate-counts t i =
-    let none = immediate-none (t .kind) (i .immediate) in
-    rw (none .each, none .single, i .sound .allowed .alone (none .args)) (omega arith)
+immediate-counts t f one =
+    let none = immediate-none (t .kind) one in
+    rw (none .each, none .single, f .alone (none .args)) (omega arith)
 
 pub fits-item : (t : Token) → Item t → (s : List ℕ) → Fits true t s
-fits-item t i s = record { allowed = i .sound .allowed; flat = rw (i .immediate); room = omega (arith, immediate-counts t i) }
+fits-item t i s = record { allowed = i .sound .allowed; flat = rw (i .immediate); room = omega (arith, immediate-counts t (i .sound .allowed) (i .immediate)) }
 
 pub fits-head : (v : Value) → Formed v → (s : List ℕ) → Fits false (v .head) (bytes (v .items) ++ s)
 fits-head v f s = record {

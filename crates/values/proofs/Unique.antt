@@ -12,9 +12,9 @@ use native.Mathlib.Omega.{arith}
 use lib.ListN.{length, length-append}
 use lib.Seq.{take-at, drop-at}
 use Rattle.token.specs.Token.{Token, emit, Fits}
-use Rattle.token.proofs.Laws.{scan-emit}
+use Rattle.token.proofs.Laws.{scan-emit, emit-pos}
 use Rattle.values.specs.Values.{Value, bytes, region, Each, Item, Formed, WellFormed}
-use Rattle.values.proofs.Laws.{emit-pos, fits-item, fits-head}
+use Rattle.values.proofs.Laws.{fits-item, fits-head}
 
 pub first-same : (inner : Bool) (t u : Token) (r s : List ℕ) → Fits inner t r → Fits inner u s → emit t ++ r ≡ emit u ++ s → (t ≡ u) × (r ≡ s)
 first-same inner t u r s f g e =

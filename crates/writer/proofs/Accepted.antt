@@ -10,14 +10,11 @@ use borrow.Author.Tests.{ltb-false, leb-false, eqb-false}
 use Rattle.prelude.specs.Answer.{ok}
 use Rattle.prelude.proofs.Tests.{pick-elim}
 use Rattle.token.specs.Token.{Token, emit}
+use Rattle.token.proofs.Laws.{emit-pos}
 use Rattle.writer_refusal.specs.Refusal.{limit, room}
 use Rattle.writer_refusal.specs.declared.State.{State}
 use Rattle.writer_refusal.proofs.Refusals.{sound, Granted, refusal-inv, refusal-ok, word-free}
 use Rattle.writer.specs.Step.{bytesNeeded, tokenFlags, deltaFlags, tokenRefusal, deltaRefusal, startOf}
-
-pub emit-pos : (t : Token) → 0 < length (emit t)
-unfolding emit
-emit-pos t = omega arith
 
 -- ---- no items pending
 

@@ -15,7 +15,7 @@ use Rattle.error.specs.declared.ErrorKind.{ErrorKind}
 use Rattle.leb128.proofs.Sizes.{length-put-le}
 use Rattle.kind.specs.Kind.{rule}
 use Rattle.token.specs.Token.{Token, token, putIf, emit}
-use Rattle.token.proofs.Laws.{length-emit}
+use Rattle.token.proofs.Laws.{length-emit, emit-pos}
 use Rattle.writer_refusal.specs.Refusal.{limit, Verdict, isOk, refusalOf}
 use Rattle.writer_refusal.specs.declared.State.{State}
 use Rattle.writer_refusal.specs.declared.CallFlags.{CallFlags}
@@ -26,7 +26,7 @@ use Rattle.writer.specs.Answers.{wrote}
 use Rattle.writer.specs.Internal.{ListedTest, Refused, WroteDelta, closeNear, closeFar}
 use Rattle.writer.specs.declared.WriteResult.{WriteResult}
 use Rattle.writer.specs.declared.WriteAnswer.the-variants.{Ok, Err}
-use Rattle.writer.proofs.Accepted.{emit-pos, token-inv, room-after, delta-inv, delta-fits}
+use Rattle.writer.proofs.Accepted.{token-inv, room-after, delta-inv, delta-fits}
 use Rattle.writer.proofs.Settled.{refused-settled}
 
 -- ---- by the delta byte

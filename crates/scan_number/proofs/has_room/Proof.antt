@@ -1,5 +1,5 @@
 -- `scan_number::has_room` meets its contract: if n counts anything, it is at most the bytes left, so nothing wraps.
-use mathlib.Core.Path.{_≡_, refl}
+use mathlib.Core.Path.{_≡_}
 use mathlib.Core.Bool.{true, false, _&&_}
 use Prim.Native.Nat.{ℕ, _+_, _-_, _*_, _^_, _≤_, _<_, min}
 use native.Mathlib.Nat.{add-mul, mul-le-mul-left, mul-le-mul-right, zero-mul}
