@@ -6,7 +6,7 @@
  *
  * A file is values back to back, the region, and one last byte, which names the value at which a reader starts,
  * the entry. Offsets count from the file's first byte. A value is a header with its numbers, and then a body or
- * items; an item is a value that has no items itself.
+ * items; an item is of a kind that has no items itself.
  *
  * Any bytes, offsets, indexes, tables and writer states may be handed in. Each call ends with an answer or an
  * error, and touches no memory but what it is handed; what it answers and leaves there is proved for every input
@@ -74,8 +74,8 @@ enum twine_error {
     TWINE_EMPTY = 1,
     /* the file has more than TWINE_LIMIT bytes [0] */
     TWINE_TOO_LONG = 2,
-    /* the region ends inside a number or a body, or a length or count exceeds the bytes left [the header]; an item
-       is wanted at the region's end [that end] */
+    /* the region ends inside a number or a body, or a length or count exceeds the bytes left, or a count of pairs half
+       of them [the header]; an item is wanted at the region's end [that end] */
     TWINE_TRUNC = 3,
     /* a reserved kind or low nibble [the header] */
     TWINE_RESERVED = 4,
@@ -88,7 +88,7 @@ enum twine_error {
     /* a text whose bytes are not text [the header] */
     TWINE_BAD_TEXT = 8,
     /* check: a reference or pointer to something that is not a value that ended before; queries: one that reaches
-       below offset 0 [the header]; writer: not a finished value */
+       below offset 0 [the header]; writer: an offset that starts does not list, or that is not below the bytes written */
     TWINE_BAD_TARGET = 9,
     /* one value more than the table has words [the value's start] */
     TWINE_FULL = 10,
@@ -160,8 +160,8 @@ uint32_t twine_depths(const uint8_t *file, size_t len,
 
    They take any offset of any file, checked or not. TWINE_EMPTY, TWINE_TOO_LONG and TWINE_OUTSIDE come first, then
    the errors of the values that are read. On an error out = {place, 0}, for twine_read {place, 0, 0, 0}. A query
-   tests neither the bytes of a text nor, but for offset 0, a target: TWINE_BAD_TEXT never comes, and a target may be
-   any lower offset. */
+   does not test the bytes of a text, so that TWINE_BAD_TEXT never comes, and of a target only that it is not below
+   offset 0: it may be any lower offset. */
 
 /* Reads the value at an offset, but neither its items nor the bytes of a text. out = {kind, number, first, count};
    first is the offset just after the header's numbers, at which the body or the first item starts.
@@ -185,8 +185,8 @@ uint32_t twine_skip(const uint8_t *file, size_t len, size_t at, uint64_t out[2])
 
 /* An item of the value at an offset, which is not followed; for a map keys and values alternate.
    out = {offset of the item, 0}. TWINE_WRONG_KIND for a kind without items, TWINE_NO_ITEM for an index at or past the
-   count. Its time grows with the items before it: a loop over items takes item 0, and then what twine_skip returns for
-   each. */
+   count. Its time grows with the items before it: for a value that twine_skip accepts, as in a checked file, a loop over
+   items takes item 0, and then what twine_skip returns for each. */
 uint32_t twine_item(const uint8_t *file, size_t len, size_t at, size_t index, uint64_t out[2]);
 
 /* Follows pointers, but not references, from the value at an offset to one that is not a pointer.
@@ -215,8 +215,12 @@ uint32_t twine_body(const uint8_t *file, size_t len, size_t at, uint64_t out[2])
    start of a value that it finishes into the word `count` of starts. TWINE_OK: the state is the next one, and in out
    and starts nothing else has changed. On an error state, out and starts are as they were, in every word and byte.
 
-   A byte of out is held back for the close and for each item pending, so that an open value can always be finished.
-   As many words as out has bytes less one are always enough. After the close the file is the first `written` bytes.
+   One byte of out is held back for the close, and one for each item pending, so that an open value can always be
+   finished. As many words as out has bytes less one are always enough: with those, FULL comes only if out has no room
+   either. After the close the file is the first `written` bytes.
+
+   The finished values are those that starts lists: its first `count` words are their offsets. A reference, a pointer and
+   the close name one of them, which is below `written`.
 
    The first of these that applies is the error: BAD_STATE, CLOSED, OWED, BAD_TEXT, BAD_TARGET, FULL, NO_ROOM. */
 
@@ -253,7 +257,7 @@ uint32_t twine_write_bytes(uint64_t state[TWINE_STATE], const uint8_t *bytes, si
 uint32_t twine_write_variant(uint64_t state[TWINE_STATE], uint32_t index,
                              uint8_t *out, size_t out_len, uint32_t *starts, size_t words);
 
-/* A reference, and a pointer, to the finished value that starts at an offset; TWINE_BAD_TARGET if none does. */
+/* A reference, and a pointer, to the finished value that starts at an offset; TWINE_BAD_TARGET if starts lists none. */
 uint32_t twine_write_reference(uint64_t state[TWINE_STATE], size_t at,
                                uint8_t *out, size_t out_len, uint32_t *starts, size_t words);
 

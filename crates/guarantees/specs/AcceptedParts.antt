@@ -1,7 +1,7 @@
 -- The parts of accepted calls, in the order of the calls, without a model.
 --
 --   partsIn vs         the parts of values, in order: each value's head, and then its items
---   partsAdded l w     what an accepted request adds after w bytes: its part; for a close that a delta byte does not reach, the pointer
+--   partsAdded l w     what an accepted request adds after w bytes: its part; for a close, the pointer if the delta byte does not reach the value closed at
 --   acceptedParts done cs vs
 --                      the parts `done`, and after them those that the calls cs add whose answers, of the list vs, are `ok`
 use Prim.Native.Nat.{ℕ, _-_}

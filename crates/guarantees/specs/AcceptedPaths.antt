@@ -1,4 +1,4 @@
--- What is so of the paths in a file that check accepts (demand 3, last sentence; document 01, "Check and depths", "Questions at an offset").
+-- What holds for the paths in a file that check accepts (demand 3, last sentence; document 01, "Check and depths", "Questions at an offset").
 --
 --   AcceptedPaths file count entry
 --                the file has `count` values; no path from one of them meets a value twice, since the numbers of the values met fall; depths,

@@ -144,7 +144,7 @@ pub record AfterCalls (cs : List Call) (out table : List ℕ) : Type 0 where
   pub targets : let r = runs cs fresh out table in
       (j q : ℕ) (p : Part) → Holds (modelRun cs emptyModel (length out) (length table) .model .finished) j q p → 14 ≤ p .kind
       → Names (r .writer) (r .out) (r .table) j q p
-  -- what is written so far is well formed, closed or not
+  -- the finished values so far are well formed, closed or not
   pub formed : let r = runs cs fresh out table in Each Given cs
       → FormedSoFar (r .writer) (r .out) (r .table) (valuesAt 0 (modelRun cs emptyModel (length out) (length table) .model .finished))
   -- "If a close was accepted, the reader, lent enough words, accepts the file and gives back exactly the book's finished values: starts, kinds,

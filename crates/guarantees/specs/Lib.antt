@@ -12,7 +12,7 @@ pub mod Items
 pub mod Lookup
 -- which errors each call can give
 pub mod Errors
--- what is so of the paths in a file that check accepts
+-- what holds for the paths in a file that check accepts
 pub mod AcceptedPaths
 -- document 01's samples
 pub mod Samples

@@ -6,8 +6,9 @@
 --                        followed
 --   OtherKey file at j key
 --                        item 2j of the map at `at` is there, is followed without fault, and is not the key
---   Found file at key x  the value at `at` reads as a map; item 2i of it is the key for some i, item 2i + 1 is at x, and no earlier key is it
---   Missing file at key  the value at `at` reads as a map and is skipped without fault, and no key of it is `key`
+--   Found file at key x  the value at `at` reads as a map; item 2i of it is the key for some i, item 2i + 1 is at x, and each earlier key is an
+--                        `OtherKey`
+--   Missing file at key  the value at `at` reads as a map and is skipped without fault, and each key of it is an `OtherKey`
 --   NoMap file at        the value at `at` reads, and is not a map
 --
 -- On a well-formed file, by its values:

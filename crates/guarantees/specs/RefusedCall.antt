@@ -1,4 +1,4 @@
--- What a call of the writer is refused for, in any state (document 01, "Writer"), without a test: the reasons as the paper has them, in its order.
+-- What a call of the writer is refused for, in any state (document 01, "Writer"): the reasons as the paper has them, in its order.
 --
 -- The request l of a call (Model.antt) comes in the state s, with an output of n bytes and a table of m words; w are the bytes written.
 --
@@ -8,7 +8,7 @@
 --   Listed s table x   "among the listed words and below w"
 --   BadTarget l s table
 --                      a target or close offset that is not
---   Full l s m         "a new value only": none is open, and the table has no free word. A close adds a value if its delta does not reach the entry
+--   Full l s m         "a new value only": none is open, and the table has no free word. A close adds a value if its delta does not reach the value closed at
 --   itemsAfter p s     the items that are pending after the part p
 --   needs l s          the bytes that the output must have: those written, those of the call, one for each item then pending, and the delta
 --   NoRoom l s n       the output, of which at most LIMIT bytes are used, has fewer

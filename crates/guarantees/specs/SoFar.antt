@@ -2,11 +2,11 @@
 -- value names an earlier finished value").
 --
 --   Rest s out table s′ out′ table′
---                      calls that were made from the state s, the output and the table on, and left the others, have counted upwards only, and what
---                      is after the bytes written and the starts listed is as it was
+--                      calls began with the first state, output and table, and left the second: the counts have not fallen, and what is after
+--                      the bytes written and the starts listed is as it was
 --   Names s out table j q p
---                      the reference or pointer p, a part of value number j, is written at q. It names, by the offset that was handed in, a value
---                      before that one, whose start the table lists: p's number is the word at that value's number
+--                      the reference or pointer p, a part of value number j, is written at q. It names a value before that one: the offset that
+--                      was handed in is the word of the table at that value's index
 --   FormedSoFar s out table vs
 --                      the finished values vs are values that a file may begin with; the output begins with their bytes, and the words listed
 --                      are their starts

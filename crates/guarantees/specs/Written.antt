@@ -1,5 +1,5 @@
--- Lists of calls with the bytes that they write, as document 01 has them: a part of each kind; document 001's file; and
--- the two samples of a close.
+-- Lists of calls with the bytes that they write by the papers' rules: a part of each kind; document 001's file; and document 01's two samples of a
+-- close.
 --
 --   Sample, sample cs n m b ss
 --                 the calls cs, with an output of n bytes and a table of m words, are all accepted; then the bytes b

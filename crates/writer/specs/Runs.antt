@@ -1,4 +1,4 @@
--- Lists of the writer's calls (document 01: each call gets state, output and table as the one before left them).
+-- Lists of the writer's calls: each call gets state, output and table as the one before left them (demand 3).
 --
 --   Ran, ran vs s out table
 --                      the answers of a list of calls, and the state, output and table that the last one left
