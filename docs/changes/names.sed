@@ -11,29 +11,32 @@
 #   Reached: in pointers FollowedHead
 #   Reaches: in pointers FollowsTo; in values HasTarget
 #   Reply: in guarantees SampleAnswer
-#   Stands: in guarantees TokenAt
+#   Stands: in guarantees TokenAt; in its file Taken TakenToken
+#   Stood: in guarantees TakenHead
 #   Taken: in pass TokenTaken
 #   Told: in guarantees ReadValue
 #   Took: in guarantees TookItem
 #   When: in writer IfElse
 #   again: in guarantees callOfValue
-#   aimed: in pass hasTarget; in region target-below
-#   aims: in values has-targets
+#   aimed: in pass hasTarget; in region target-below; in guarantees targeted, targets or target
+#   aims: in values has-targets; in guarantees has-target
 #   ask: in guarantees sampleAnswer
+#   asked, head-asked, item-asked: in guarantees opened-as, head-opened, item-opened
 #   bad: in judge badState; in writer badState
-#   behind: in guarantees tokenEnd; in writer room-after
+#   behind: in guarantees tokenEnd; in writer room-after; in depths, scan, scan_item and token after
 #   bits: in float load
 #   blank: in guarantees emptyModel
 #   bytesOf: in guarantees modelBytes; in scan bodyOn
 #   early: in writer refusalOf
 #   gated: in guarantees opened; in region in-region
 #   good: in judge not-bad; in writer not-bad
+#   head-stands, item-stands, holds-stands: in guarantees head-token-at, item-token-at, holds-at
 #   inside-region: in guarantees in-region-is; in region in-region-same
 #   judge: in pass tokenFault; in writer tokenRefusal
 #   judged: in guarantees answered
 #   kept: in checker keptWords; in guarantees unlessRefused
 #   look: in depth depthTurn
-#   looked: in depth depthTurned
+#   looked: in depth depthTurned; in guarantees and pointers peeked
 #   met: in pointers followed
 #   need: in writer bytesNeeded
 #   next: in pass nextToken
@@ -44,19 +47,22 @@
 #   plain: in guarantees modelValue
 #   put: in writer putToken
 #   reached: in depth targetDepth
+#   reaches: in guarantees target
 #   refusal: in judge refusalOf
 #   refused: in depths depthsRefused; in reply errorC
 #   row: in tell rowC
 #   rows: in guarantees callRows; in read valueRows; in tell rowsC
 #   said: in guarantees valueOfCall
+#   stands: in guarantees taken
 #   tells: in guarantees tokenRows
-#   told: in error faultOf; in leb128 answerOf; in scan answerOf; in writer answerOf
+#   told: in error faultOf; in leb128 answerOf; in scan answerOf; in writer answerOf; in checker and guarantees, as a variable, reported
 #   trail: in pointers followFrom; in utf8 continuation
 #   turn: in pass walkTurn; in pointers followTurn
 #   turned: in pass walkTurned; in pointers followTurned
 #   value: in float fromLittle
 #   walk: in items skipItems
-# (here with the crates' names of before).
+# (here with the crates' names of before). The theorem of a function, F-spec, follows the function's name. In a few places it changes what kept its name:
+# inside, Comes and peek.
 
 # files
 s/(Rattle.leb128(·specs)?\.specs\.)Told\b/\1Answers/g
