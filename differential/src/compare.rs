@@ -5,7 +5,7 @@ use reference::{Call, Checked, Error, ErrorKind, Value, Writer};
 
 use crate::difference::{self, Difference};
 use crate::ffi::{NAME, STATE};
-use crate::lent::Lent;
+use crate::guarded::Guarded;
 use crate::make;
 use crate::product::Product;
 
@@ -19,7 +19,7 @@ const JUNK_OUT: u64 = 0x5a5a_5a5a_a5a5_a5a5;
 pub const ANSWERS: usize = 1 + ErrorKind::ALL.len();
 
 /// An answer's number and its out array.
-type Told<const N: usize> = (u32, [u64; N]);
+type Answer<const N: usize> = (u32, [u64; N]);
 
 /// Puts questions to both programs.
 #[derive(Debug)]
@@ -27,12 +27,12 @@ pub struct Comparer<P> {
     product: P,
     /// How often each answer was met.
     pub met: [u64; ANSWERS],
-    file: Lent<u8>,
+    file: Guarded<u8>,
     /// A key, or the bytes of a writer's call.
-    argument: Lent<u8>,
-    starts: Lent<u32>,
-    depths: Lent<u32>,
-    out: Lent<u64>,
+    argument: Guarded<u8>,
+    starts: Guarded<u32>,
+    depths: Guarded<u32>,
+    out: Guarded<u64>,
     expected_starts: Vec<u32>,
     expected_depths: Vec<u32>,
 }
@@ -43,11 +43,11 @@ impl<P: Product> Comparer<P> {
         Self {
             product,
             met: [0; ANSWERS],
-            file: Lent::new(0),
-            argument: Lent::new(0x41),
-            starts: Lent::new(0x0bad_cafe),
-            depths: Lent::new(0x0bad_f00d),
-            out: Lent::new(0x0bad_0bad_0bad_0bad),
+            file: Guarded::new(0),
+            argument: Guarded::new(0x41),
+            starts: Guarded::new(0x0bad_cafe),
+            depths: Guarded::new(0x0bad_f00d),
+            out: Guarded::new(0x0bad_0bad_0bad_0bad),
             expected_starts: Vec::new(),
             expected_depths: Vec::new(),
         }
@@ -86,7 +86,7 @@ impl<P: Product> Comparer<P> {
         let number = self.product.check(self.file.slice(), self.starts.slice_mut(), out);
         let expected = reference::check(self.file.slice(), &mut self.expected_starts);
         let question = || format!("check with {words} words");
-        self.judge(number, checked(expected), self.are_tables_same(), question)?;
+        self.compare(number, checked(expected), self.are_tables_same(), question)?;
         Ok(expected.ok().map(|checked| checked.count))
     }
 
@@ -103,7 +103,7 @@ impl<P: Product> Comparer<P> {
         let (starts, depths) = (&mut self.expected_starts, &mut self.expected_depths);
         let expected = reference::depths(self.file.slice(), starts, depths);
         let question = || format!("depths with {words} and {words2} words");
-        self.judge(number, checked(expected), self.are_tables_same(), question)
+        self.compare(number, checked(expected), self.are_tables_same(), question)
     }
 
     /// `twine_read`. Returns the kind and the count of items of a value that can be read.
@@ -114,7 +114,7 @@ impl<P: Product> Comparer<P> {
         let file = self.file.slice();
         let expected = reference::read(file, at);
         let end = reference::skip(file, at);
-        self.judge(number, read(expected, at, end), true, || format!("read at {at}"))?;
+        self.compare(number, read(expected, at, end), true, || format!("read at {at}"))?;
         Ok(expected.ok().map(Read::of))
     }
 
@@ -124,7 +124,7 @@ impl<P: Product> Comparer<P> {
         let out = array(self.out.slice_mut());
         let number = self.product.skip(self.file.slice(), at as usize, out);
         let expected = reference::skip(self.file.slice(), at);
-        self.judge(number, offset(expected), true, || format!("skip at {at}"))
+        self.compare(number, offset(expected), true, || format!("skip at {at}"))
     }
 
     /// `twine_item`.
@@ -133,7 +133,7 @@ impl<P: Product> Comparer<P> {
         let out = array(self.out.slice_mut());
         let number = self.product.item(self.file.slice(), at as usize, index as usize, out);
         let expected = reference::item(self.file.slice(), at, index);
-        self.judge(number, offset(expected), true, || format!("item {index} at {at}"))
+        self.compare(number, offset(expected), true, || format!("item {index} at {at}"))
     }
 
     /// `twine_follow`.
@@ -142,8 +142,8 @@ impl<P: Product> Comparer<P> {
         let out = array(self.out.slice_mut());
         let number = self.product.follow(self.file.slice(), at as usize, out);
         let expected = reference::follow(self.file.slice(), at);
-        let told = told(expected, |Followed { offset, hops }| [offset as u64, hops]);
-        self.judge(number, told, true, || format!("follow at {at}"))
+        let answer = answer_of(expected, |Followed { offset, hops }| [offset as u64, hops]);
+        self.compare(number, answer, true, || format!("follow at {at}"))
     }
 
     /// `twine_lookup`.
@@ -157,7 +157,7 @@ impl<P: Product> Comparer<P> {
         if self.argument.slice() != key || !self.argument.is_guarded() {
             return Err(self.touched("the key", question()));
         }
-        self.judge(number, offset(expected), true, question)
+        self.compare(number, offset(expected), true, question)
     }
 
     /// `twine_body`. That the part of the file which it returns is the body follows from the two numbers.
@@ -166,13 +166,13 @@ impl<P: Product> Comparer<P> {
         let out = array(self.out.slice_mut());
         let number = self.product.body(self.file.slice(), at as usize, out);
         let expected = reference::query::body_place(self.file.slice(), at);
-        let told = told(expected, |Body { first, length }| [first as u64, length as u64]);
-        self.judge(number, told, true, || format!("body at {at}"))
+        let answer = answer_of(expected, |Body { first, length }| [first as u64, length as u64]);
+        self.compare(number, answer, true, || format!("body at {at}"))
     }
 
     /// `twine_spell_error`.
     pub fn error_name(&mut self, number: u32) -> Result<(), Difference> {
-        let mut name = Lent::new(0x7e_u8);
+        let mut name = Guarded::new(0x7e_u8);
         name.fill(NAME, 0x7f);
         self.product.error_name(number, array(name.slice_mut()));
         let mut expected = [0; NAME];
@@ -192,10 +192,10 @@ impl<P: Product> Comparer<P> {
 
     /// Compares an answer and its out array, and looks at the guards; the tables were compared before.
     #[inline]
-    fn judge<const N: usize>(
+    fn compare<const N: usize>(
         &mut self,
         number: u32,
-        (expected, out): Told<N>,
+        (expected, out): Answer<N>,
         are_tables_same: bool,
         question: impl FnOnce() -> String,
     ) -> Result<(), Difference> {
@@ -252,7 +252,7 @@ impl<P: Product> Comparer<P> {
 
     /// The state that `twine_writer_new` makes.
     pub fn writer_new(&mut self) -> Result<[u64; STATE], Difference> {
-        let mut state = Lent::new(JUNK_OUT);
+        let mut state = Guarded::new(JUNK_OUT);
         state.fill(STATE, 77);
         let number = self.product.writer_new(array(state.slice_mut()));
         if number == 0 && state.slice() == words(Writer::new()) && state.is_guarded() {
@@ -266,9 +266,9 @@ impl<P: Product> Comparer<P> {
     }
 
     /// A call of the writer. Both get the same state, output and table, and leave theirs in `lent`.
-    pub fn call(&mut self, lent: &mut Writing, call: Call<'_>) -> Result<u32, Difference> {
-        let before = *lent.state();
-        let (answer, next) = make::step(writer(&before), call, &mut lent.second_out, &mut lent.second_starts);
+    pub fn call(&mut self, memory: &mut Writing, call: Call<'_>) -> Result<u32, Difference> {
+        let before = *memory.state();
+        let (answer, next) = make::step(writer(&before), call, &mut memory.second_out, &mut memory.second_starts);
         let expected = answer.map_or_else(|kind| kind.number().into(), |()| 0);
         // A refused call hands back the very same words; an accepted one leaves 0 or 1 for whether it is closed.
         let state = if expected == 0 { words(next) } else { before };
@@ -284,27 +284,27 @@ impl<P: Product> Comparer<P> {
             Call::Bytes(_) => Call::Bytes(argument),
             call => call,
         };
-        let number = lent.with_product(|state, out, starts| self.product.call(state, own, out, starts));
-        let is_guarded = lent.is_guarded() && self.argument.is_guarded() && self.argument.slice() == bytes;
+        let number = memory.with_product(|state, out, starts| self.product.call(state, own, out, starts));
+        let is_guarded = memory.is_guarded() && self.argument.is_guarded() && self.argument.slice() == bytes;
         self.met[expected as usize] += 1;
-        if number == expected && *lent.state() == state && lent.is_same() && is_guarded {
+        if number == expected && *memory.state() == state && memory.is_same() && is_guarded {
             return Ok(number);
         }
-        let mut product = difference::answer(number, lent.state());
+        let mut product = difference::answer(number, memory.state());
         let mut second = difference::answer(expected, &state);
-        if let Some((one, other)) = difference::first("out", lent.out.slice(), &lent.second_out) {
+        if let Some((one, other)) = difference::first("out", memory.out.slice(), &memory.second_out) {
             product += &format!(", {one}");
             second += &format!(", {other}");
         }
-        if let Some((one, other)) = difference::first("starts", lent.starts.slice(), &lent.second_starts) {
+        if let Some((one, other)) = difference::first("starts", memory.starts.slice(), &memory.second_starts) {
             product += &format!(", {one}");
             second += &format!(", {other}");
         }
         if !is_guarded {
             product += ", memory that is not to be written was written to";
         }
-        let (length, words) = (lent.second_out.len(), lent.second_starts.len());
-        let first = &lent.second_starts[..words.min(64)];
+        let (length, words) = (memory.second_out.len(), memory.second_starts.len());
+        let first = &memory.second_starts[..words.min(64)];
         Err(Difference {
             question: format!(
                 "{call:?} in the state {before:?}, with an output of {length} bytes and a table of {words} words, \
@@ -348,11 +348,11 @@ impl Read {
 /// A writer's state, output and table, of which each program has its own.
 #[derive(Debug)]
 pub struct Writing {
-    state: Lent<u64>,
+    state: Guarded<u64>,
     /// The product's output.
-    pub out: Lent<u8>,
+    pub out: Guarded<u8>,
     /// The product's table.
-    pub starts: Lent<u32>,
+    pub starts: Guarded<u32>,
     second_out: Vec<u8>,
     second_starts: Vec<u32>,
 }
@@ -361,9 +361,9 @@ impl Writing {
     /// A state with an output and a table.
     pub fn new(state: [u64; STATE], out: &[u8], starts: &[u32]) -> Self {
         let mut writing = Self {
-            state: Lent::new(JUNK_OUT),
-            out: Lent::new(0xc3),
-            starts: Lent::new(0x0bad_cafe),
+            state: Guarded::new(JUNK_OUT),
+            out: Guarded::new(0xc3),
+            starts: Guarded::new(0x0bad_cafe),
             second_out: out.to_vec(),
             second_starts: starts.to_vec(),
         };
@@ -426,7 +426,7 @@ fn array<T, const N: usize>(slice: &mut [T]) -> &mut [T; N] {
 }
 
 /// The number and the out array of an answer.
-fn told<T, const N: usize>(answer: Result<T, Error>, out: impl FnOnce(T) -> [u64; N]) -> Told<N> {
+fn answer_of<T, const N: usize>(answer: Result<T, Error>, out: impl FnOnce(T) -> [u64; N]) -> Answer<N> {
     match answer {
         Ok(value) => (0, out(value)),
         Err(Error { kind, place }) => {
@@ -437,19 +437,19 @@ fn told<T, const N: usize>(answer: Result<T, Error>, out: impl FnOnce(T) -> [u64
     }
 }
 
-fn checked(answer: Result<Checked, Error>) -> Told<2> {
-    told(answer, |Checked { count, entry }| [count as u64, entry as u64])
+fn checked(answer: Result<Checked, Error>) -> Answer<2> {
+    answer_of(answer, |Checked { count, entry }| [count as u64, entry as u64])
 }
 
-fn offset(answer: Result<usize, Error>) -> Told<2> {
-    told(answer, |offset| [offset as u64, 0])
+fn offset(answer: Result<usize, Error>) -> Answer<2> {
+    answer_of(answer, |offset| [offset as u64, 0])
 }
 
 /// What `twine_read` returns for a value whose end `skip` returns: kind, number, offset after the numbers, count.
-fn read(answer: Result<Value, Error>, at: u64, end: Result<usize, Error>) -> Told<4> {
+fn read(answer: Result<Value, Error>, at: u64, end: Result<usize, Error>) -> Answer<4> {
     // A value without body and items ends after its numbers, and can be skipped if it can be read.
     let end = end.map_or(u64::MAX, |end| end as u64);
-    told(answer, |value| match value {
+    answer_of(answer, |value| match value {
         Value::Scalar(scalar) => [0, scalar as u64, end, 0],
         Value::Integer(integer) => [if integer < 0 { 2 } else { 1 }, integer as u64, end, 0],
         Value::Float32(bits) => [3, bits.into(), at + 1, 4],

@@ -59,8 +59,8 @@ pub fn hex(bytes: &[u8]) -> String {
 /// The first element in which two slices of one length differ, as it is printed of each.
 pub fn first<T: PartialEq + Debug>(what: &str, product: &[T], second: &[T]) -> Option<(String, String)> {
     let index = product.iter().zip(second).position(|(one, other)| one != other)?;
-    let told = |slice: &[T]| format!("{what}[{index}] = {:?}", slice[index]);
-    Some((told(product), told(second)))
+    let shown = |slice: &[T]| format!("{what}[{index}] = {:?}", slice[index]);
+    Some((shown(product), shown(second)))
 }
 
 #[cfg(test)]
@@ -83,7 +83,7 @@ mod tests {
     #[test]
     fn elements() {
         assert_eq!(first("word", &[1, 2], &[1, 2]), None);
-        let told = first("word", &[1, 2], &[1, 3]);
-        assert_eq!(told, Some(("word[1] = 2".into(), "word[1] = 3".into())));
+        let shown = first("word", &[1, 2], &[1, 3]);
+        assert_eq!(shown, Some(("word[1] = 2".into(), "word[1] = 3".into())));
     }
 }

@@ -7,7 +7,7 @@ mod difference;
 #[cfg(test)]
 mod faults;
 mod ffi;
-mod lent;
+mod guarded;
 mod make;
 mod options;
 mod product;

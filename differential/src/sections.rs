@@ -305,12 +305,12 @@ fn calls<P: Product>(comparer: &mut Comparer<P>, mut case: Case) -> Result<(), D
     let length = random.pick(&[0, 1, 2, 3, 9, 40, 300, 600, 900]);
     let length = length + random.index(1 + length / 2);
     let words = random.pick(&[0, 1, 2, 9, length, length]) + random.index(3);
-    let mut lent = Writing::new(comparer.writer_new()?, &junk(random, length), &listed(random, length, words));
+    let mut memory = Writing::new(comparer.writer_new()?, &junk(random, length), &listed(random, length, words));
     let mut model = Model::new(length, words);
     let number = random.index(60);
     for index in 0..number + 8 {
-        let &[_, count, pending, ..] = lent.state();
-        let starts = &lent.starts.slice()[..count as usize];
+        let &[_, count, pending, ..] = memory.state();
+        let starts = &memory.starts.slice()[..count as usize];
         // The last calls finish the open value, close the file and find it closed.
         let call = match (index < number, starts.last()) {
             (true, _) => match make::call(random, starts, pending > 0) {
@@ -320,21 +320,21 @@ fn calls<P: Product>(comparer: &mut Comparer<P>, mut case: Case) -> Result<(), D
             (false, Some(_)) if pending == 0 => Call::Close(random.pick(starts).into()),
             (false, _) => Call::Scalar(Scalar::Null),
         };
-        let answer = comparer.call(&mut lent, call)?;
-        let told = model.call(call).map_or_else(|kind| kind.number().into(), |()| 0_u32);
+        let answer = comparer.call(&mut memory, call)?;
+        let expected = model.call(call).map_or_else(|kind| kind.number().into(), |()| 0_u32);
         let is_last = index + 1 == number + 8;
-        if answer != told || ((is_last || random.one_in(8)) && !is_in(&model, &lent)) {
-            let product = format!("{} {:?}", difference::answer(answer, lent.state()), lent.out.slice());
+        if answer != expected || ((is_last || random.one_in(8)) && !is_in(&model, &memory)) {
+            let product = format!("{} {:?}", difference::answer(answer, memory.state()), memory.out.slice());
             let question = format!("{call:?}, call {index} of a new writer with {length} bytes and {words} words");
-            let second = format!("{} {model:?}", difference::answer(told, &[]));
+            let second = format!("{} {model:?}", difference::answer(expected, &[]));
             return Err(Difference { question, product, second });
         }
     }
-    let &[written, count, _, _, closed] = lent.state();
+    let &[written, count, _, _, closed] = memory.state();
     if closed == 0 {
         return Ok(());
     }
-    let file = &lent.out.slice()[..written as usize];
+    let file = &memory.out.slice()[..written as usize];
     comparer.of_file(file, 0xff, |comparer| {
         let checked = comparer.check(words)?;
         if checked == Some(count as usize) {
@@ -349,12 +349,12 @@ fn calls<P: Product>(comparer: &mut Comparer<P>, mut case: Case) -> Result<(), D
 }
 
 /// Whether a model has what a writer has left.
-fn is_in(model: &Model, lent: &Writing) -> bool {
-    let &[written, count, pending, _, closed] = lent.state();
-    let starts = lent.starts.slice()[..count as usize].iter().map(|start| u64::from(*start));
-    model.bytes() == lent.out.slice()[..written as usize]
+fn is_in(model: &Model, memory: &Writing) -> bool {
+    let &[written, count, pending, _, closed] = memory.state();
+    let starts = memory.starts.slice()[..count as usize].iter().map(|start| u64::from(*start));
+    model.bytes() == memory.out.slice()[..written as usize]
         && model.starts().into_iter().eq(starts)
-        && model.owed() == u128::from(pending)
+        && model.pending() == u128::from(pending)
         && model.is_closed() == (closed != 0)
 }
 
@@ -366,21 +366,21 @@ fn states<P: Product>(comparer: &mut Comparer<P>, mut case: Case) -> Result<(), 
     let words = if random.one_in(40) { 4000 } else { 12 };
     let words = random.index(words);
     let first = state(random, length, words);
-    let mut lent = Writing::new(first, &junk(random, length), &listed(random, length, words));
+    let mut memory = Writing::new(first, &junk(random, length), &listed(random, length, words));
     for _ in 0..1 + random.index(8) {
         if random.one_in(4) {
-            let length = nearly(random, lent.out.slice().len());
-            let words = nearly(random, lent.starts.slice().len());
+            let length = nearly(random, memory.out.slice().len());
+            let words = nearly(random, memory.starts.slice().len());
             let word = random.below(length as u64 + 2) as u32;
-            lent.resize(length, words, random.next() as u8, word);
+            memory.resize(length, words, random.next() as u8, word);
         }
         if random.one_in(4) {
-            let (length, words) = (lent.out.slice().len(), lent.starts.slice().len());
-            lent.set_state(state(random, length, words));
+            let (length, words) = (memory.out.slice().len(), memory.starts.slice().len());
+            memory.set_state(state(random, length, words));
         }
-        let is_open = lent.state()[2] > 0;
-        let call = make::call(random, lent.starts.slice(), is_open);
-        comparer.call(&mut lent, call)?;
+        let is_open = memory.state()[2] > 0;
+        let call = make::call(random, memory.starts.slice(), is_open);
+        comparer.call(&mut memory, call)?;
     }
     Ok(())
 }
@@ -399,21 +399,21 @@ fn edge<P: Product>(comparer: &mut Comparer<P>, mut case: Case) -> Result<(), Di
     let random = &mut case.random;
     let length = MAX_LEN + random.pick(&[0, 0, 1, 20]) - random.pick(&[0, 0, 1, 2]);
     let byte = random.next() as u8;
-    let mut lent = Writing::new([0; STATE], &vec![byte; length], &[0; 4]);
+    let mut memory = Writing::new([0; STATE], &vec![byte; length], &[0; 4]);
     for _ in 0..12 {
         let back = random.pick(&[0, 1, 2, 3, 4, 5, 6, 7, 8, 9, 12, 15, 20, 30, 300, 400]);
         let written = MAX_LEN as u64 + 1 - back;
         let near = written as u32 - random.pick(&[1, 2, 9, 255, 256, 257, 258]);
         let starts = [random.next() as u32 >> 8, near, written as u32, near - 1];
-        lent.resize(length, 0, byte, 0);
+        memory.resize(length, 0, byte, 0);
         for (index, start) in starts.iter().enumerate() {
-            lent.resize(length, index + 1, byte, *start);
+            memory.resize(length, index + 1, byte, *start);
         }
         let pending = random.pick(&[0, 0, 0, 1, 2, 3, u64::MAX]);
         let start = written - random.pick(&[0, 1, 1, 1, 2, 3]);
-        lent.set_state([written, random.below(5), pending, start, random.pick(&[0, 0, 0, 0, 0, 7])]);
+        memory.set_state([written, random.below(5), pending, start, random.pick(&[0, 0, 0, 0, 0, 7])]);
         let call = make::call(random, &starts, pending > 0);
-        comparer.call(&mut lent, call)?;
+        comparer.call(&mut memory, call)?;
     }
     Ok(())
 }

@@ -184,10 +184,10 @@ mod tests {
         refused("41 c2 80 00", BadText, 0);
         refused("61 41 ff 02", BadText, 1);
         // The same with bytes after it, which are passed quickly.
-        let behind = "10".repeat(16);
-        refused(&format!("42 c1 bf {behind} 00"), BadText, 0);
-        refused(&format!("41 c2 {behind} 00"), BadText, 0);
-        refused(&format!("42 61 c2 {behind} 00"), BadText, 0);
+        let after = "10".repeat(16);
+        refused(&format!("42 c1 bf {after} 00"), BadText, 0);
+        refused(&format!("41 c2 {after} 00"), BadText, 0);
+        refused(&format!("42 61 c2 {after} 00"), BadText, 0);
     }
 
     #[test]

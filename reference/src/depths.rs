@@ -55,7 +55,7 @@ mod tests {
     use crate::testing::{hex, refusal, DOCUMENT_001, JUNK};
 
     /// The depths of a file by tables of these lengths; the words that have to be 0 are looked at.
-    fn told(words: [usize; 2], file: &str) -> Result<Vec<u32>, Error> {
+    fn depths_of(words: [usize; 2], file: &str) -> Result<Vec<u32>, Error> {
         let [mut first, mut second] = words.map(|words| vec![JUNK; words]);
         let answer = depths(&hex(file), &mut first, &mut second);
         let used = answer.map_or(0, |checked| checked.count);
@@ -66,33 +66,33 @@ mod tests {
 
     #[test]
     fn samples_of_document_01() {
-        assert_eq!(told([2, 2], "00 00"), Ok(vec![1]));
-        assert_eq!(told([6, 5], DOCUMENT_001), Ok(vec![1, 2, 3, 4]));
-        assert_eq!(told([3, 2], "1f 1b e1 00"), Ok(vec![1, 2]));
+        assert_eq!(depths_of([2, 2], "00 00"), Ok(vec![1]));
+        assert_eq!(depths_of([6, 5], DOCUMENT_001), Ok(vec![1, 2, 3, 4]));
+        assert_eq!(depths_of([3, 2], "1f 1b e1 00"), Ok(vec![1, 2]));
     }
 
     #[test]
     fn the_deepest_target_counts() {
-        assert_eq!(told([3, 3], "10 f0 10 00"), Ok(vec![1, 2, 1]));
-        assert_eq!(told([2, 2], "10 62 e1 f2 02"), Ok(vec![1, 2]));
-        assert_eq!(told([4, 4], "10 f0 62 f1 f3 f2 00"), Ok(vec![1, 2, 3, 4]));
-        assert_eq!(told([4, 4], "10 f0 f1 62 f1 f3 02"), Ok(vec![1, 2, 2, 3]));
-        assert_eq!(told([5, 5], "10 71 e1 f2 80 f4 b0 e6 c0 02 10 f9 03"), Ok(vec![1, 2, 2, 2, 3]));
+        assert_eq!(depths_of([3, 3], "10 f0 10 00"), Ok(vec![1, 2, 1]));
+        assert_eq!(depths_of([2, 2], "10 62 e1 f2 02"), Ok(vec![1, 2]));
+        assert_eq!(depths_of([4, 4], "10 f0 62 f1 f3 f2 00"), Ok(vec![1, 2, 3, 4]));
+        assert_eq!(depths_of([4, 4], "10 f0 f1 62 f1 f3 02"), Ok(vec![1, 2, 2, 3]));
+        assert_eq!(depths_of([5, 5], "10 71 e1 f2 80 f4 b0 e6 c0 02 10 f9 03"), Ok(vec![1, 2, 2, 2, 3]));
     }
 
     #[test]
     fn refusals_of_check_come_first() {
-        assert_eq!(told([2, 0], "61 f0 01"), Err(refusal(BadTarget, 1)));
-        assert_eq!(told([2, 0], "41 61 41 61 00"), Err(refusal(BadEntry, 4)));
-        assert_eq!(told([1, 0], "10 11 00"), Err(refusal(Full, 1)));
-        assert_eq!(told([0, 0], ""), Err(refusal(Empty, 0)));
+        assert_eq!(depths_of([2, 0], "61 f0 01"), Err(refusal(BadTarget, 1)));
+        assert_eq!(depths_of([2, 0], "41 61 41 61 00"), Err(refusal(BadEntry, 4)));
+        assert_eq!(depths_of([1, 0], "10 11 00"), Err(refusal(Full, 1)));
+        assert_eq!(depths_of([0, 0], ""), Err(refusal(Empty, 0)));
     }
 
     #[test]
     fn the_second_table_is_too_short() {
-        assert_eq!(told([2, 0], "10 11 00"), Err(refusal(Full, 0)));
-        assert_eq!(told([2, 1], "1f 1b e1 00"), Err(refusal(Full, 2)));
-        assert_eq!(told([9, 2], "10 f0 f0 f0 00"), Err(refusal(Full, 2)));
+        assert_eq!(depths_of([2, 0], "10 11 00"), Err(refusal(Full, 0)));
+        assert_eq!(depths_of([2, 1], "1f 1b e1 00"), Err(refusal(Full, 2)));
+        assert_eq!(depths_of([9, 2], "10 f0 f0 f0 00"), Err(refusal(Full, 2)));
     }
 
     #[test]

@@ -132,7 +132,7 @@ mod tests {
             bytes.extend([0xff; 4]);
             assert_eq!(read(&bytes, 0), Ok((number, size)), "before other bytes");
             bytes.insert(0, 0x1f);
-            assert_eq!(read(&bytes, 1), Ok((number, size + 1)), "behind a header");
+            assert_eq!(read(&bytes, 1), Ok((number, size + 1)), "after a header");
         }
     }
 

@@ -83,8 +83,8 @@ impl Model {
 
     /// The items that the open value still owes.
     #[must_use]
-    pub fn owed(&self) -> u128 {
-        self.open.as_ref().map_or(0, Value::owed)
+    pub fn pending(&self) -> u128 {
+        self.open.as_ref().map_or(0, Value::pending)
     }
 
     /// Whether the file is closed.
@@ -107,8 +107,8 @@ impl Model {
     /// "An opening, or with none owed an immediate, is a new value of the row; one that owes items takes the next
     /// immediates and is finished when it owes none."
     fn add(&mut self, token: Token) -> Result<(), ErrorKind> {
-        let owed = self.owed();
-        if token.is_opening() && owed > 0 {
+        let pending = self.pending();
+        if token.is_opening() && pending > 0 {
             return Err(ErrorKind::Owed);
         }
         if let Token::Text(text) = &token {
@@ -119,10 +119,10 @@ impl Model {
         if let Token::Reference(target) | Token::Pointer(target) = token {
             self.require_start(target)?;
         }
-        if owed == 0 {
+        if pending == 0 {
             self.require_word()?;
         }
-        let owed_after = if token.is_opening() { token.items() } else { owed.saturating_sub(1) };
+        let owed_after = if token.is_opening() { token.items() } else { pending.saturating_sub(1) };
         self.require_room(&token, owed_after)?;
 
         let value = match self.open.take() {
@@ -132,7 +132,7 @@ impl Model {
             }
             None => Value { head: token, items: Vec::new() },
         };
-        if value.owed() > 0 {
+        if value.pending() > 0 {
             self.open = Some(value);
         } else {
             self.finished.push(value);
@@ -142,7 +142,7 @@ impl Model {
 
     /// "A close adds the pointer, if one is needed, as the last finished value, then the delta byte."
     fn close(&mut self, entry: u64) -> Result<(), ErrorKind> {
-        if self.owed() > 0 {
+        if self.pending() > 0 {
             return Err(ErrorKind::Owed);
         }
         self.require_start(entry)?;
@@ -183,11 +183,11 @@ impl Model {
     }
 
     /// `NO_ROOM` "if its bytes plus items owed exceed the room".
-    fn require_room(&self, token: &Token, owed: u128) -> Result<(), ErrorKind> {
+    fn require_room(&self, token: &Token, pending: u128) -> Result<(), ErrorKind> {
         let written = self.bytes().len();
         let size = token.bytes(written).len() as u128;
         let room = self.longest().saturating_sub(1 + written as u128);
-        if size + owed <= room {
+        if size + pending <= room {
             Ok(())
         } else {
             Err(ErrorKind::NoRoom)
@@ -201,7 +201,7 @@ impl Model {
 }
 
 impl Value {
-    fn owed(&self) -> u128 {
+    fn pending(&self) -> u128 {
         self.head.items() - self.items.len() as u128
     }
 
@@ -332,7 +332,7 @@ mod tests {
         let model = Model::new(9, 9);
         assert_eq!(model.bytes(), []);
         assert_eq!(model.starts(), []);
-        assert_eq!(model.owed(), 0);
+        assert_eq!(model.pending(), 0);
         assert!(!model.is_closed());
     }
 
@@ -347,7 +347,7 @@ mod tests {
     #[test]
     fn a_start_is_listed_when_its_value_is_finished() {
         let mut model = fed(99, 9, &[Call::Array(2), Call::Integer(1)]);
-        assert_eq!(model.owed(), 1);
+        assert_eq!(model.pending(), 1);
         assert_eq!(model.bytes(), hex("62 11"));
         assert_eq!(model.starts(), []);
         assert_eq!(model.call(Call::Pointer(0)), Err(BadTarget));

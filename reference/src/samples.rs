@@ -153,8 +153,8 @@ fn list(words: &[u32]) -> String {
 mod tests {
     use super::answer;
 
-    fn answered(line: &str, behind: &str) {
-        assert_eq!(answer(line), format!("{line}: {behind}"));
+    fn answered(line: &str, after: &str) {
+        assert_eq!(answer(line), format!("{line}: {after}"));
     }
 
     #[test]

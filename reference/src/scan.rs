@@ -98,17 +98,17 @@ fn walk<N: Note>(region: &[u8], delta: u8, starts: &mut [u32], before: &mut [u32
             return Err(ErrorKind::Full.at(at));
         }
         let start = at;
-        let (mut owed, end) = match quick_value(region, at, &row, note) {
+        let (mut pending, end) = match quick_value(region, at, &row, note) {
             Some(found) => found,
             None => thorough(region, token::read(region, at)?, &row, note)?,
         };
         at = end;
-        while owed > 0 {
+        while pending > 0 {
             at = match quick_immediate(region, at, &row, note) {
                 Some(end) => end,
                 None => thorough(region, token::read_item(region, at)?, &row, note)?.1,
             };
-            owed -= 1;
+            pending -= 1;
         }
         note.finished(row.count);
         row.list(start);

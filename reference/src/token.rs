@@ -79,13 +79,13 @@ fn decide(region: &[u8], at: usize, header: u8, item: bool) -> Result<Token, Err
     if item && !kind.immediate {
         return Err(ErrorKind::Nested);
     }
-    let (n, behind) = number(region, at, low, kind.most)?;
+    let (n, after) = number(region, at, low, kind.most)?;
     let (first, second) = match kind.body {
         Body::Arguments => {
-            let (count, end) = leb128::read(region, behind)?;
+            let (count, end) = leb128::read(region, after)?;
             (end, count)
         }
-        _ => (behind, 0),
+        _ => (after, 0),
     };
     // The bytes left; a body of bytes or a count is compared with them before it is used.
     let left = (region.len() - first) as u64;
@@ -126,14 +126,14 @@ fn number(region: &[u8], at: usize, low: u8, most: u64) -> Result<(u64, usize), 
 pub fn tokens(region: &[u8]) -> impl Iterator<Item = Result<Token, Error>> + '_ {
     let mut next = Some((0, 0));
     std::iter::from_fn(move || {
-        let (at, owed) = next.take()?;
-        if at == region.len() && owed == 0 {
+        let (at, pending) = next.take()?;
+        if at == region.len() && pending == 0 {
             return None;
         }
-        let token = parse(region, at, owed > 0);
+        let token = parse(region, at, pending > 0);
         if let Ok(token) = token {
-            let owed = if owed == 0 { token.items } else { owed - 1 };
-            next = Some((token.end, owed));
+            let pending = if pending == 0 { token.items } else { pending - 1 };
+            next = Some((token.end, pending));
         }
         Some(token)
     })

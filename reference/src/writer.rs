@@ -274,13 +274,13 @@ mod tests {
     const FALSE: Call<'_> = Call::Scalar(Scalar::False);
 
     /// A writer with what it is lent.
-    struct Lent {
+    struct Memory {
         writer: Writer,
         out: Vec<u8>,
         starts: Vec<u32>,
     }
 
-    impl Lent {
+    impl Memory {
         fn new(room: usize, words: usize) -> Self {
             Self { writer: Writer::new(), out: vec![0xaa; room], starts: vec![JUNK; words] }
         }
@@ -316,11 +316,11 @@ mod tests {
 
     #[test]
     fn the_file_of_document_001() {
-        let mut lent = Lent::new(19, 4);
-        lent.calls(&WRITES_DOCUMENT_001);
-        assert_eq!(lent.written(), hex(DOCUMENT_001));
-        assert_eq!(lent.listed(), [0, 6, 8, 11]);
-        assert!(lent.writer.closed);
+        let mut memory = Memory::new(19, 4);
+        memory.calls(&WRITES_DOCUMENT_001);
+        assert_eq!(memory.written(), hex(DOCUMENT_001));
+        assert_eq!(memory.listed(), [0, 6, 8, 11]);
+        assert!(memory.writer.closed);
     }
 
     #[test]
@@ -344,85 +344,85 @@ mod tests {
             (&[Call::VariantN(15, 1), FALSE], "cf 00 01 00"),
         ];
         for (calls, bytes) in cases {
-            let mut lent = Lent::new(64, 1);
-            lent.calls(calls);
-            assert_eq!(lent.written(), hex(bytes));
-            assert_eq!(lent.listed(), [0]);
+            let mut memory = Memory::new(64, 1);
+            memory.calls(calls);
+            assert_eq!(memory.written(), hex(bytes));
+            assert_eq!(memory.listed(), [0]);
         }
     }
 
     #[test]
     fn a_delta_of_255_and_a_pointer() {
-        let mut lent = Lent::new(257, 2);
-        lent.calls(&[Call::Bytes(&[0; 253])]);
-        assert_eq!(lent.writer.written, 256);
-        assert_eq!(lent.call(FALSE), Err(NoRoom));
-        lent.calls(&[Call::Close(0)]);
-        assert_eq!(lent.written()[256], 255);
-        assert_eq!(lent.listed(), [0]);
+        let mut memory = Memory::new(257, 2);
+        memory.calls(&[Call::Bytes(&[0; 253])]);
+        assert_eq!(memory.writer.written, 256);
+        assert_eq!(memory.call(FALSE), Err(NoRoom));
+        memory.calls(&[Call::Close(0)]);
+        assert_eq!(memory.written()[256], 255);
+        assert_eq!(memory.listed(), [0]);
 
-        let mut lent = Lent::new(261, 2);
-        lent.calls(&[Call::Bytes(&[0; 254]), Call::Close(0)]);
-        assert_eq!(lent.written()[257..], hex("ff f1 01 02"));
-        assert_eq!(lent.listed(), [0, 257]);
+        let mut memory = Memory::new(261, 2);
+        memory.calls(&[Call::Bytes(&[0; 254]), Call::Close(0)]);
+        assert_eq!(memory.written()[257..], hex("ff f1 01 02"));
+        assert_eq!(memory.listed(), [0, 257]);
         let closed = Writer { written: 261, count: 2, pending: 0, start: 257, closed: true };
-        assert_eq!(lent.writer, closed);
+        assert_eq!(memory.writer, closed);
     }
 
     #[test]
     fn a_refused_closing_pointer_leaves_nothing_behind() {
         for (room, words, refusal) in [(261, 1, Full), (260, 2, NoRoom), (258, 1, Full)] {
-            let mut lent = Lent::new(room, words);
-            lent.calls(&[Call::Bytes(&[0; 254])]);
-            assert_eq!(lent.call(Call::Close(1)), Err(BadTarget));
-            assert_eq!(lent.call(Call::Close(0)), Err(refusal));
-            assert_eq!(lent.written().len(), 257);
-            assert_eq!(lent.listed(), [0]);
+            let mut memory = Memory::new(room, words);
+            memory.calls(&[Call::Bytes(&[0; 254])]);
+            assert_eq!(memory.call(Call::Close(1)), Err(BadTarget));
+            assert_eq!(memory.call(Call::Close(0)), Err(refusal));
+            assert_eq!(memory.written().len(), 257);
+            assert_eq!(memory.listed(), [0]);
         }
     }
 
     #[test]
     fn the_start_of_the_value_written_to() {
-        let mut lent = Lent::new(32, 9);
-        lent.calls(&[FALSE, FALSE]);
-        assert_eq!(lent.writer.start, 1);
-        lent.calls(&[Call::Array(2)]);
-        assert_eq!((lent.writer.start, lent.writer.pending), (2, 2));
-        lent.calls(&[FALSE, FALSE]);
-        assert_eq!((lent.writer.start, lent.writer.pending), (2, 0));
-        let before = lent.writer;
-        lent.calls(&[Call::Close(0)]);
+        let mut memory = Memory::new(32, 9);
+        memory.calls(&[FALSE, FALSE]);
+        assert_eq!(memory.writer.start, 1);
+        memory.calls(&[Call::Array(2)]);
+        assert_eq!((memory.writer.start, memory.writer.pending), (2, 2));
+        memory.calls(&[FALSE, FALSE]);
+        assert_eq!((memory.writer.start, memory.writer.pending), (2, 0));
+        let before = memory.writer;
+        memory.calls(&[Call::Close(0)]);
         let closed = Writer { written: before.written + 1, closed: true, ..before };
-        assert_eq!(lent.writer, closed);
+        assert_eq!(memory.writer, closed);
     }
 
     #[test]
     fn items_owed_have_their_bytes_kept() {
-        let mut lent = Lent::new(5, 4);
-        assert_eq!(lent.call(Call::Array(4)), Err(NoRoom));
-        lent.calls(&[Call::Array(3)]);
-        assert_eq!(lent.call(Call::Integer(15)), Err(NoRoom));
-        lent.calls(&[FALSE, Call::Integer(14), FALSE]);
-        assert_eq!(lent.call(FALSE), Err(NoRoom));
-        lent.calls(&[Call::Close(0)]);
-        assert_eq!(lent.written(), hex("63 00 1e 00 03"));
+        let mut memory = Memory::new(5, 4);
+        assert_eq!(memory.call(Call::Array(4)), Err(NoRoom));
+        memory.calls(&[Call::Array(3)]);
+        assert_eq!(memory.call(Call::Integer(15)), Err(NoRoom));
+        memory.calls(&[FALSE, Call::Integer(14), FALSE]);
+        assert_eq!(memory.call(FALSE), Err(NoRoom));
+        memory.calls(&[Call::Close(0)]);
+        assert_eq!(memory.written(), hex("63 00 1e 00 03"));
     }
 
     #[test]
     fn more_items_than_64_bits_count() {
-        let mut lent = Lent::new(600, 4);
+        let mut memory = Memory::new(600, 4);
         for pairs in [1 << 63, (1 << 63) - 1, u64::MAX] {
-            assert_eq!(lent.call(Call::Map(pairs)), Err(NoRoom));
+            assert_eq!(memory.call(Call::Map(pairs)), Err(NoRoom));
         }
-        assert_eq!(lent.call(Call::Array(u64::MAX)), Err(NoRoom));
-        assert_eq!(lent.call(Call::VariantN(0, u64::MAX)), Err(NoRoom));
-        lent.calls(&[FALSE]);
+        assert_eq!(memory.call(Call::Array(u64::MAX)), Err(NoRoom));
+        assert_eq!(memory.call(Call::VariantN(0, u64::MAX)), Err(NoRoom));
+        memory.calls(&[FALSE]);
     }
 
     #[test]
     fn openings_while_items_are_owed() {
-        let mut lent = Lent::new(600, 4);
-        lent.calls(&[Call::Array(1)]);
+        let mut memory = Memory::new(600, 4);
+        memory.calls(&[Call::Array(1)]);
         for call in [
             Call::Array(0),
             Call::Map(u64::MAX),
@@ -432,36 +432,36 @@ mod tests {
             Call::Close(0),
             Call::Close(9),
         ] {
-            assert_eq!(lent.call(call), Err(Owed), "{call:?}");
+            assert_eq!(memory.call(call), Err(Owed), "{call:?}");
         }
     }
 
     #[test]
     fn an_open_value_is_no_target() {
-        let mut lent = Lent::new(600, 4);
-        lent.calls(&[FALSE, Call::Array(2)]);
+        let mut memory = Memory::new(600, 4);
+        memory.calls(&[FALSE, Call::Array(2)]);
         for target in [1, 2, u64::MAX] {
-            assert_eq!(lent.call(Call::Pointer(target)), Err(BadTarget));
-            assert_eq!(lent.call(Call::Reference(target)), Err(BadTarget));
+            assert_eq!(memory.call(Call::Pointer(target)), Err(BadTarget));
+            assert_eq!(memory.call(Call::Reference(target)), Err(BadTarget));
         }
-        lent.calls(&[Call::Reference(0), Call::Pointer(0), Call::Pointer(1)]);
-        assert_eq!(lent.written(), hex("00 62 e1 f2 f2"));
+        memory.calls(&[Call::Reference(0), Call::Pointer(0), Call::Pointer(1)]);
+        assert_eq!(memory.written(), hex("00 62 e1 f2 f2"));
     }
 
     #[test]
     fn the_order_of_refusals() {
-        let mut lent = Lent::new(2, 1);
-        assert_eq!(lent.call(Call::Text(&[0xff; 999])), Err(BadText));
-        assert_eq!(lent.call(Call::Bytes(&[0; 9])), Err(NoRoom));
-        assert_eq!(lent.call(Call::Close(0)), Err(BadTarget));
-        lent.calls(&[FALSE]);
-        assert_eq!(lent.call(Call::Text(&[0xff])), Err(BadText));
-        assert_eq!(lent.call(Call::Pointer(9)), Err(BadTarget));
-        assert_eq!(lent.call(Call::Bytes(&[0; 9])), Err(Full));
-        assert_eq!(lent.call(Call::Array(9)), Err(Full));
-        lent.calls(&[Call::Close(0)]);
-        assert_eq!(lent.call(Call::Text(&[0xff])), Err(Closed));
-        assert_eq!(lent.call(Call::Close(9)), Err(Closed));
+        let mut memory = Memory::new(2, 1);
+        assert_eq!(memory.call(Call::Text(&[0xff; 999])), Err(BadText));
+        assert_eq!(memory.call(Call::Bytes(&[0; 9])), Err(NoRoom));
+        assert_eq!(memory.call(Call::Close(0)), Err(BadTarget));
+        memory.calls(&[FALSE]);
+        assert_eq!(memory.call(Call::Text(&[0xff])), Err(BadText));
+        assert_eq!(memory.call(Call::Pointer(9)), Err(BadTarget));
+        assert_eq!(memory.call(Call::Bytes(&[0; 9])), Err(Full));
+        assert_eq!(memory.call(Call::Array(9)), Err(Full));
+        memory.calls(&[Call::Close(0)]);
+        assert_eq!(memory.call(Call::Text(&[0xff])), Err(Closed));
+        assert_eq!(memory.call(Call::Close(9)), Err(Closed));
     }
 
     /// A call of a writer in any state.

@@ -70,7 +70,7 @@ impl Kind {
             12 => Kind::VariantN,
             14 => Kind::Reference,
             15 => Kind::Pointer,
-            _ => unreachable!("libtwine.a tells the kind {number}"),
+            _ => unreachable!("libtwine.a returns the kind {number}"),
         }
     }
 

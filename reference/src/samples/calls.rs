@@ -18,21 +18,21 @@ const JUNK_BYTE: u8 = 0xaa;
 
 /// The answers of a new writer's calls, then what it has written and listed, and what check says of a closed file.
 pub fn answer(room: u64, words: usize, calls: &[&str]) -> String {
-    let mut lent =
-        Lent { out: vec![JUNK_BYTE; room.min(MOST_BYTES) as usize], starts: vec![JUNK_WORD; words], strayed: (false, false) };
+    let mut memory =
+        Memory { out: vec![JUNK_BYTE; room.min(MOST_BYTES) as usize], starts: vec![JUNK_WORD; words], strayed: (false, false) };
     let mut writer = Writer::new();
     let mut answers = String::new();
     for word in calls {
         answers += &match Request::parse(word) {
-            Some(request) => lent.make(&request, &mut writer),
+            Some(request) => memory.make(&request, &mut writer),
             None => "?".to_owned(),
         };
         answers.push(' ');
     }
-    let bytes = &lent.out[..writer.written as usize];
-    let starts = &lent.starts[..writer.count as usize];
+    let bytes = &memory.out[..writer.written as usize];
+    let starts = &memory.starts[..writer.count as usize];
     let mark = |strayed| if strayed { " !" } else { "" };
-    let mut answer = format!("{answers}={}{} /{}{}", hex(bytes), mark(lent.strayed.0), list(starts), mark(lent.strayed.1));
+    let mut answer = format!("{answers}={}{} /{}{}", hex(bytes), mark(memory.strayed.0), list(starts), mark(memory.strayed.1));
     if writer.closed {
         let mut table = [JUNK_WORD; MOST_WORDS as usize];
         answer += " / ";
@@ -42,14 +42,14 @@ pub fn answer(room: u64, words: usize, calls: &[&str]) -> String {
 }
 
 /// What a writer is lent.
-struct Lent {
+struct Memory {
     out: Vec<u8>,
     starts: Vec<u32>,
     /// Whether a byte or a word was changed that a call had not to change.
     strayed: (bool, bool),
 }
 
-impl Lent {
+impl Memory {
     fn make(&mut self, request: &Request, writer: &mut Writer) -> String {
         let (old_out, old_starts) = (self.out.clone(), self.starts.clone());
         let room = request.room.min(self.out.len());
@@ -99,8 +99,8 @@ impl OwnedCall {
 impl Request {
     fn parse(word: &str) -> Option<Self> {
         let (call, room, words) = match word.split_once('@') {
-            Some((call, lent)) => {
-                let (room, words) = lent.split_once(',')?;
+            Some((call, memory)) => {
+                let (room, words) = memory.split_once(',')?;
                 (call, number(room)?, number(words)?)
             }
             None => (word, u64::MAX, u64::MAX),

@@ -42,7 +42,7 @@ fn compare(random: &mut Random, room: usize, words: usize, calls: usize) -> Vec<
         assert_eq!(out[..writer.written as usize], model.bytes());
         let listed: Vec<u64> = starts[..to].iter().copied().map(u64::from).collect();
         assert_eq!(listed, model.starts());
-        assert_eq!(u128::from(writer.pending), model.owed());
+        assert_eq!(u128::from(writer.pending), model.pending());
         assert_eq!(writer.closed, model.is_closed());
     }
     if writer.closed {

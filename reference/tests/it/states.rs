@@ -53,7 +53,7 @@ fn plain(writer: Writer, call: Call<'_>, room: usize, starts: &[u32]) -> Result<
             Err(BadTarget)
         }
     };
-    // The bytes, and the items owed by an opening.
+    // The bytes, and the items that an opening has.
     let (bytes, items) = match call {
         Call::Scalar(scalar) => (head(0, scalar as i128), None),
         Call::Integer(integer) if integer >= 0 => (head(1, integer.into()), None),
@@ -115,19 +115,19 @@ fn plain(writer: Writer, call: Call<'_>, room: usize, starts: &[u32]) -> Result<
     if pending == 0 && count == words {
         return Err(Full);
     }
-    let owed = items.unwrap_or((pending - 1).max(0));
-    if bytes.len() as i128 + owed > (longest - 1 - w).max(0) {
+    let left = items.unwrap_or((pending - 1).max(0));
+    if bytes.len() as i128 + left > (longest - 1 - w).max(0) {
         return Err(NoRoom);
     }
     let start = if pending > 0 { writer.start } else { writer.written };
     let next = Writer {
         written: writer.written + bytes.len() as u64,
-        count: writer.count + u64::from(owed == 0),
-        pending: owed as u64,
+        count: writer.count + u64::from(left == 0),
+        pending: left as u64,
         start,
         closed: false,
     };
-    Ok((bytes, next, (owed == 0).then_some(start as u32)))
+    Ok((bytes, next, (left == 0).then_some(start as u32)))
 }
 
 /// A state that fits what is lent, or nearly fits it.

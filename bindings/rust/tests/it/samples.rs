@@ -116,11 +116,11 @@ fn example_files() {
     for line in expected.lines() {
         let (name, answer) = line.split_once(": ").unwrap();
         let bytes = std::fs::read(examples.join(name.strip_prefix("examples/").unwrap())).unwrap();
-        let told = match File::check(&bytes) {
+        let returned = match File::check(&bytes) {
             Ok(file) => format!("ok {} {}", file.count(), file.entry().offset()),
             Err(error) => format!("{} {}", error.kind, error.place.unwrap()),
         };
-        assert_eq!(told, answer, "{name}");
+        assert_eq!(returned, answer, "{name}");
     }
 
     let bytes = std::fs::read(examples.join("row.twine")).unwrap();

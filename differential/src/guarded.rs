@@ -7,13 +7,13 @@ const GUARD: usize = 8;
 
 /// A slice of any length with guards before and after it, which no call may touch.
 #[derive(Debug)]
-pub struct Lent<T> {
+pub struct Guarded<T> {
     guard: T,
     /// Guard, slice, guard.
     elements: Vec<T>,
 }
 
-impl<T: Copy + PartialEq + Debug> Lent<T> {
+impl<T: Copy + PartialEq + Debug> Guarded<T> {
     /// No elements, between guards of this element.
     pub fn new(guard: T) -> Self {
         Self { guard, elements: vec![guard; 2 * GUARD] }
@@ -46,9 +46,9 @@ impl<T: Copy + PartialEq + Debug> Lent<T> {
     /// Puts another element into the guards.
     pub fn guard_with(&mut self, guard: T) {
         self.guard = guard;
-        let behind = self.elements.len() - GUARD;
+        let after = self.elements.len() - GUARD;
         self.elements[..GUARD].fill(guard);
-        self.elements[behind..].fill(guard);
+        self.elements[after..].fill(guard);
     }
 
     /// The slice between the guards.
@@ -58,15 +58,15 @@ impl<T: Copy + PartialEq + Debug> Lent<T> {
 
     /// The slice between the guards.
     pub fn slice_mut(&mut self) -> &mut [T] {
-        let behind = self.elements.len() - GUARD;
-        &mut self.elements[GUARD..behind]
+        let after = self.elements.len() - GUARD;
+        &mut self.elements[GUARD..after]
     }
 
     /// Whether no guard was touched.
     pub fn is_guarded(&self) -> bool {
         let (before, rest) = self.elements.split_at(GUARD);
-        let behind = &rest[rest.len() - GUARD..];
-        before.iter().chain(behind).all(|element| *element == self.guard)
+        let after = &rest[rest.len() - GUARD..];
+        before.iter().chain(after).all(|element| *element == self.guard)
     }
 }
 
@@ -77,27 +77,27 @@ mod tests {
     #[test]
     fn a_touched_guard_is_seen() {
         for length in [0, 1, 5] {
-            let mut lent = Lent::new(7_u8);
-            lent.fill(length, 1);
-            lent.slice_mut().fill(2);
-            assert!(lent.is_guarded());
+            let mut memory = Guarded::new(7_u8);
+            memory.fill(length, 1);
+            memory.slice_mut().fill(2);
+            assert!(memory.is_guarded());
             for place in [0, GUARD - 1, GUARD + length, 2 * GUARD + length - 1] {
-                lent.elements[place] ^= 1;
-                assert!(!lent.is_guarded(), "{place} of {length}");
-                lent.elements[place] ^= 1;
+                memory.elements[place] ^= 1;
+                assert!(!memory.is_guarded(), "{place} of {length}");
+                memory.elements[place] ^= 1;
             }
         }
     }
 
     #[test]
     fn lengths_and_elements() {
-        let mut lent = Lent::new(7_u32);
-        lent.copy_from(&[1, 2, 3]);
-        lent.resize(5, 9);
-        assert_eq!(lent.slice(), [1, 2, 3, 9, 9]);
-        lent.resize(2, 9);
-        lent.guard_with(8);
-        assert_eq!(lent.slice(), [1, 2]);
-        assert!(lent.is_guarded());
+        let mut memory = Guarded::new(7_u32);
+        memory.copy_from(&[1, 2, 3]);
+        memory.resize(5, 9);
+        assert_eq!(memory.slice(), [1, 2, 3, 9, 9]);
+        memory.resize(2, 9);
+        memory.guard_with(8);
+        assert_eq!(memory.slice(), [1, 2]);
+        assert!(memory.is_guarded());
     }
 }
