@@ -2,6 +2,8 @@
 mod Readers
 -- `get` answers as the bytes say
 mod Numbers
+-- `scan` refuses a token exactly so
+pub mod Heads
 -- the walk refuses a token exactly so
 pub mod Refused
 -- the rows on examples

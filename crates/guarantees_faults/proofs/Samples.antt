@@ -1,8 +1,8 @@
 -- The rows on document 01's samples and on the witnesses of docs/READINGS.md, by the bytes; nothing is read.
 use mathlib.Core.Path.{_≡_, refl, sym, subst}
-use mathlib.Core.Bool.{false}
+use mathlib.Core.Bool.{Bool, true, false, false≢true}
 use mathlib.Core.List.{List, [], _∷_}
-use Prim.Native.Nat.{ℕ, _-_, _/_, _%_, _^_, _≤_}
+use Prim.Native.Nat.{ℕ, _-_, _/_, _%_, _^_, _≤_, _<_}
 use native.Mathlib.Omega.{arith}
 use borrow.Author.Needs.{needs}
 use lib.Dec.{leb, lit≤, lit<}
@@ -13,20 +13,17 @@ use Rattle.leb128.specs.Leb.{value}
 use Rattle.kind.specs.Kind.{rule}
 use Rattle.values.specs.Values.{Each}
 use Rattle.guarantees_faults.specs.Faults as faults
-use Rattle.guarantees_faults.specs.Faults.{GoesOn, Number, NumberIf, Header, Usable, Counted, Whole, RefusedToken}
+use Rattle.guarantees_faults.specs.Faults.{GoesOn, Number, NumberIf, Usable, Counted, Whole, RefusedHead, RefusedToken}
 
--- a value at the front of s, with a word; an item at 1, in the value that starts at 0
+-- a value at the front of s; an item at 1, in the value that starts at 0
 abbrev Value : List ℕ → ℕ → Type 0
-Value s e = RefusedToken s 1 [] 0 0 (fault e 0)
+Value s e = RefusedHead s false 0 (fault e 0)
 
 abbrev Item : List ℕ → ℕ → Type 0
-Item s e = RefusedToken s 1 [] 1 1 (fault e 1)
+Item s e = RefusedHead s true 1 (fault e 1)
 
-first : (h : ℕ) (m : List ℕ) → Header (h ∷ m) 1 [] 0 0 h m
-first h m = record { word = λ z. lit< tt; same = refl }
-
-inner : (g h : ℕ) (m : List ℕ) → Header (g ∷ h ∷ m) 1 [] 1 1 h m
-inner g h m = record { word = λ z. absurd (omega arith); same = refl }
+used : (h : ℕ) (m : List ℕ) → h % 16 < rule (h / 16) .lows → Usable (h ∷ m) false 0 h m
+used h m l = record { header = refl; used = l; flat = λ e. absurd (false≢true e) }
 
 -- A11, A12
 no-word : RefusedToken (0x90 ∷ []) 0 [] 0 0 (fault FULL 0)
@@ -34,16 +31,16 @@ no-word = faults.full refl (lit≤ tt)
 
 reserved-item : Item (0x61 ∷ 0x90 ∷ []) RESERVED
 unfolding rule
-reserved-item = faults.reserved (inner 0x61 0x90 []) (lit≤ tt)
+reserved-item = faults.reserved refl (lit≤ tt)
 
 nested-item : Item (0x61 ∷ 0x6f ∷ []) NESTED
 unfolding rule
-nested-item = faults.nested (inner 0x61 0x6f []) (lit< tt) (lit< tt) refl
+nested-item = faults.nested refl (lit< tt) refl refl
 
 -- an integer of a longer form; A1: the region's end before the tenth byte, and after it
-integer : (m : List ℕ) → Usable (0x1f ∷ m) 1 [] 0 0 0x1f m
+integer : (m : List ℕ) → Usable (0x1f ∷ m) false 0 0x1f m
 unfolding rule
-integer m = record { header = first 0x1f m; used = lit< tt; flat = λ l. absurd (omega arith) }
+integer m = used 0x1f m (lit< tt)
 
 overlong : Value (0x1f ∷ 0x80 ∷ 0 ∷ []) OVERLONG
 overlong = faults.number (integer _) (lit≤ tt) (faults.padded (0x80 ∷ []) [] (lit≤ tt, tt) (lit≤ tt) (lit≤ tt))
@@ -62,15 +59,14 @@ index-first : Value (0xcf ∷ 0xf1 ∷ 0xff ∷ 0xff ∷ 0xff ∷ 0x0f ∷ []) R
 unfolding rule value
 index-first =
     let m : List ℕ = 0xf1 ∷ 0xff ∷ 0xff ∷ 0xff ∷ 0x0f ∷ [] in
-    let u : Usable (0xcf ∷ m) 1 [] 0 0 0xcf m = record { header = first 0xcf m; used = lit< tt; flat = λ l. absurd (omega arith) } in
     let five : Number m (2 ^ 32 - 15) [] =
     faults.number (0xf1 ∷ 0xff ∷ 0xff ∷ 0xff ∷ []) 0x0f [] (search needs) (lit< tt) (lit≤ tt) (λ e. absurd (omega arith)) (λ l. lit≤ tt) in
-    faults.over u (faults.some five) (lit< tt)
+    faults.over (used 0xcf m (lit< tt)) (faults.some five) (lit< tt)
 
 -- a header whose n is its low nibble, of a kind without a second number
-plain : (s : List ℕ) (cap : ℕ) (done : List ℕ) (pending q h : ℕ) (m : List ℕ) → Usable s cap done pending q h m → leb 15 (h % 16) ≡ false
-    → h % 16 ≤ rule (h / 16) .most → rule (h / 16) .args ≡ false → Counted s cap done pending q h (h % 16) 0 m
-plain s cap done pending q h m u small most one = record {
+plain : (s : List ℕ) (inner : Bool) (q h : ℕ) (m : List ℕ) → Usable s inner q h m → leb 15 (h % 16) ≡ false
+    → h % 16 ≤ rule (h / 16) .most → rule (h / 16) .args ≡ false → Counted s inner q h (h % 16) 0 m
+plain s inner q h m u small most one = record {
   after = m;
   numbered = record {
     after = m;
@@ -87,20 +83,18 @@ plain s cap done pending q h m u small most one = record {
 count-first : Value (0x63 ∷ 0x90 ∷ 0x90 ∷ []) TRUNC
 unfolding rule
 count-first =
-    let two : List ℕ = 0x90 ∷ 0x90 ∷ [] in
-    let u : Usable (0x63 ∷ two) 1 [] 0 0 0x63 two = record { header = first 0x63 two; used = lit< tt; flat = λ l. absurd (omega arith) } in
-    faults.short (plain _ _ _ _ _ _ _ u refl (lit≤ tt) refl) (lit< tt)
+    faults.short (plain _ _ _ 0x63 _ (used 0x63 (0x90 ∷ 0x90 ∷ []) (lit< tt)) refl (lit≤ tt) refl) (lit< tt)
 
 -- "lets `61 f0` point at its own array"
-own-array : Item (0x61 ∷ 0xf0 ∷ []) BAD_TARGET
+own-array : RefusedToken (0x61 ∷ 0xf0 ∷ []) 1 [] 1 1 (fault BAD_TARGET 1)
 unfolding rule among
 own-array =
-    let u : Usable (0x61 ∷ 0xf0 ∷ []) 1 [] 1 1 0xf0 [] = record { header = inner _ _ _; used = lit< tt; flat = λ l. refl } in
-    let w : Whole (0x61 ∷ 0xf0 ∷ []) 1 [] 1 1 0xf0 0 [] = record {
+    let u : Usable (0x61 ∷ 0xf0 ∷ []) true 1 0xf0 [] = record { header = refl; used = lit< tt; flat = λ l. refl } in
+    let w : Whole (0x61 ∷ 0xf0 ∷ []) true 1 0xf0 0 [] = record {
       args = 0;
       after = [];
-      numbers = plain _ _ _ _ _ _ _ u refl (lit≤ tt) refl;
+      numbers = plain _ _ _ _ _ u refl (lit≤ tt) refl;
       room = lit≤ tt;
       body = refl;
     } in
-    faults.target w (λ e. absurd (omega arith)) (lit≤ tt) (λ l. refl)
+    faults.target (λ z. absurd (omega arith)) w (λ e. absurd (omega arith)) (lit≤ tt) (λ l. refl)

@@ -1,28 +1,33 @@
 -- What a token is refused for (document 01, "Numbers of refusal"), by the bytes and the kind table alone; nothing here reads.
 --
--- The rows of `RefusedToken` are in the paper's order: "the first fault wins. Within a value: FULL, RESERVED, NESTED, number (TRUNC, then RANGE of the
--- tenth byte, OVERLONG, RANGE of n), the second number of kind 12 likewise, TRUNC of the body, BAD_TEXT, BAD_TARGET". A row says its own fault, and
--- that no row above it applies: `HasWord`, `Header`, `Usable`, `Numbered`, `Counted` and `Whole` gather, step by step, what was not refused.
+-- The rows of `RefusedToken`, and in them those of `RefusedHead`, are in the paper's order: "the first fault wins. Within a value: FULL, RESERVED,
+-- NESTED, number (TRUNC, then RANGE of the tenth byte, OVERLONG, RANGE of n), the second number of kind 12 likewise, TRUNC of the body, BAD_TEXT,
+-- BAD_TARGET". A row says its own fault, and that no row above it applies: `HasWord`, `Header`, `Usable`, `Numbered`, `Counted` and `Whole` gather,
+-- step by step, what was not refused.
 --
 --   Number s n rest      the bytes s are the number n in its shortest form, and then `rest`
 --   BadNumber s e        s begins with no number, for the reason e
 --   NumberIf w s n rest  the same as `Number` if w is true; else there is none, and n is 0
 --
--- A token is wanted at the offset q of the region s. `done` are the starts of the values before it, `cap` is how many words the table has, and `pending`
--- how many items are pending in the open value, or 0 if there is none and a new value is wanted.
+-- A token is wanted at the offset q of the region s, and if `inner` is true, as an item.
 --
---   HasWord              a new value has a word
---   Header h m           .. and a header h is at q, the bytes m after it; its kind is h / 16 and its low nibble h % 16
+--   Header h m           a header h is at q, the bytes m after it; its kind is h / 16 and its low nibble h % 16
 --   Usable h m           .. and its kind and low nibble are in use, and it is an immediate if an item is wanted
 --   Numbered h n m       .. and its number n is within its kind's bound; now m is after the number
 --   Counted h n a m      .. and a is its second number, or 0 if its kind has none
 --   Whole h n b          .. and its body b is in the region, and a byte for each item that it counts
---   RefusedToken f       the token is refused with f: number and place
+--   RefusedHead f        the token is refused with f, number and place, for what its header, numbers and counts say
+--
+-- In check's walk `done` are the starts of the values before it, `cap` is how many words the table has, and `pending` how many items are pending in the
+-- open value, or 0 if there is none and a new value is wanted.
+--
+--   HasWord              a new value has a word
+--   RefusedToken f       the token is refused with f
 use Prim.Native.Nat.{ℕ, _+_, _-_, _/_, _%_, _≤_, _<_}
 use mathlib.Core.Path.{_≡_}
 use mathlib.Core.Bool.{Bool, true, false}
 use mathlib.Core.List.{List, [], _∷_, _++_}
-use lib.Dec.{leb}
+use lib.Dec.{ltb, leb}
 use lib.ListN.{length, take, drop}
 use Rattle.prelude.specs.Search.{among}
 use Rattle.error.specs.Error.{Fault, fault, TRUNC, RESERVED, OVERLONG, RANGE, NESTED, BAD_TEXT, BAD_TARGET, FULL}
@@ -56,18 +61,14 @@ pub data NumberIf : Bool → List ℕ → ℕ → List ℕ → Type 0 where
 
 -- ---- a token
 
-module _ (s : List ℕ) (cap : ℕ) (done : List ℕ) (pending q : ℕ) where
-  abbrev pub HasWord : Type 0
-  HasWord = pending ≡ 0 → length done < cap
-
-  pub record Header (h : ℕ) (m : List ℕ) : Type 0 where
-    pub word : HasWord
-    pub same : drop q s ≡ h ∷ m
+module _ (s : List ℕ) (inner : Bool) (q : ℕ) where
+  abbrev pub Header : ℕ → List ℕ → Type 0
+  Header h m = drop q s ≡ h ∷ m
 
   pub record Usable (h : ℕ) (m : List ℕ) : Type 0 where
     pub header : Header h m
     pub used : h % 16 < rule (h / 16) .lows
-    pub flat : 0 < pending → immediate (rule (h / 16)) ≡ true
+    pub flat : inner ≡ true → immediate (rule (h / 16)) ≡ true
 
   -- n is the low nibble below 15; at 15 a number follows, and n is 15 more than that
   pub record Numbered (h n : ℕ) (m : List ℕ) : Type 0 where
@@ -90,27 +91,37 @@ module _ (s : List ℕ) (cap : ℕ) (done : List ℕ) (pending q : ℕ) where
     pub room : size (rule (h / 16)) n + counted (rule (h / 16)) n args ≤ length after
     pub body : b ≡ take (size (rule (h / 16)) n) after
 
+  pub data RefusedHead : Fault → Type 0 where
+    -- a token is wanted at the region's end
+    ended : length s ≤ q → RefusedHead (fault TRUNC q)
+    -- reserved kind or low
+    reserved : {h : ℕ} {m : List ℕ} → Header h m → rule (h / 16) .lows ≤ h % 16 → RefusedHead (fault RESERVED q)
+    -- an item of a kind that is no immediate
+    nested : {h : ℕ} {m : List ℕ} → Header h m → h % 16 < rule (h / 16) .lows → inner ≡ true → immediate (rule (h / 16)) ≡ false
+        → RefusedHead (fault NESTED q)
+    -- the number: TRUNC, RANGE of the tenth byte, OVERLONG
+    number : {h : ℕ} {m : List ℕ} {e : ℕ} → Usable h m → 15 ≤ h % 16 → BadNumber m e → RefusedHead (fault e q)
+    -- n over its kind's bound, which is at most 2^64-1
+    over : {h v : ℕ} {m rest : List ℕ} → Usable h m → NumberIf (leb 15 (h % 16)) m v rest → rule (h / 16) .most < h % 16 + v
+        → RefusedHead (fault RANGE q)
+    -- the second number likewise
+    second : {h n : ℕ} {m : List ℕ} {e : ℕ} → Numbered h n m → rule (h / 16) .args ≡ true → BadNumber m e → RefusedHead (fault e q)
+    -- the body, or the items counted, exceed the bytes left
+    short : {h n a : ℕ} {m : List ℕ} → Counted h n a m → length m < size (rule (h / 16)) n + counted (rule (h / 16)) n a
+        → RefusedHead (fault TRUNC q)
+
+-- ---- a token in check's walk
+
+module _ (s : List ℕ) (cap : ℕ) (done : List ℕ) (pending q : ℕ) where
+  abbrev pub HasWord : Type 0
+  HasWord = pending ≡ 0 → length done < cap
+
   pub data RefusedToken : Fault → Type 0 where
     -- one value more than the table has words
     full : pending ≡ 0 → cap ≤ length done → RefusedToken (fault FULL q)
-    -- a token is wanted at the region's end
-    ended : HasWord → length s ≤ q → RefusedToken (fault TRUNC q)
-    -- reserved kind or low
-    reserved : {h : ℕ} {m : List ℕ} → Header h m → rule (h / 16) .lows ≤ h % 16 → RefusedToken (fault RESERVED q)
-    -- an item of a kind that is no immediate
-    nested : {h : ℕ} {m : List ℕ} → Header h m → h % 16 < rule (h / 16) .lows → 0 < pending → immediate (rule (h / 16)) ≡ false
-        → RefusedToken (fault NESTED q)
-    -- the number: TRUNC, RANGE of the tenth byte, OVERLONG
-    number : {h : ℕ} {m : List ℕ} {e : ℕ} → Usable h m → 15 ≤ h % 16 → BadNumber m e → RefusedToken (fault e q)
-    -- n over its kind's bound, which is at most 2^64-1
-    over : {h v : ℕ} {m rest : List ℕ} → Usable h m → NumberIf (leb 15 (h % 16)) m v rest → rule (h / 16) .most < h % 16 + v
-        → RefusedToken (fault RANGE q)
-    -- the second number likewise
-    second : {h n : ℕ} {m : List ℕ} {e : ℕ} → Numbered h n m → rule (h / 16) .args ≡ true → BadNumber m e → RefusedToken (fault e q)
-    -- the body, or the items counted, exceed the bytes left
-    short : {h n a : ℕ} {m : List ℕ} → Counted h n a m → length m < size (rule (h / 16)) n + counted (rule (h / 16)) n a
-        → RefusedToken (fault TRUNC q)
-    text : {h n : ℕ} {b : List ℕ} → Whole h n b → h / 16 ≡ 4 → (Text b → ⊥) → RefusedToken (fault BAD_TEXT q)
+    -- what its header, numbers and counts say; an item is wanted if items are pending
+    head : {f : Fault} → HasWord → RefusedHead s (ltb 0 pending) q f → RefusedToken f
+    text : {h n : ℕ} {b : List ℕ} → HasWord → Whole s (ltb 0 pending) q h n b → h / 16 ≡ 4 → (Text b → ⊥) → RefusedToken (fault BAD_TEXT q)
     -- a reference or pointer whose target is below 0, or not the start of a value that ended before
-    target : {h n : ℕ} {b : List ℕ} → Whole h n b → (h / 16 ≡ 4 → Text b) → 14 ≤ h / 16 → (n < q → among (q - n - 1) done ≡ false)
-        → RefusedToken (fault BAD_TARGET q)
+    target : {h n : ℕ} {b : List ℕ} → HasWord → Whole s (ltb 0 pending) q h n b → (h / 16 ≡ 4 → Text b) → 14 ≤ h / 16
+        → (n < q → among (q - n - 1) done ≡ false) → RefusedToken (fault BAD_TARGET q)
