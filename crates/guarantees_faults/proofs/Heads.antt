@@ -93,6 +93,13 @@ module _ (s : List ℕ) (inner : Bool) (q : ℕ) where
     pub whole-body : bodyOn s (headOfWhole w) ≡ b
     whole-body = body-on h n (w .args) (w .after) (omega (arith, w .room)) (counted-end (w .numbers)) ∙ sym (w .body)
 
+    -- the head's end, by the body's first offset
+    pub whole-end : length s - length (w .after) + size (rule (h / 16)) n ≡ headOfWhole w .end
+    whole-end =
+        let end = counted-end (w .numbers) in
+        let long : length s ≡ length (end .front) + length (w .after) = ap length (end .same) ∙ length-append (end .front) (w .after) in
+        omega (arith, w .room, length-drop (size (rule (h / 16)) n) (w .after))
+
     pub scanAt-whole : scanAt inner s q ≡ ok (headOfWhole w)
     unfolding scanAt headOf body guard
     scanAt-whole =

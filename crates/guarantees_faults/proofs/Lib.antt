@@ -6,5 +6,7 @@ mod Numbers
 pub mod Heads
 -- the walk refuses a token exactly so
 pub mod Refused
+-- the queries refuse exactly so
+pub mod Queries
 -- the rows on examples
 mod Samples

@@ -27,11 +27,11 @@ use Rattle.guarantees_faults.proofs.Heads.{headOfWhole, whole-body, sca
 -- ---- tests
 
 -- a test `a && b` that fails, since a excludes b
-excluded : (a b : Bool) → (a ≡ true → b ≡ false) → a && b ≡ false
+pub excluded : (a b : Bool) → (a ≡ true → b ≡ false) → a && b ≡ false
 excluded true b f = f refl
 excluded false b f = refl
 
-excluded-by : (a b : Bool) → a && b ≡ false → a ≡ true → b ≡ false
+pub excluded-by : (a b : Bool) → a && b ≡ false → a ≡ true → b ≡ false
 excluded-by true b e t = e
 excluded-by false b e t = absurd (false≢true t)
 
@@ -87,7 +87,8 @@ module _ (s : List ℕ) (cap : ℕ) (done : List ℕ) (pending q : ℕ) where
         (λ e. faults.text w x (eqb-true _ _ (and-l (eqb (h / 16) 4) _ e))
         (λ t. false≢true (sym (not-true _ (and-r (eqb (h / 16) 4) _ e)) ∙ is ∙ text-isText t)))
         (λ fine. pick-elim Takes (leb 14 (h / 16) && not (ltb n q && among (q - n - 1) done))
-        (λ e. faults.target w x (λ four. isText-text b (sym is ∙ unless-by (eqb (h / 16) 4) _ fine (eq-eqb _ _ four))) (leb-true _ _ (and-l (leb 14 (h / 16)) _ e))
+        (λ e. faults.target w x (λ four. isText-text b (sym is ∙ unless-by (eqb (h / 16) 4) _ fine (eq-eqb _ _ four)))
+        (leb-true _ _ (and-l (leb 14 (h / 16)) _ e))
         (λ l. excluded-by (ltb n q) _ (not-true _ (and-r (leb 14 (h / 16)) _ e)) (lt-ltb n q (omega arith))))
         (λ e. tt))
 
