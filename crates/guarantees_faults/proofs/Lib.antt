@@ -8,5 +8,7 @@ pub mod Heads
 pub mod Refused
 -- the queries refuse exactly so
 pub mod Queries
--- the rows on examples
+-- a token's rows on examples
 mod Samples
+-- the queries' rows on examples
+mod QuerySamples

@@ -22,7 +22,7 @@ Value s e = RefusedHead s false 0 (fault e 0)
 abbrev Item : List ℕ → ℕ → Type 0
 Item s e = RefusedHead s true 1 (fault e 1)
 
-used : (h : ℕ) (m : List ℕ) → h % 16 < rule (h / 16) .lows → Usable (h ∷ m) false 0 h m
+pub used : (h : ℕ) (m : List ℕ) → h % 16 < rule (h / 16) .lows → Usable (h ∷ m) false 0 h m
 used h m l = record { header = refl; used = l; flat = λ e. absurd (false≢true e) }
 
 -- A11, A12
@@ -64,7 +64,7 @@ index-first =
     faults.over (used 0xcf m (lit< tt)) (faults.some five) (lit< tt)
 
 -- a header whose n is its low nibble, of a kind without a second number
-plain : (s : List ℕ) (inner : Bool) (q h : ℕ) (m : List ℕ) → Usable s inner q h m → leb 15 (h % 16) ≡ false
+pub plain : (s : List ℕ) (inner : Bool) (q h : ℕ) (m : List ℕ) → Usable s inner q h m → leb 15 (h % 16) ≡ false
     → h % 16 ≤ rule (h / 16) .most → rule (h / 16) .args ≡ false → Counted s inner q h (h % 16) 0 m
 plain s inner q h m u small most one = record {
   after = m;

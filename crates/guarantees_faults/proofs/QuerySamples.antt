@@ -1,0 +1,109 @@
+-- The rows of specs/Queries.antt on the witnesses of docs/READINGS.md, by the bytes; nothing is read.
+use mathlib.Core.Path.{_≡_, refl}
+use mathlib.Core.Bool.{false, false≢true}
+use mathlib.Core.List.{List, [], _∷_}
+use Prim.Native.Nat.{ℕ, _+_, _-_, _/_, _%_, _≤_, _<_}
+use native.Mathlib.Omega.{arith}
+use lib.Dec.{leb, lit≤, lit<}
+use lib.ListN.{length, take}
+use Rattle.error.specs.Error.{fault, TRUNC, RESERVED, NESTED, BAD_TARGET, OUTSIDE, NO_ITEM, WRONG_KIND}
+use Rattle.kind.specs.Kind.{rule, size, counted, pending}
+use Rattle.guarantees_faults.specs.Faults as faults
+use Rattle.guarantees_faults.specs.Faults.{Usable, Whole}
+use Rattle.guarantees_faults.specs.Queries as queries
+use Rattle.guarantees_faults.specs.Queries.{RefusedQuery, Read, RefusedRead, RefusedSkip, RefusedItem, RefusedFollow, RefusedBody}
+use Rattle.guarantees_faults.proofs.Samples.{used, plain}
+
+-- B1: the offset of the delta byte
+delta-outside : RefusedQuery (0 ∷ []) 0 (λ s. RefusedRead s false 0) (fault OUTSIDE 0)
+delta-outside = queries.outside (lit≤ tt) (lit≤ tt) (lit≤ tt)
+
+-- a value at q whose header is all of its numbers
+module _ (s : List ℕ) (q h : ℕ) (m : List ℕ) (u : Usable s false q h m) (small : leb 15 (h % 16) ≡ false) (most : h % 16 ≤ rule (h / 16) .most)
+    (one : rule (h / 16) .args ≡ false) (room : size (rule (h / 16)) (h % 16) + counted (rule (h / 16)) (h % 16) 0 ≤ length m) where
+  abbrev whole : Whole s false q h (h % 16) (take (size (rule (h / 16)) (h % 16)) m)
+  whole = record { args = 0; after = m; numbers = plain s false q h m u small most one; room = room; body = refl }
+
+  abbrev read : (14 ≤ h / 16 → h % 16 < q) → Read s false q
+  read target = record {
+    header = h;
+    n = h % 16;
+    body = _;
+    whole = whole;
+    kind = h / 16;
+    kindIs = refl;
+    items = pending (rule (h / 16)) (h % 16) 0;
+    itemsAre = refl;
+    end = length s - length m + size (rule (h / 16)) (h % 16);
+    endIs = refl;
+    target = target;
+  }
+
+-- B5: BAD_TARGET before WRONG_KIND
+target-first : RefusedQuery (0xf0 ∷ 0 ∷ []) 0 (λ s. RefusedItem s 0 0) (fault BAD_TARGET 0)
+unfolding rule
+target-first =
+    queries.inside (lit≤ tt) (lit< tt)
+    (queries.value (queries.target (whole (0xf0 ∷ []) 0 0xf0 [] (used 0xf0 [] (lit< tt)) refl (lit≤ tt) refl (lit≤ tt)) (lit≤ tt) (lit≤ tt)))
+
+-- an item of kind 6
+array : Read (0x61 ∷ 0x60 ∷ []) false 0
+unfolding rule
+array = read _ 0 0x61 (0x60 ∷ []) (used 0x61 (0x60 ∷ []) (lit< tt)) refl (lit≤ tt) refl (lit≤ tt) (λ l. absurd (omega arith))
+
+nested-item : RefusedQuery (0x61 ∷ 0x60 ∷ 0 ∷ []) 0 (λ s. RefusedSkip s 0) (fault NESTED 1)
+unfolding rule array
+nested-item =
+    let here = faults.nested refl (lit< tt) refl refl in
+    queries.inside (lit≤ tt) (lit< tt) (queries.items array (record { i = 0; less = lit< tt; p = 1; before = queries.none; refused = queries.head here }))
+
+-- B4: a tag whose item would start at the region's end, which is TRUNC there
+tag : Read (0x81 ∷ []) false 0
+unfolding rule
+tag = read _ 0 0x81 [] (used 0x81 [] (lit< tt)) refl (lit≤ tt) refl (lit≤ tt) (λ l. absurd (omega arith))
+
+tag-skipped : RefusedQuery (0x81 ∷ 0 ∷ []) 0 (λ s. RefusedSkip s 0) (fault TRUNC 1)
+unfolding rule tag
+tag-skipped =
+    let here = faults.ended (lit≤ tt) in
+    queries.inside (lit≤ tt) (lit< tt) (queries.items tag (record { i = 0; less = lit< tt; p = 1; before = queries.none; refused = queries.head here }))
+
+tag-item : RefusedQuery (0x81 ∷ 0 ∷ []) 0 (λ s. RefusedItem s 0 0) (fault TRUNC 1)
+unfolding rule tag
+tag-item = queries.inside (lit≤ tt) (lit< tt) (queries.ended tag refl (lit< tt) queries.none (lit≤ tt))
+
+-- B6: NO_ITEM before the items, which are reserved
+two : Read (0x62 ∷ 0x90 ∷ 0x90 ∷ []) false 0
+unfolding rule
+two = read _ 0 0x62 (0x90 ∷ 0x90 ∷ []) (used 0x62 (0x90 ∷ 0x90 ∷ []) (lit< tt)) refl (lit≤ tt) refl (lit≤ tt) (λ l. absurd (omega arith))
+
+past-the-count : RefusedQuery (0x62 ∷ 0x90 ∷ 0x90 ∷ 0 ∷ []) 0 (λ s. RefusedItem s 0 2) (fault NO_ITEM 0)
+unfolding rule two
+past-the-count = queries.inside (lit≤ tt) (lit< tt) (queries.past two refl (lit≤ tt))
+
+item-before : RefusedQuery (0x62 ∷ 0x90 ∷ 0x90 ∷ 0 ∷ []) 0 (λ s. RefusedItem s 0 1) (fault RESERVED 1)
+unfolding rule two
+item-before =
+    let here = queries.head (faults.reserved refl (lit≤ tt)) in
+    queries.inside (lit≤ tt) (lit< tt)
+    (queries.before two refl (lit< tt) (record { i = 0; less = lit< tt; p = 1; before = queries.none; refused = here }))
+
+-- B14: the place of a fault that following meets, and of WRONG_KIND after following
+pointer : (h : ℕ) → Read (h ∷ 0xf0 ∷ []) false 1
+unfolding rule
+pointer h =
+    let u : Usable (h ∷ 0xf0 ∷ []) false 1 0xf0 [] = record { header = refl; used = lit< tt; flat = λ e. absurd (false≢true e) } in
+    read _ 1 0xf0 [] u refl (lit≤ tt) refl (lit≤ tt) (λ l. lit< tt)
+
+reserved-met : RefusedQuery (0x90 ∷ 0xf0 ∷ 0 ∷ []) 1 (λ s. RefusedFollow s 1) (fault RESERVED 0)
+unfolding rule pointer
+reserved-met =
+    queries.inside (lit≤ tt) (lit< tt) (queries.pointer (pointer 0x90) refl (queries.value (queries.head (faults.reserved refl (lit≤ tt)))))
+
+integer-reached : RefusedQuery (0x10 ∷ 0xf0 ∷ 0 ∷ []) 1 (λ s. RefusedBody s 1) (fault WRONG_KIND 0)
+unfolding rule pointer
+integer-reached =
+    let r : Read (0x10 ∷ 0xf0 ∷ []) false 0 =
+    read _ 0 0x10 (0xf0 ∷ []) (used 0x10 (0xf0 ∷ []) (lit< tt)) refl (lit≤ tt) refl (lit≤ tt) (λ l. absurd (omega arith)) in
+    queries.inside (lit≤ tt) (lit< tt)
+    (queries.kind (queries.pointer (pointer 0x10) refl (queries.here r (λ e. absurd (omega arith)))) (λ e. absurd (omega arith)) (λ e. absurd (omega arith)))
