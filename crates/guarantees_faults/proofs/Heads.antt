@@ -4,12 +4,12 @@
 -- answers each row (`error-of-head`); what it answers is a row, or a token that is read (`scanAt-scans`); both ways (`head-refused-exactly`).
 use mathlib.Core.Path.{_≡_, refl, sym, ap, _∙_, subst}
 use mathlib.Core.Logic.{_↔_}
-use Prim.Native.Nat.{ℕ, _+_, _-_, _/_, _%_, _≤_, _<_}
-use mathlib.Core.Bool.{Bool, not, _&&_}
+use Prim.Native.Nat.{ℕ, _+_, _-_, _/_, _%_, _≤_}
+use mathlib.Core.Bool.{Bool, not}
 use mathlib.Core.List.{List, [], _∷_}
 use native.Mathlib.Omega.{arith}
 use borrow.Author.Tests.{le-leb, lt-leb, lt-ltb, le-ltb, not-true, not-false}
-use lib.Dec.{ltb, leb}
+use lib.Dec.{leb}
 use lib.ListN.{length, take, drop, take-append-drop, drop-of-length-le, length-drop, length-append}
 use lib.Seq.{drop-append-seam, length-take-le}
 use Rattle.prelude.specs.Answer.{Answer, ok, error, Res, got, bad, guard, need, _>>_, _>>=_}

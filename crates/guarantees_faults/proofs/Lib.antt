@@ -8,6 +8,8 @@ pub mod Heads
 pub mod Refused
 -- the queries refuse exactly so
 pub mod Queries
+-- .. and lookup
+pub mod Lookups
 -- a token's rows on examples
 mod Samples
 -- the queries' rows on examples

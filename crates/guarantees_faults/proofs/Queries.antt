@@ -17,23 +17,23 @@ use Rattle.prelude.specs.Answer.{Answer, ok, error, bind}
 use Rattle.prelude.proofs.Tests.{pick-elim, and-l, and-r, or-false, facts}
 use Rattle.error.specs.Error.{Fault, fault, LIMIT, BAD_TARGET}
 use Rattle.kind.specs.Kind.{rule, immediate}
-use Rattle.scan.specs.Answers.{scanAt}
+use Rattle.scan.specs.Answers.{scanAt, bodyOn}
 use Rattle.scan.specs.declared.Head.{Head}
-use Rattle.reader_region.specs.Region.{regionLen, inRegion, below, peekIn, peekOf}
+use Rattle.reader_region.specs.Region.{regionLen, inRegion, below, peekIn}
 use Rattle.reader_value.specs.Value.{readIn, readOf}
 use Rattle.reader_items.specs.Items.{skipItems, skipIn, skipOf, startsIn, itemOn, itemIn, itemOf}
 use Rattle.reader_follow.specs.Follow.{Followed, position, followFrom, followIn, followOf}
 use Rattle.reader_follow.proofs.Laws.{followFrom-pointer, followFrom-end, followFrom-error}
-use Rattle.reader_body.specs.Body.{bodyPlaceOn, bodyPlaceIn, bodyPlaceOf}
+use Rattle.reader_body.specs.Body.{bodyPlaceIn, bodyPlaceOf}
 use Rattle.guarantees_faults.specs.Faults.{Whole}
 use Rattle.guarantees_faults.specs.Queries as queries
 use Rattle.guarantees_faults.specs.Queries.{RefusedQuery, Read, RefusedRead, Items, RefusedItems, RefusedSkip, RefusedItem}
 use Rattle.guarantees_faults.specs.Queries.{RefusedFollow, Reaches, RefusedBody}
-use Rattle.guarantees_faults.proofs.Heads.{headOfWhole, whole-end, scanAt-whole, error-of-head, Scans, scanAt-scans}
+use Rattle.guarantees_faults.proofs.Heads.{headOfWhole, whole-body, whole-end, scanAt-whole, error-of-head, Scans, scanAt-scans}
 use Rattle.guarantees_faults.proofs.Refused.{excluded, excluded-by}
 
 -- an answer is not an error, or is one of the rows P
-abbrev Row : {A : Type 0} → (Fault → Type 0) → Answer Fault A → Type 0
+abbrev pub Row : {A : Type 0} → (Fault → Type 0) → Answer Fault A → Type 0
 Row P (ok a) = Unit {0}
 Row P (error f) = P f
 
@@ -64,7 +64,7 @@ module _ {A : Type 0} (k : List ℕ → Answer Fault A) (P : List ℕ → Fault 
       by-cases short low (ok a) x = tt
       by-cases short low (error f) x = queries.inside short low x
 
-  query-exactly : ((s : List ℕ) → Row (P s) (k s)) → ((s : List ℕ) (f : Fault) → P s f → k s ≡ error f)
+  pub query-exactly : ((s : List ℕ) → Row (P s) (k s)) → ((s : List ℕ) (f : Fault) → P s f → k s ≡ error f)
       → (f : Fault) → (inRegion file at k ≡ error f) ↔ RefusedQuery file at P f
   query-exactly row back f = (λ e. subst (Row (RefusedQuery file at P)) e (query-row row), error-of-query back)
 
@@ -72,7 +72,7 @@ module _ (s : List ℕ) where
   -- ---- a token
 
   module _ (inner : Bool) (q : ℕ) where
-    abbrev headOf : Read s inner q → Head
+    abbrev pub headOf : Read s inner q → Head
     headOf r = record { kind = r .kind; n = r .n; items = r .items; first = headOfWhole s inner q (r .whole) .first; end = r .end }
 
     same-head : (r : Read s inner q) → headOfWhole s inner q (r .whole) ≡ headOf r
@@ -81,6 +81,10 @@ module _ (s : List ℕ) where
         let items : headOfWhole s inner q (r .whole) .items ≡ r .items = rw kind (sym (r .itemsAre)) in
         let end : headOfWhole s inner q (r .whole) .end ≡ r .end = sym (r .endIs ∙ rw (r .kindIs) (whole-end s inner q (r .whole))) in
         λ i. record { kind = kind i; n = r .n; items = items i; first = headOfWhole s inner q (r .whole) .first; end = end i }
+
+    -- its body is where the head says
+    body-read : (r : Read s inner q) → bodyOn s (headOf r) ≡ r .body
+    body-read r = sym (ap (bodyOn s) (same-head r)) ∙ whole-body s inner q (r .whole)
 
     abbrev looked : Head → Answer Fault Head
     looked h = pick (below q h) (error (fault BAD_TARGET q)) (ok h)
@@ -132,15 +136,15 @@ module _ (s : List ℕ) where
     -- ---- what is made of a token
 
     module _ {A : Type 0} (k : Head → Answer Fault A) where
-      peek-on : (r : Read s inner q) → bind (peekIn inner s q) k ≡ k (headOf r)
+      pub peek-on : (r : Read s inner q) → bind (peekIn inner s q) k ≡ k (headOf r)
       unfolding bind
       peek-on r = rw (peek-read r)
 
-      peek-fails : {f : Fault} → RefusedRead s inner q f → bind (peekIn inner s q) k ≡ error f
+      pub peek-fails : {f : Fault} → RefusedRead s inner q f → bind (peekIn inner s q) k ≡ error f
       unfolding bind
       peek-fails x = rw (peek-refused x)
 
-      peek-elim : (P : Answer Fault A → Type 0) → ((f : Fault) → RefusedRead s inner q f → P (error f)) → ((r : Read s inner q) → P (k (headOf r)))
+      pub peek-elim : (P : Answer Fault A → Type 0) → ((f : Fault) → RefusedRead s inner q f → P (error f)) → ((r : Read s inner q) → P (k (headOf r)))
           → P (bind (peekIn inner s q) k)
       unfolding bind
       peek-elim P bads goods = by-cases (peekIn inner s q) peeks
@@ -238,31 +242,39 @@ module _ (s : List ℕ) where
 
   -- ---- following
 
-  error-of-follow : {q : ℕ} {f : Fault} → RefusedFollow s q f → (hops : ℕ) → followFrom s (position q hops) ≡ error f
+  pub error-of-follow : {q : ℕ} {f : Fault} → RefusedFollow s q f → (hops : ℕ) → followFrom s (position q hops) ≡ error f
   error-of-follow (queries.value x) hops = sym (followFrom-error s _ hops _ (sym (peek-refused false _ x)))
   error-of-follow (queries.pointer r k x) hops =
       sym (followFrom-pointer s _ hops _ (sym (peek-read false _ r)) k) ∙ error-of-follow x (hops + 1)
 
   -- what following leads to
-  record Leads (q hops p k : ℕ) : Type 0 where
-    to : Followed
-    leads : followFrom s (position q hops) ≡ ok to
-    place : to .place ≡ p
-    kind : to .head .kind ≡ k
+  pub record Leads (q hops p k : ℕ) (b : List ℕ) : Type 0 where
+    pub to : Followed
+    pub leads : followFrom s (position q hops) ≡ ok to
+    pub place : to .place ≡ p
+    pub kind : to .head .kind ≡ k
+    pub body : bodyOn s (to .head) ≡ b
 
-  reaches-leads : {q p k : ℕ} → Reaches s q p k → (hops : ℕ) → Leads q hops p k
+  pub reaches-leads : {q p k : ℕ} {b : List ℕ} → Reaches s q p k b → (hops : ℕ) → Leads q hops p k b
   reaches-leads (queries.here r other) hops = record {
     to = _;
     leads = sym (followFrom-end s _ hops _ (sym (peek-read false _ r)) other);
     place = refl;
     kind = refl;
+    body = body-read false _ r;
   }
   reaches-leads (queries.pointer r k x) hops =
       let l = reaches-leads x (hops + 1) in
-      record { to = l .to; leads = sym (followFrom-pointer s _ hops _ (sym (peek-read false _ r)) k) ∙ l .leads; place = l .place; kind = l .kind }
+      record {
+        to = l .to;
+        leads = sym (followFrom-pointer s _ hops _ (sym (peek-read false _ r)) k) ∙ l .leads;
+        place = l .place;
+        kind = l .kind;
+        body = l .body;
+      }
 
   abbrev Follows : ℕ → Answer Fault Followed → Type 0
-  Follows q (ok m) = Reaches s q (m .place) (m .head .kind)
+  Follows q (ok m) = Reaches s q (m .place) (m .head .kind) (bodyOn s (m .head))
   Follows q (error f) = RefusedFollow s q f
 
   follows-on : {q : ℕ} (r : Read s false q) → r .kind ≡ 15 → (a : Answer Fault Followed) → Follows (q - r .n - 1) a → Follows q a
@@ -281,7 +293,8 @@ module _ (s : List ℕ) where
           (follows-on r k (followFrom s (position (q - r .n - 1) (hops + 1))) (lower (q - r .n - 1) down))
       by-kind r false e =
           let other = eqb-false (r .kind) 15 e in
-          subst (Follows q) (followFrom-end s q hops _ (sym (peek-read false q r)) other) (queries.here r other)
+          subst (Follows q) (followFrom-end s q hops _ (sym (peek-read false q r)) other)
+          (subst (Reaches s q q (r .kind)) (sym (body-read false q r)) (queries.here r other))
 
       by-cases : (a : Answer Fault Head) → peekIn false s q ≡ a → Peeks false q a → Follows q (followFrom s (position q hops))
       by-cases (ok h) e x = by-kind (x .0) _ refl
@@ -292,8 +305,8 @@ module _ (s : List ℕ) where
   follows (suc most) q hops l = follow-turn q hops (λ p down. follows most p (hops + 1) (omega arith))
 
   -- what is made of where it leads
-  follow-elim : {A : Type 0} (P : Answer Fault A → Type 0) (j : Followed → Answer Fault A) (q : ℕ) → ((f : Fault) → RefusedFollow s q f → P (error f))
-      → ((m : Followed) → Reaches s q (m .place) (m .head .kind) → P (j m)) → P (bind (followFrom s (position q 0)) j)
+  pub follow-elim : {A : Type 0} (P : Answer Fault A → Type 0) (j : Followed → Answer Fault A) (q : ℕ) → ((f : Fault) → RefusedFollow s q f → P (error f))
+      → ((m : Followed) → Reaches s q (m .place) (m .head .kind) (bodyOn s (m .head)) → P (j m)) → P (bind (followFrom s (position q 0)) j)
   unfolding bind
   follow-elim P j q bads goods = by-cases (followFrom s (position q 0)) (follows (suc q) q 0 (omega arith))
     where

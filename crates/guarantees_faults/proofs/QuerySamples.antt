@@ -1,6 +1,6 @@
 -- The rows of specs/Queries.antt on the witnesses of docs/READINGS.md, by the bytes; nothing is read.
 use mathlib.Core.Path.{_≡_, refl}
-use mathlib.Core.Bool.{false, false≢true}
+use mathlib.Core.Bool.{Bool, true, false, false≢true}
 use mathlib.Core.List.{List, [], _∷_}
 use Prim.Native.Nat.{ℕ, _+_, _-_, _/_, _%_, _≤_, _<_}
 use native.Mathlib.Omega.{arith}
@@ -12,19 +12,20 @@ use Rattle.guarantees_faults.specs.Faults as faults
 use Rattle.guarantees_faults.specs.Faults.{Usable, Whole}
 use Rattle.guarantees_faults.specs.Queries as queries
 use Rattle.guarantees_faults.specs.Queries.{RefusedQuery, Read, RefusedRead, RefusedSkip, RefusedItem, RefusedFollow, RefusedBody}
+use Rattle.guarantees_faults.specs.Queries.{OtherKey, RefusedLookup}
 use Rattle.guarantees_faults.proofs.Samples.{used, plain}
 
 -- B1: the offset of the delta byte
 delta-outside : RefusedQuery (0 ∷ []) 0 (λ s. RefusedRead s false 0) (fault OUTSIDE 0)
 delta-outside = queries.outside (lit≤ tt) (lit≤ tt) (lit≤ tt)
 
--- a value at q whose header is all of its numbers
-module _ (s : List ℕ) (q h : ℕ) (m : List ℕ) (u : Usable s false q h m) (small : leb 15 (h % 16) ≡ false) (most : h % 16 ≤ rule (h / 16) .most)
+-- a token at q whose header is all of its numbers
+module _ (s : List ℕ) (inner : Bool) (q h : ℕ) (m : List ℕ) (u : Usable s inner q h m) (small : leb 15 (h % 16) ≡ false) (most : h % 16 ≤ rule (h / 16) .most)
     (one : rule (h / 16) .args ≡ false) (room : size (rule (h / 16)) (h % 16) + counted (rule (h / 16)) (h % 16) 0 ≤ length m) where
-  abbrev whole : Whole s false q h (h % 16) (take (size (rule (h / 16)) (h % 16)) m)
-  whole = record { args = 0; after = m; numbers = plain s false q h m u small most one; room = room; body = refl }
+  abbrev whole : Whole s inner q h (h % 16) (take (size (rule (h / 16)) (h % 16)) m)
+  whole = record { args = 0; after = m; numbers = plain s inner q h m u small most one; room = room; body = refl }
 
-  abbrev read : (14 ≤ h / 16 → h % 16 < q) → Read s false q
+  abbrev read : (14 ≤ h / 16 → h % 16 < q) → Read s inner q
   read target = record {
     header = h;
     n = h % 16;
@@ -44,12 +45,12 @@ target-first : RefusedQuery (0xf0 ∷ 0 ∷ []) 0 (λ s. RefusedItem s 0 0) (fau
 unfolding rule
 target-first =
     queries.inside (lit≤ tt) (lit< tt)
-    (queries.value (queries.target (whole (0xf0 ∷ []) 0 0xf0 [] (used 0xf0 [] (lit< tt)) refl (lit≤ tt) refl (lit≤ tt)) (lit≤ tt) (lit≤ tt)))
+    (queries.value (queries.target (whole (0xf0 ∷ []) false 0 0xf0 [] (used 0xf0 [] (lit< tt)) refl (lit≤ tt) refl (lit≤ tt)) (lit≤ tt) (lit≤ tt)))
 
 -- an item of kind 6
 array : Read (0x61 ∷ 0x60 ∷ []) false 0
 unfolding rule
-array = read _ 0 0x61 (0x60 ∷ []) (used 0x61 (0x60 ∷ []) (lit< tt)) refl (lit≤ tt) refl (lit≤ tt) (λ l. absurd (omega arith))
+array = read _ false 0 0x61 (0x60 ∷ []) (used 0x61 (0x60 ∷ []) (lit< tt)) refl (lit≤ tt) refl (lit≤ tt) (λ l. absurd (omega arith))
 
 nested-item : RefusedQuery (0x61 ∷ 0x60 ∷ 0 ∷ []) 0 (λ s. RefusedSkip s 0) (fault NESTED 1)
 unfolding rule array
@@ -60,7 +61,7 @@ nested-item =
 -- B4: a tag whose item would start at the region's end, which is TRUNC there
 tag : Read (0x81 ∷ []) false 0
 unfolding rule
-tag = read _ 0 0x81 [] (used 0x81 [] (lit< tt)) refl (lit≤ tt) refl (lit≤ tt) (λ l. absurd (omega arith))
+tag = read _ false 0 0x81 [] (used 0x81 [] (lit< tt)) refl (lit≤ tt) refl (lit≤ tt) (λ l. absurd (omega arith))
 
 tag-skipped : RefusedQuery (0x81 ∷ 0 ∷ []) 0 (λ s. RefusedSkip s 0) (fault TRUNC 1)
 unfolding rule tag
@@ -75,7 +76,7 @@ tag-item = queries.inside (lit≤ tt) (lit< tt) (queries.ended tag refl (lit< tt
 -- B6: NO_ITEM before the items, which are reserved
 two : Read (0x62 ∷ 0x90 ∷ 0x90 ∷ []) false 0
 unfolding rule
-two = read _ 0 0x62 (0x90 ∷ 0x90 ∷ []) (used 0x62 (0x90 ∷ 0x90 ∷ []) (lit< tt)) refl (lit≤ tt) refl (lit≤ tt) (λ l. absurd (omega arith))
+two = read _ false 0 0x62 (0x90 ∷ 0x90 ∷ []) (used 0x62 (0x90 ∷ 0x90 ∷ []) (lit< tt)) refl (lit≤ tt) refl (lit≤ tt) (λ l. absurd (omega arith))
 
 past-the-count : RefusedQuery (0x62 ∷ 0x90 ∷ 0x90 ∷ 0 ∷ []) 0 (λ s. RefusedItem s 0 2) (fault NO_ITEM 0)
 unfolding rule two
@@ -93,7 +94,7 @@ pointer : (h : ℕ) → Read (h ∷ 0xf0 ∷ []) false 1
 unfolding rule
 pointer h =
     let u : Usable (h ∷ 0xf0 ∷ []) false 1 0xf0 [] = record { header = refl; used = lit< tt; flat = λ e. absurd (false≢true e) } in
-    read _ 1 0xf0 [] u refl (lit≤ tt) refl (lit≤ tt) (λ l. lit< tt)
+    read _ false 1 0xf0 [] u refl (lit≤ tt) refl (lit≤ tt) (λ l. lit< tt)
 
 reserved-met : RefusedQuery (0x90 ∷ 0xf0 ∷ 0 ∷ []) 1 (λ s. RefusedFollow s 1) (fault RESERVED 0)
 unfolding rule pointer
@@ -104,6 +105,28 @@ integer-reached : RefusedQuery (0x10 ∷ 0xf0 ∷ 0 ∷ []) 1 (λ s. RefusedBody
 unfolding rule pointer
 integer-reached =
     let r : Read (0x10 ∷ 0xf0 ∷ []) false 0 =
-    read _ 0 0x10 (0xf0 ∷ []) (used 0x10 (0xf0 ∷ []) (lit< tt)) refl (lit≤ tt) refl (lit≤ tt) (λ l. absurd (omega arith)) in
+    read _ false 0 0x10 (0xf0 ∷ []) (used 0x10 (0xf0 ∷ []) (lit< tt)) refl (lit≤ tt) refl (lit≤ tt) (λ l. absurd (omega arith)) in
     queries.inside (lit≤ tt) (lit< tt)
     (queries.kind (queries.pointer (pointer 0x10) refl (queries.here r (λ e. absurd (omega arith)))) (λ e. absurd (omega arith)) (λ e. absurd (omega arith)))
+
+-- B9: the value of another key is not followed, here to the reserved header at 0
+value-not-followed : RefusedQuery (0x90 ∷ 0x71 ∷ 0x10 ∷ 0xf2 ∷ 0 ∷ []) 1 (λ s. RefusedLookup s 1 []) (fault NO_ITEM 1)
+unfolding rule
+value-not-followed =
+    let s : List ℕ = 0x90 ∷ 0x71 ∷ 0x10 ∷ 0xf2 ∷ [] in
+    let at1 : Usable s false 1 0x71 (0x10 ∷ 0xf2 ∷ []) = record { header = refl; used = lit< tt; flat = λ e. absurd (false≢true e) } in
+    let at2 : (inner : Bool) → Usable s inner 2 0x10 (0xf2 ∷ []) = λ inner. record { header = refl; used = lit< tt; flat = λ e. refl } in
+    let at3 : Usable s true 3 0xf2 [] = record { header = refl; used = lit< tt; flat = λ e. refl } in
+    let key : (inner : Bool) → Read s inner 2 =
+    λ inner. read s inner 2 0x10 (0xf2 ∷ []) (at2 inner) refl (lit≤ tt) refl (lit≤ tt) (λ l. absurd (omega arith)) in
+    let other : OtherKey s [] 2 = record {
+      item = key true;
+      p = 2;
+      k = 1;
+      b = [];
+      reaches = queries.here (key false) (λ e. absurd (omega arith));
+      other = λ e. absurd (omega arith);
+    } in
+    queries.inside (lit≤ tt) (lit< tt)
+    (queries.missing (read s false 1 0x71 (0x10 ∷ 0xf2 ∷ []) at1 refl (lit≤ tt) refl (lit≤ tt) (λ l. absurd (omega arith))) refl
+    (queries.next other (read s true 3 0xf2 [] at3 refl (lit≤ tt) refl (lit≤ tt) (λ l. lit< tt)) queries.none))

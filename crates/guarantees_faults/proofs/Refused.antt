@@ -35,7 +35,7 @@ pub excluded-by : (a b : Bool) → a && b ≡ false → a ≡ true → b ≡ fal
 excluded-by true b e t = e
 excluded-by false b e t = absurd (false≢true t)
 
-false-of : (a : Bool) → (a ≡ true → ⊥) → a ≡ false
+pub false-of : (a : Bool) → (a ≡ true → ⊥) → a ≡ false
 false-of true f = absurd (f refl)
 false-of false f = refl
 

@@ -17,8 +17,14 @@
 --   RefusedItem q i f    the query for item i is refused: the value, WRONG_KIND for a kind without items, NO_ITEM at or past the count, one of the items
 --                        before it, or TRUNC at the region's end if it would start there
 --   RefusedFollow q f    following is refused: the value, or, if that is a pointer, following from its target
---   Reaches q p k        following leads to the value at p, of kind k, which is not a pointer
+--   Reaches q p k b      following leads to the value at p, of kind k and with the body b, which is not a pointer
 --   RefusedBody q f      the query for a body is refused: following, or WRONG_KIND of the value reached if it is neither a text nor a byte string
+--   OtherKey key q       the item at q is read and followed, and is not a text with the bytes `key`
+--   OtherPairs key k q e k pairs, one after the other, whose keys are others and whose values are read; e is the end of the last, or q if k is 0
+--   RefusedPair key q f  the pair at q is refused: its key, following it, TRUNC at the region's end if it is the key and its value would start there, or
+--                        the value of another key
+--   RefusedLookup q key f
+--                        the lookup is refused: the value, WRONG_KIND if it is not a map, one of its pairs after others, or NO_ITEM after all of them
 use Prim.Native.Nat.{ℕ, suc, _+_, _-_, _/_, _≤_, _<_}
 use mathlib.Core.Path.{_≡_}
 use mathlib.Core.Bool.{Bool, true, false}
@@ -88,10 +94,36 @@ module _ (s : List ℕ) where
     value : {q : ℕ} {f : Fault} → RefusedRead false q f → RefusedFollow q f
     pointer : {q : ℕ} {f : Fault} (r : Read false q) → r .kind ≡ 15 → RefusedFollow (q - r .n - 1) f → RefusedFollow q f
 
-  pub data Reaches : ℕ → ℕ → ℕ → Type 0 where
-    here : {q : ℕ} (r : Read false q) → (r .kind ≡ 15 → ⊥) → Reaches q q (r .kind)
-    pointer : {q p k : ℕ} (r : Read false q) → r .kind ≡ 15 → Reaches (q - r .n - 1) p k → Reaches q p k
+  pub data Reaches : ℕ → ℕ → ℕ → List ℕ → Type 0 where
+    here : {q : ℕ} (r : Read false q) → (r .kind ≡ 15 → ⊥) → Reaches q q (r .kind) (r .body)
+    pointer : {q p k : ℕ} {b : List ℕ} (r : Read false q) → r .kind ≡ 15 → Reaches (q - r .n - 1) p k b → Reaches q p k b
 
   pub data RefusedBody (q : ℕ) : Fault → Type 0 where
     follow : {f : Fault} → RefusedFollow q f → RefusedBody q f
-    kind : {p k : ℕ} → Reaches q p k → (k ≡ 4 → ⊥) → (k ≡ 5 → ⊥) → RefusedBody q (fault WRONG_KIND p)
+    kind : {p k : ℕ} {b : List ℕ} → Reaches q p k b → (k ≡ 4 → ⊥) → (k ≡ 5 → ⊥) → RefusedBody q (fault WRONG_KIND p)
+
+  -- ---- keys
+
+  pub record OtherKey (key : List ℕ) (q : ℕ) : Type 0 where
+    pub item : Read true q
+    pub p : ℕ
+    pub k : ℕ
+    pub b : List ℕ
+    pub reaches : Reaches q p k b
+    pub other : k ≡ 4 → b ≡ key → ⊥
+
+  pub data OtherPairs (key : List ℕ) : ℕ → ℕ → ℕ → Type 0 where
+    none : {q : ℕ} → OtherPairs key 0 q q
+    next : {k q e : ℕ} (o : OtherKey key q) (v : Read true (o .item .end)) → OtherPairs key k (v .end) e → OtherPairs key (suc k) q e
+
+  pub data RefusedPair (key : List ℕ) (q : ℕ) : Fault → Type 0 where
+    item : {f : Fault} → RefusedRead true q f → RefusedPair key q f
+    follow : {f : Fault} → Read true q → RefusedFollow q f → RefusedPair key q f
+    ended : {p : ℕ} (r : Read true q) → Reaches q p 4 key → length s ≤ r .end → RefusedPair key q (fault TRUNC (length s))
+    value : {f : Fault} (o : OtherKey key q) → RefusedRead true (o .item .end) f → RefusedPair key q f
+
+  pub data RefusedLookup (q : ℕ) (key : List ℕ) : Fault → Type 0 where
+    value : {f : Fault} → RefusedRead false q f → RefusedLookup q key f
+    kind : (r : Read false q) → (r .kind ≡ 7 → ⊥) → RefusedLookup q key (fault WRONG_KIND q)
+    pair : {i p : ℕ} {f : Fault} (r : Read false q) → r .kind ≡ 7 → i < r .n → OtherPairs key i (r .end) p → RefusedPair key p f → RefusedLookup q key f
+    missing : {e : ℕ} (r : Read false q) → r .kind ≡ 7 → OtherPairs key (r .n) (r .end) e → RefusedLookup q key (fault NO_ITEM q)
