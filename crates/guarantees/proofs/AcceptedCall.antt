@@ -60,9 +60,8 @@ module _ (s : State) (out table : List ℕ) where
       let reach = lt-ltb 255 (w - e - 1) far in
       record {
         written = rw reach (omega (arith, length-append t d));
-        bytes = rw reach (
-            take-sets (sets out w t) d (w + length t) (omega (arith, length-sets out w t)) ∙ rw (take-sets out t w (omega arith)) (append-assoc (take w out) t d)
-            );
+        bytes = rw reach (rw (← append-assoc (take w out) t d, ← take-sets out t w (omega arith))
+            (take-sets (sets out w t) d (w + length t) (omega (arith, length-sets out w t))));
         pending = rw (none-pending s (a .granted .alike)) (omega arith);
         start = λ _. refl;
         closed = refl;

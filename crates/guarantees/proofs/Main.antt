@@ -1,11 +1,11 @@
 -- The demands as theorems: each is one record of specs/Demands.antt, whose fields are the user's sentences in their order, and each field is a citation.
 -- docs/GUARANTEES.md quotes these statements and records, and reads them aloud.
 --
--- After the three demands, what says more than they do: check's answers (by one reading at most, and which refusal when); lookup on every file;
--- one call of the writer in any state; lists of calls from any state, in C and by their parts, and an open value finished; longer memory, and how
--- many words are enough; paths; what all of this rests on (numbers and tokens there and back); document 01's samples.
+-- After the three demands, what says more than they do: check's answers (in at most one way, and which refusal when); what a query is refused for, and
+-- lookup, on every file; one call of the writer in any state; lists of calls from any state, in C and by their parts, and an open value finished; longer
+-- memory, and how many words are enough; paths; what all of this rests on (numbers and tokens there and back); document 01's samples.
 use mathlib.Core.Path.{_≡_}
-use mathlib.Core.Bool.{Bool, true}
+use mathlib.Core.Bool.{Bool, true, false}
 use mathlib.Core.Logic.{_⊎_, _↔_}
 use mathlib.Core.List.{List, [], _++_, map}
 use Prim.Native.Nat.{ℕ, suc, _+_, _≤_, _<_}
@@ -23,6 +23,10 @@ use Rattle.values.specs.Values.{Value, bytes, starts, Each, WellFormed}
 use Rattle.values.specs.Paths.{Refers, Leads}
 use Rattle.values.proofs.Unique as unique
 use Rattle.values.proofs.Leads as leads
+use Rattle.reader_value.specs.Value.{readOf}
+use Rattle.reader_items.specs.Items.{skipOf, itemOf}
+use Rattle.reader_follow.specs.Follow.{followOf}
+use Rattle.reader_body.specs.Body.{bodyPlaceOf}
 use Rattle.reader_lookup.specs.Lookup.{lookupOf}
 use Rattle.checker_value.specs.Walk.{nextToken}
 use Rattle.checker.specs.Check.{checkOf}
@@ -33,7 +37,10 @@ use Rattle.writer.specs.Runs.{runs}
 use Rattle.writer.proofs.Refused as writer
 use Rattle.abi_writer.specs.Calls.{writerOf, wordsOf, numberC, runsC}
 use Rattle.guarantees_faults.specs.Faults.{RefusedToken}
+use Rattle.guarantees_faults.specs.Queries.{RefusedQuery, RefusedRead, RefusedSkip, RefusedItem, RefusedFollow, RefusedBody, RefusedLookup}
 use Rattle.guarantees_faults.proofs.Refused as faults
+use Rattle.guarantees_faults.proofs.Queries as query-faults
+use Rattle.guarantees_faults.proofs.Lookups as lookup-faults
 use Rattle.guarantees.specs.Accepts.{Overfull}
 use Rattle.guarantees.specs.Refused.{Unnamed, Faulty}
 use Rattle.guarantees.specs.Lookup.{Found, Missing}
@@ -127,6 +134,27 @@ too-long-exactly = refused.too-long-exactly
 
 pub bad-entry-exactly : (file : List ℕ) (cap p : ℕ) → Bytes file → (checkOf file cap .answer ≡ error (fault BAD_ENTRY p)) ↔ Unnamed file cap p
 bad-entry-exactly = refused.bad-entry-exactly
+
+-- ---- what a query is refused for, on every file
+
+pub read-refused-exactly : (file : List ℕ) (at : ℕ) (f : Fault) → (readOf file at ≡ error f) ↔ RefusedQuery file at (λ s. RefusedRead s false at) f
+read-refused-exactly = query-faults.read-refused-exactly
+
+pub skip-refused-exactly : (file : List ℕ) (at : ℕ) (f : Fault) → (skipOf file at ≡ error f) ↔ RefusedQuery file at (λ s. RefusedSkip s at) f
+skip-refused-exactly = query-faults.skip-refused-exactly
+
+pub item-refused-exactly : (file : List ℕ) (at i : ℕ) (f : Fault) → (itemOf file at i ≡ error f) ↔ RefusedQuery file at (λ s. RefusedItem s at i) f
+item-refused-exactly = query-faults.item-refused-exactly
+
+pub follow-refused-exactly : (file : List ℕ) (at : ℕ) (f : Fault) → (followOf file at ≡ error f) ↔ RefusedQuery file at (λ s. RefusedFollow s at) f
+follow-refused-exactly = query-faults.follow-refused-exactly
+
+pub body-refused-exactly : (file : List ℕ) (at : ℕ) (f : Fault) → (bodyPlaceOf file at ≡ error f) ↔ RefusedQuery file at (λ s. RefusedBody s at) f
+body-refused-exactly = query-faults.body-refused-exactly
+
+pub lookup-refused-exactly : (file : List ℕ) (at : ℕ) (key : List ℕ) (f : Fault)
+    → (lookupOf file at key ≡ error f) ↔ RefusedQuery file at (λ s. RefusedLookup s at key) f
+lookup-refused-exactly = lookup-faults.lookup-refused-exactly
 
 -- ---- lookup, on every file
 

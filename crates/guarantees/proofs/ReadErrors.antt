@@ -1,8 +1,8 @@
 -- Which errors each reading call can give, of every file: the lists of specs/Errors.antt.
 --
 -- In order: what holds of an answer's error, by the parts of the answer; a token that a query looks at, following, items, pairs, in any region; the
--- queries on a file (`peek-errors`, `read-errors`, `skip-errors`, `item-errors`, `follow-errors`, `lookup-errors`, `body-errors`); check and depths (`check-errors`,
--- `depths-errors-known`).
+-- queries on a file (`peek-errors`, `read-errors`, `follow-errors`, `body-errors`, `skip-errors`, `item-errors`, `lookup-errors`); check and depths
+-- (`check-errors`, `depths-errors-known`).
 use mathlib.Core.Path.{_≡_, refl, sym, subst}
 use mathlib.Core.Bool.{Bool, true, false, _||_}
 use mathlib.Core.List.{List, [], _∷_}

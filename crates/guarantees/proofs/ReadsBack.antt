@@ -144,8 +144,8 @@ module _ (b : Model) (d entry : ℕ) (k : ModelInvariant AllowedPart b) (c : b .
     flat : immediate (rule (v .head .kind)) ≡ true → (i : ℕ) → itemOf file at i ≡ error (fault WRONG_KIND at)
     unfolding formOf
     flat one i =
-        reads-no-items file (valuesAt 0 vs) entry well-formed _ at (formOf at (v .head)) (head-token-at (valuesAt 0 vs) (valuesAt 0 a) (valueAt at v) _ (values-at vs a v z e))
-        one i
+        let here = head-token-at (valuesAt 0 vs) (valuesAt 0 a) (valueAt at v) _ (values-at vs a v z e) in
+        reads-no-items file (valuesAt 0 vs) entry well-formed _ at (formOf at (v .head)) here one i
 
   pub model-gives-back : GivesBack file vs entry
   model-gives-back = record {

@@ -5,6 +5,7 @@
 -- BAD_TARGET". A row says its own fault, and that no row above it applies: `HasWord`, `Header`, `Usable`, `Numbered`, `Counted` and `Whole` gather,
 -- step by step, what was not refused.
 --
+--   GoesOn b             b is a continuation byte
 --   Number s n rest      the bytes s are the number n in its shortest form, and then `rest`
 --   BadNumber s e        s begins with no number, for the reason e
 --   NumberIf w s n rest  the same as `Number` if w is true; else there is none, and n is 0
