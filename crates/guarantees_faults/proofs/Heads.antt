@@ -90,15 +90,27 @@ module _ (s : List ℕ) (inner : Bool) (q : ℕ) where
       rw (size, first) (ap (λ x. take z (drop (length p) x)) (end .same) ∙ rw (drop-append-seam p m))
 
   module _ {h n : ℕ} {b : List ℕ} (w : Whole s inner q h n b) where
+    after-le : length (w .after) ≤ length s
+    after-le =
+        let end = counted-end (w .numbers) in
+        let long : length s ≡ length (end .front) + length (w .after) = ap length (end .same) ∙ length-append (end .front) (w .after) in
+        omega arith
+
+    taken : length (take (size (rule (h / 16)) n) (w .after)) ≡ size (rule (h / 16)) n
+    taken = length-take-le (size (rule (h / 16)) n) (w .after) (omega (arith, w .room))
+
     pub whole-body : bodyOn s (headOfWhole w) ≡ b
     whole-body = body-on h n (w .args) (w .after) (omega (arith, w .room)) (counted-end (w .numbers)) ∙ sym (w .body)
 
-    -- the head's end, by the body's first offset
-    pub whole-end : length s - length (w .after) + size (rule (h / 16)) n ≡ headOfWhole w .end
-    whole-end =
-        let end = counted-end (w .numbers) in
-        let long : length s ≡ length (end .front) + length (w .after) = ap length (end .same) ∙ length-append (end .front) (w .after) in
-        omega (arith, w .room, length-drop (size (rule (h / 16)) n) (w .after))
+    -- the head's offsets: the one after the numbers, and the one after the body
+    pub whole-first : headOfWhole w .first ≡ length s - length (w .after)
+    whole-first = omega (arith, w .room, after-le, taken, length-drop (size (rule (h / 16)) n) (w .after))
+
+    pub whole-end : headOfWhole w .end ≡ length s - length (w .after) + size (rule (h / 16)) n
+    whole-end = omega (arith, w .room, after-le, length-drop (size (rule (h / 16)) n) (w .after))
+
+    pub whole-size : length b ≡ size (rule (h / 16)) n
+    whole-size = ap length (w .body) ∙ taken
 
     pub scanAt-whole : scanAt inner s q ≡ ok (headOfWhole w)
     unfolding scanAt headOf body guard

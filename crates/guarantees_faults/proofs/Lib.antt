@@ -6,11 +6,11 @@ mod Numbers
 pub mod Heads
 -- the walk refuses a token exactly so
 pub mod Refused
--- the queries refuse exactly so
+-- the queries answer, and refuse, exactly so
 pub mod Queries
 -- .. and lookup
 pub mod Lookups
 -- a token's rows on examples
 mod Samples
--- the queries' rows on examples
+-- the queries' relations on examples
 mod QuerySamples

@@ -1,10 +1,10 @@
--- The queries refuse exactly as specs/Queries.antt says, on every file.
+-- The queries answer, and refuse, exactly as specs/Queries.antt says, on every file.
 --
 -- In order: a file and its region; a token that is read, or refused, and what is made of it (`peek-on`, `peek-fails`, `peek-elim`); items one after the
--- other; skipping; the query for an item; following; the query for a body. Of each first what it answers to the rows, then that its answer is a row;
--- last, both ways, of files.
+-- other; skipping; the query for an item; following; the query for a body. Of each first that its answer is a row (`..-row`), then that a row is its
+-- answer (`..-is`); last, both ways, of files.
 use mathlib.Core.Path.{_≡_, refl, sym, ap, _∙_, subst}
-use mathlib.Core.Logic.{_↔_}
+use mathlib.Core.Logic.{_↔_, _⊎_, inl, inr}
 use mathlib.Core.Bool.{Bool, true, false, _&&_, _||_}
 use mathlib.Core.List.{List}
 use Prim.Native.Nat.{ℕ, zero, suc, _+_, _-_, _/_, _≤_, _<_}
@@ -14,44 +14,41 @@ use lib.Dec.{eqb, ltb, leb}
 use lib.ListN.{length, take}
 use Rattle.prelude.specs.Pick.{pick}
 use Rattle.prelude.specs.Answer.{Answer, ok, error, bind}
-use Rattle.prelude.proofs.Tests.{pick-elim, and-l, and-r, or-false, facts}
+use Rattle.prelude.proofs.Tests.{pick-elim, and-l, and-r, or-true, or-false, facts}
 use Rattle.error.specs.Error.{Fault, fault, LIMIT, BAD_TARGET}
-use Rattle.kind.specs.Kind.{rule, immediate}
+use Rattle.kind.specs.Kind.{rule, size, immediate}
 use Rattle.scan.specs.Answers.{scanAt, bodyOn}
 use Rattle.scan.specs.declared.Head.{Head}
-use Rattle.reader_region.specs.Region.{regionLen, inRegion, below, peekIn}
-use Rattle.reader_value.specs.Value.{readIn, readOf}
+use Rattle.reader_region.specs.Region.{regionLen, inRegion, below, peekIn, peekOf}
+use Rattle.reader_value.specs.Value.{valueOn, readIn, readOf}
+use Rattle.reader_value.specs.declared.Value.{Value}
 use Rattle.reader_items.specs.Items.{skipItems, skipIn, skipOf, startsIn, itemOn, itemIn, itemOf}
-use Rattle.reader_follow.specs.Follow.{Followed, position, followFrom, followIn, followOf}
+use Rattle.reader_follow.specs.Follow.{Followed, followed, position, followFrom, followIn, followOf}
 use Rattle.reader_follow.proofs.Laws.{followFrom-pointer, followFrom-end, followFrom-error}
 use Rattle.reader_body.specs.Body.{bodyPlaceIn, bodyPlaceOf}
 use Rattle.guarantees_faults.specs.Faults.{Whole}
 use Rattle.guarantees_faults.specs.Queries as queries
-use Rattle.guarantees_faults.specs.Queries.{RefusedQuery, Read, RefusedRead, Items, RefusedItems, RefusedSkip, RefusedItem}
-use Rattle.guarantees_faults.specs.Queries.{RefusedFollow, Reaches, RefusedBody}
-use Rattle.guarantees_faults.proofs.Heads.{headOfWhole, whole-body, whole-end, scanAt-whole, error-of-head, Scans, scanAt-scans}
+use Rattle.guarantees_faults.specs.Queries.{AnsweredQuery, RefusedQuery, Read, headOf, RefusedRead}
+use Rattle.guarantees_faults.specs.Queries.{Items, RefusedItems, Skips, RefusedSkip, HasItem, RefusedItem}
+use Rattle.guarantees_faults.specs.Queries.{Reaches, RefusedFollow, HasBody, RefusedBody}
+use Rattle.guarantees_faults.proofs.Heads.{headOfWhole, whole-body, whole-first, whole-end, whole-size, scanAt-whole, error-of-head, Scans, scanAt-scans}
 use Rattle.guarantees_faults.proofs.Refused.{excluded, excluded-by}
 
--- an answer is not an error, or is one of the rows P
-abbrev pub Row : {A : Type 0} → (Fault → Type 0) → Answer Fault A → Type 0
-Row P (ok a) = Unit {0}
-Row P (error f) = P f
+-- an answer is one of the rows G, an error one of the rows P
+abbrev pub Row : {A : Type 0} → (A → Type 0) → (Fault → Type 0) → Answer Fault A → Type 0
+Row G P (ok a) = G a
+Row G P (error f) = P f
 
 -- ---- a file and its region
 
-module _ {A : Type 0} (k : List ℕ → Answer Fault A) (P : List ℕ → Fault → Type 0) (file : List ℕ) (at : ℕ) where
-  error-of-query : ((s : List ℕ) (f : Fault) → P s f → k s ≡ error f) → {f : Fault} → RefusedQuery file at P f → inRegion file at k ≡ error f
-  unfolding inRegion regionLen bind
-  error-of-query in-region (queries.empty z) = rw (eq-eqb _ _ z)
-  error-of-query in-region (queries.long l) = rw (ne-eqb (length file) 0 (λ e. omega arith), lt-ltb _ _ l)
-  error-of-query in-region (queries.outside pos l out) =
-      rw (ne-eqb (length file) 0 (λ e. omega arith), le-ltb LIMIT (length file) (omega arith), le-ltb at (length file - 1) (omega arith))
-  error-of-query in-region (queries.inside l low x) = rw (ne-eqb (length file) 0 (λ e. omega arith), le-ltb _ _ l, lt-ltb _ _ low) (in-region _ _ x)
+module _ {A : Type 0} (k : List ℕ → Answer Fault A) (G : List ℕ → A → Type 0) (P : List ℕ → Fault → Type 0) (file : List ℕ) (at : ℕ) where
+  abbrev pub Asked : Answer Fault A → Type 0
+  Asked = Row (λ a. AnsweredQuery file at (λ s. G s a)) (RefusedQuery file at P)
 
   abbrev Asks : Answer Fault ℕ → Type 0
-  Asks r = Row (RefusedQuery file at P) (bind r (λ n. k (take n file)))
+  Asks r = Asked (bind r (λ n. k (take n file)))
 
-  query-row : ((s : List ℕ) → Row (P s) (k s)) → Row (RefusedQuery file at P) (inRegion file at k)
+  query-row : ((s : List ℕ) → Row (G s) (P s) (k s)) → Asked (inRegion file at k)
   unfolding inRegion regionLen bind
   query-row in-region =
       pick-elim Asks (eqb (length file) 0) (λ e. queries.empty (eqb-true _ _ e)) (λ some.
@@ -60,36 +57,52 @@ module _ {A : Type 0} (k : List ℕ → Answer Fault A) (P : List ℕ → Fault 
       pick-elim Asks (ltb at (length file - 1)) (λ low. by-cases (ltb-false _ _ short) (ltb-true _ _ low) (k (take (length file - 1) file)) (in-region _))
       (λ out. queries.outside (omega arith) (omega facts) (omega facts))))
     where
-      by-cases : length file ≤ LIMIT → at < length file - 1 → (a : Answer Fault A) → Row (P (take (length file - 1) file)) a → Row (RefusedQuery file at P) a
-      by-cases short low (ok a) x = tt
+      by-cases : length file ≤ LIMIT → at < length file - 1 → (a : Answer Fault A)
+          → Row (G (take (length file - 1) file)) (P (take (length file - 1) file)) a → Asked a
+      by-cases short low (ok a) x = record { short = short; inside = low; answers = x }
       by-cases short low (error f) x = queries.inside short low x
 
-  pub query-exactly : ((s : List ℕ) → Row (P s) (k s)) → ((s : List ℕ) (f : Fault) → P s f → k s ≡ error f)
-      → (f : Fault) → (inRegion file at k ≡ error f) ↔ RefusedQuery file at P f
-  query-exactly row back f = (λ e. subst (Row (RefusedQuery file at P)) e (query-row row), error-of-query back)
+  query-is : ((s : List ℕ) (a : Answer Fault A) → Row (G s) (P s) a → k s ≡ a) → (a : Answer Fault A) → Asked a → inRegion file at k ≡ a
+  unfolding inRegion regionLen bind
+  query-is in-region (ok a) x =
+      let low = x .inside in
+      rw (ne-eqb (length file) 0 (λ e. omega arith), le-ltb _ _ (x .short), lt-ltb _ _ low) (in-region _ (ok a) (x .answers))
+  query-is in-region (error f) (queries.empty z) = rw (eq-eqb _ _ z)
+  query-is in-region (error f) (queries.long l) = rw (ne-eqb (length file) 0 (λ e. omega arith), lt-ltb _ _ l)
+  query-is in-region (error f) (queries.outside pos l out) =
+      rw (ne-eqb (length file) 0 (λ e. omega arith), le-ltb LIMIT (length file) (omega arith), le-ltb at (length file - 1) (omega arith))
+  query-is in-region (error f) (queries.inside l low x) =
+      rw (ne-eqb (length file) 0 (λ e. omega arith), le-ltb _ _ l, lt-ltb _ _ low) (in-region _ (error f) x)
+
+  abbrev pub Exactly : Type 0
+  Exactly = (a : Answer Fault A) → (inRegion file at k ≡ a) ↔ Asked a
+
+  pub query-exactly : ((s : List ℕ) → Row (G s) (P s) (k s)) → ((s : List ℕ) (a : Answer Fault A) → Row (G s) (P s) a → k s ≡ a) → Exactly
+  query-exactly row is a = (λ e. subst Asked e (query-row row), query-is is a)
 
 module _ (s : List ℕ) where
   -- ---- a token
 
   module _ (inner : Bool) (q : ℕ) where
-    abbrev pub headOf : Read s inner q → Head
-    headOf r = record { kind = r .kind; n = r .n; items = r .items; first = headOfWhole s inner q (r .whole) .first; end = r .end }
-
-    same-head : (r : Read s inner q) → headOfWhole s inner q (r .whole) ≡ headOf r
+    same-head : (r : Read s inner q) → headOfWhole s inner q (r .whole) ≡ headOf s r
     same-head r =
         let kind : r .header / 16 ≡ r .kind = sym (r .kindIs) in
         let items : headOfWhole s inner q (r .whole) .items ≡ r .items = rw kind (sym (r .itemsAre)) in
-        let end : headOfWhole s inner q (r .whole) .end ≡ r .end = sym (r .endIs ∙ rw (r .kindIs) (whole-end s inner q (r .whole))) in
-        λ i. record { kind = kind i; n = r .n; items = items i; first = headOfWhole s inner q (r .whole) .first; end = end i }
+        let first : headOfWhole s inner q (r .whole) .first ≡ r .first = whole-first s inner q (r .whole) ∙ sym (r .firstIs) in
+        let end : headOfWhole s inner q (r .whole) .end ≡ r .end = whole-end s inner q (r .whole) ∙ sym (r .endIs ∙ rw (r .firstIs, r .kindIs)) in
+        λ i. record { kind = kind i; n = r .n; items = items i; first = first i; end = end i }
 
     -- its body is where the head says
-    body-read : (r : Read s inner q) → bodyOn s (headOf r) ≡ r .body
+    pub body-read : (r : Read s inner q) → bodyOn s (headOf s r) ≡ r .body
     body-read r = sym (ap (bodyOn s) (same-head r)) ∙ whole-body s inner q (r .whole)
+
+    body-len : (r : Read s inner q) → length (r .body) ≡ r .end - r .first
+    body-len r = let size : length (r .body) ≡ size (rule (r .kind)) (r .n) = rw (r .kindIs) (whole-size s inner q (r .whole)) in omega (arith, r .endIs)
 
     abbrev looked : Head → Answer Fault Head
     looked h = pick (below q h) (error (fault BAD_TARGET q)) (ok h)
 
-    peek-read : (r : Read s inner q) → peekIn inner s q ≡ ok (headOf r)
+    peek-read : (r : Read s inner q) → peekIn inner s q ≡ ok (headOf s r)
     unfolding peekIn bind
     peek-read r =
         let above = excluded (leb 14 (r .kind)) (leb q (r .n)) (λ e. lt-leb q (r .n) (omega (arith, r .target (leb-true _ _ e)))) in
@@ -101,8 +114,7 @@ module _ (s : List ℕ) where
     peek-refused (queries.target {h} {n} w ref low) = rw (scanAt-whole s inner q w, le-leb _ _ ref, le-leb q n (omega arith))
 
     abbrev Peeks : Answer Fault Head → Type 0
-    Peeks (ok h) = (r : Read s inner q) × (headOf r ≡ h)
-    Peeks (error f) = RefusedRead s inner q f
+    Peeks = Row (λ h. (r : Read s inner q) × (headOf s r ≡ h)) (RefusedRead s inner q)
 
     whole-peeks : {h n : ℕ} {b : List ℕ} (w : Whole s inner q h n b) → Peeks (looked (headOfWhole s inner q w))
     whole-peeks {h} {n} w =
@@ -118,8 +130,10 @@ module _ (s : List ℕ) where
           kindIs = refl;
           items = headOfWhole s inner q w .items;
           itemsAre = refl;
+          first = headOfWhole s inner q w .first;
+          firstIs = whole-first s inner q w;
           end = headOfWhole s inner q w .end;
-          endIs = sym (whole-end s inner q w);
+          endIs = whole-end s inner q w ∙ rw (whole-first s inner q w);
           target = λ l. leb-false _ _ (excluded-by (leb 14 (h / 16)) _ e (le-leb _ _ l));
         } in
         (r, refl))
@@ -133,10 +147,14 @@ module _ (s : List ℕ) where
     unfolding peekIn
     peeks = scans-peeks (scanAt inner s q) (scanAt-scans s inner q)
 
+    peek-is : (a : Answer Fault Head) → Peeks a → peekIn inner s q ≡ a
+    peek-is (ok h) x = peek-read (x .0) ∙ ap ok (x .1)
+    peek-is (error f) x = peek-refused x
+
     -- ---- what is made of a token
 
     module _ {A : Type 0} (k : Head → Answer Fault A) where
-      pub peek-on : (r : Read s inner q) → bind (peekIn inner s q) k ≡ k (headOf r)
+      pub peek-on : (r : Read s inner q) → bind (peekIn inner s q) k ≡ k (headOf s r)
       unfolding bind
       peek-on r = rw (peek-read r)
 
@@ -144,7 +162,7 @@ module _ (s : List ℕ) where
       unfolding bind
       peek-fails x = rw (peek-refused x)
 
-      pub peek-elim : (P : Answer Fault A → Type 0) → ((f : Fault) → RefusedRead s inner q f → P (error f)) → ((r : Read s inner q) → P (k (headOf r)))
+      pub peek-elim : (P : Answer Fault A → Type 0) → ((f : Fault) → RefusedRead s inner q f → P (error f)) → ((r : Read s inner q) → P (k (headOf s r)))
           → P (bind (peekIn inner s q) k)
       unfolding bind
       peek-elim P bads goods = by-cases (peekIn inner s q) peeks
@@ -170,8 +188,7 @@ module _ (s : List ℕ) where
   items-refused {k} x = items-stop k (x .less) (x .before) (x .refused)
 
   abbrev Walks : ℕ → ℕ → Answer Fault ℕ → Type 0
-  Walks k q (ok e) = Items s k q e
-  Walks k q (error f) = RefusedItems s k q f
+  Walks k q = Row (Items s k q) (RefusedItems s k q)
 
   walks-on : (k q : ℕ) (r : Read s true q) (a : Answer Fault ℕ) → Walks k (r .end) a → Walks (suc k) q a
   walks-on k q r (ok e) x = queries.next r x
@@ -197,160 +214,236 @@ module _ (s : List ℕ) where
   -- ---- reading, skipping, and the query for an item
 
   module _ (q : ℕ) where
-    error-of-read : {f : Fault} → RefusedRead s false q f → readIn s q ≡ error f
+    abbrev Shows : Answer Fault Value → Type 0
+    Shows = Row (λ v. (r : Read s false q) × (valueOn s q (headOf s r) ≡ v)) (RefusedRead s false q)
+
+    read-row : Shows (readIn s q)
     unfolding readIn
-    error-of-read x = peek-fails false q _ x
+    read-row = peek-elim false q _ Shows (λ f x. x) (λ r. (r, refl))
 
-    read-row : Row (RefusedRead s false q) (readIn s q)
+    read-is : (a : Answer Fault Value) → Shows a → readIn s q ≡ a
     unfolding readIn
-    read-row = peek-elim false q _ (Row (RefusedRead s false q)) (λ f x. x) (λ r. tt)
+    read-is (ok v) x = peek-on false q _ (x .0) ∙ ap ok (x .1)
+    read-is (error f) x = peek-fails false q _ x
 
-    error-of-skip : {f : Fault} → RefusedSkip s q f → skipIn s q ≡ error f
-    unfolding skipIn
-    error-of-skip (queries.value x) = peek-fails false q _ x
-    error-of-skip (queries.items r x) = peek-on false q _ r ∙ items-refused x
-
-    skip-row : Row (RefusedSkip s q) (skipIn s q)
+    skip-row : Row (Skips s q) (RefusedSkip s q) (skipIn s q)
     unfolding skipIn
     skip-row =
-        peek-elim false q _ (Row (RefusedSkip s q)) (λ f x. queries.value x)
+        peek-elim false q _ (Row (Skips s q) (RefusedSkip s q)) (λ f x. queries.value x)
         (λ r. by-cases r (skipItems s (r .items) (r .end)) (walks (r .items) (r .end)))
       where
-        by-cases : (r : Read s false q) (a : Answer Fault ℕ) → Walks (r .items) (r .end) a → Row (RefusedSkip s q) a
-        by-cases r (ok e) x = tt
+        by-cases : (r : Read s false q) (a : Answer Fault ℕ) → Walks (r .items) (r .end) a → Row (Skips s q) (RefusedSkip s q) a
+        by-cases r (ok e) x = record { value = r; items = x }
         by-cases r (error f) x = queries.items r x
 
-    module _ (i : ℕ) where
-      error-of-item : {f : Fault} → RefusedItem s q i f → itemIn s q i ≡ error f
-      unfolding itemIn itemOn startsIn bind
-      error-of-item (queries.value x) = peek-fails false q _ x
-      error-of-item (queries.kind r flat) = peek-on false q _ r ∙ rw flat
-      error-of-item (queries.past r deep l) = peek-on false q _ r ∙ rw (deep, le-leb _ _ l)
-      error-of-item (queries.before r deep l x) = peek-on false q _ r ∙ rw (deep, lt-leb (r .items) i (omega arith), items-refused x)
-      error-of-item (queries.ended r deep l x out) = peek-on false q _ r ∙ rw (deep, lt-leb (r .items) i (omega arith), items-read x, le-ltb _ _ out)
+    skip-is : (a : Answer Fault ℕ) → Row (Skips s q) (RefusedSkip s q) a → skipIn s q ≡ a
+    unfolding skipIn
+    skip-is (ok e) x = peek-on false q _ (x .value) ∙ items-read (x .items)
+    skip-is (error f) (queries.value x) = peek-fails false q _ x
+    skip-is (error f) (queries.items r x) = peek-on false q _ r ∙ items-refused x
 
-      item-row : Row (RefusedItem s q i) (itemIn s q i)
+    module _ (i : ℕ) where
+      abbrev Picks : Answer Fault ℕ → Type 0
+      Picks = Row (HasItem s q i) (RefusedItem s q i)
+
+      item-row : Picks (itemIn s q i)
       unfolding itemIn itemOn startsIn
       item-row =
-          let P : Answer Fault ℕ → Type 0 = Row (RefusedItem s q i) in
-          peek-elim false q _ P (λ f x. queries.value x) (λ r.
-          pick-elim P (immediate (rule (r .kind))) (λ flat. queries.kind r flat) (λ deep.
-          pick-elim P (leb (r .items) i) (λ e. queries.past r deep (leb-true _ _ e)) (λ e.
+          peek-elim false q _ Picks (λ f x. queries.value x) (λ r.
+          pick-elim Picks (immediate (rule (r .kind))) (λ flat. queries.kind r flat) (λ deep.
+          pick-elim Picks (leb (r .items) i) (λ e. queries.past r deep (leb-true _ _ e)) (λ e.
           let less = leb-false (r .items) i e in
-          walk-elim P _ i (r .end) (λ f x. queries.before r deep less x) (λ p x.
-          pick-elim P (ltb p (length s)) (λ e. tt) (λ out. queries.ended r deep less x (ltb-false _ _ out))))))
+          walk-elim Picks _ i (r .end) (λ f x. queries.before r deep (omega arith) x) (λ p x.
+          pick-elim Picks (ltb p (length s)) (λ e. record { value = r; kind = deep; less = less; before = x; inside = ltb-true _ _ e })
+          (λ out. queries.ended r deep less x (ltb-false _ _ out))))))
+
+      item-is : (a : Answer Fault ℕ) → Picks a → itemIn s q i ≡ a
+      unfolding itemIn itemOn startsIn bind
+      item-is (ok p) x =
+          let below = lt-leb (x .value .items) i (omega (arith, x .less)) in
+          peek-on false q _ (x .value) ∙ rw (x .kind, below, items-read (x .before), lt-ltb _ _ (x .inside))
+      item-is (error f) (queries.value x) = peek-fails false q _ x
+      item-is (error f) (queries.kind r flat) = peek-on false q _ r ∙ rw flat
+      item-is (error f) (queries.past r deep l) = peek-on false q _ r ∙ rw (deep, le-leb _ _ l)
+      item-is (error f) (queries.before r deep l x) = peek-on false q _ r ∙ rw (deep, lt-leb (r .items) i (omega arith), items-refused x)
+      item-is (error f) (queries.ended r deep l x out) =
+          peek-on false q _ r ∙ rw (deep, lt-leb (r .items) i (omega arith), items-read x, le-ltb _ _ out)
 
   -- ---- following
 
-  pub error-of-follow : {q : ℕ} {f : Fault} → RefusedFollow s q f → (hops : ℕ) → followFrom s (position q hops) ≡ error f
-  error-of-follow (queries.value x) hops = sym (followFrom-error s _ hops _ (sym (peek-refused false _ x)))
-  error-of-follow (queries.pointer r k x) hops =
-      sym (followFrom-pointer s _ hops _ (sym (peek-read false _ r)) k) ∙ error-of-follow x (hops + 1)
+  -- after `met` pointers
+  pub follow-reaches : {q hops p : ℕ} {v : Read s false p} → Reaches s q hops p v → (met : ℕ)
+      → followFrom s (position q met) ≡ ok (followed p (hops + met) (headOf s v))
+  follow-reaches (queries.here {q} r other) met =
+      let none : met ≡ 0 + met = omega arith in
+      sym (followFrom-end s q met _ (sym (peek-read false q r)) other) ∙ ap (λ n. ok (followed q n (headOf s r))) none
+  follow-reaches (queries.pointer {q} {hops} {p} {v} r k x) met =
+      let one-more : hops + (met + 1) ≡ suc hops + met = omega arith in
+      sym (followFrom-pointer s q met _ (sym (peek-read false q r)) k) ∙ follow-reaches x (met + 1) ∙ ap (λ n. ok (followed p n (headOf s v))) one-more
 
-  -- what following leads to
-  pub record Leads (q hops p k : ℕ) (b : List ℕ) : Type 0 where
-    pub to : Followed
-    pub leads : followFrom s (position q hops) ≡ ok to
-    pub place : to .place ≡ p
-    pub kind : to .head .kind ≡ k
-    pub body : bodyOn s (to .head) ≡ b
+  pub follow-refused : {q : ℕ} {f : Fault} → RefusedFollow s q f → (met : ℕ) → followFrom s (position q met) ≡ error f
+  follow-refused (queries.value x) met = sym (followFrom-error s _ met _ (sym (peek-refused false _ x)))
+  follow-refused (queries.pointer r k x) met = sym (followFrom-pointer s _ met _ (sym (peek-read false _ r)) k) ∙ follow-refused x (met + 1)
 
-  pub reaches-leads : {q p k : ℕ} {b : List ℕ} → Reaches s q p k b → (hops : ℕ) → Leads q hops p k b
-  reaches-leads (queries.here r other) hops = record {
-    to = _;
-    leads = sym (followFrom-end s _ hops _ (sym (peek-read false _ r)) other);
-    place = refl;
-    kind = refl;
-    body = body-read false _ r;
-  }
-  reaches-leads (queries.pointer r k x) hops =
-      let l = reaches-leads x (hops + 1) in
+  -- what following from q leads to, after `met` pointers
+  record Led (q met : ℕ) (m : Followed) : Type 0 where
+    pub hops : ℕ
+    pub p : ℕ
+    pub v : Read s false p
+    pub reaches : Reaches s q hops p v
+    pub same : followed p (hops + met) (headOf s v) ≡ m
+
+  abbrev Follows : ℕ → ℕ → Answer Fault Followed → Type 0
+  Follows q met = Row (Led q met) (RefusedFollow s q)
+
+  follows-on : {q : ℕ} (met : ℕ) (r : Read s false q) → r .kind ≡ 15 → (a : Answer Fault Followed) → Follows (q - r .n - 1) (met + 1) a → Follows q met a
+  follows-on met r k (ok m) x =
+      let one-more : suc (x .hops) + met ≡ x .hops + (met + 1) = omega arith in
       record {
-        to = l .to;
-        leads = sym (followFrom-pointer s _ hops _ (sym (peek-read false _ r)) k) ∙ l .leads;
-        place = l .place;
-        kind = l .kind;
-        body = l .body;
+        hops = suc (x .hops);
+        p = x .p;
+        v = x .v;
+        reaches = queries.pointer r k (x .reaches);
+        same = ap (λ n. followed (x .p) n (headOf s (x .v))) one-more ∙ x .same;
       }
+  follows-on met r k (error f) x = queries.pointer r k x
 
-  abbrev Follows : ℕ → Answer Fault Followed → Type 0
-  Follows q (ok m) = Reaches s q (m .place) (m .head .kind) (bodyOn s (m .head))
-  Follows q (error f) = RefusedFollow s q f
-
-  follows-on : {q : ℕ} (r : Read s false q) → r .kind ≡ 15 → (a : Answer Fault Followed) → Follows (q - r .n - 1) a → Follows q a
-  follows-on r k (ok m) x = queries.pointer r k x
-  follows-on r k (error f) x = queries.pointer r k x
-
-  -- .. if this is so from every offset below
-  follow-turn : (q hops : ℕ) → ((p : ℕ) → p < q → Follows p (followFrom s (position p (hops + 1)))) → Follows q (followFrom s (position q hops))
-  follow-turn q hops lower = by-cases (peekIn false s q) refl (peeks false q)
+  -- .. if following from every offset below does so
+  follow-turn : (q met : ℕ) → ((p : ℕ) → p < q → Follows p (met + 1) (followFrom s (position p (met + 1)))) → Follows q met (followFrom s (position q met))
+  follow-turn q met lower = by-cases (peekIn false s q) refl (peeks false q)
     where
-      by-kind : (r : Read s false q) (t : Bool) → eqb (r .kind) 15 ≡ t → Follows q (followFrom s (position q hops))
+      by-kind : (r : Read s false q) (t : Bool) → eqb (r .kind) 15 ≡ t → Follows q met (followFrom s (position q met))
       by-kind r true e =
           let k = eqb-true (r .kind) 15 e in
           let down : q - r .n - 1 < q = omega (arith, r .target (omega arith)) in
-          subst (Follows q) (followFrom-pointer s q hops _ (sym (peek-read false q r)) k)
-          (follows-on r k (followFrom s (position (q - r .n - 1) (hops + 1))) (lower (q - r .n - 1) down))
+          subst (Follows q met) (followFrom-pointer s q met _ (sym (peek-read false q r)) k)
+          (follows-on met r k (followFrom s (position (q - r .n - 1) (met + 1))) (lower (q - r .n - 1) down))
       by-kind r false e =
           let other = eqb-false (r .kind) 15 e in
-          subst (Follows q) (followFrom-end s q hops _ (sym (peek-read false q r)) other)
-          (subst (Reaches s q q (r .kind)) (sym (body-read false q r)) (queries.here r other))
+          let none : 0 + met ≡ met = omega arith in
+          subst (Follows q met) (followFrom-end s q met _ (sym (peek-read false q r)) other)
+          (record { hops = 0; p = q; v = r; reaches = queries.here r other; same = ap (λ n. followed q n (headOf s r)) none })
 
-      by-cases : (a : Answer Fault Head) → peekIn false s q ≡ a → Peeks false q a → Follows q (followFrom s (position q hops))
+      by-cases : (a : Answer Fault Head) → peekIn false s q ≡ a → Peeks false q a → Follows q met (followFrom s (position q met))
       by-cases (ok h) e x = by-kind (x .0) _ refl
-      by-cases (error f) e x = subst (Follows q) (followFrom-error s q hops f (sym e)) (queries.value x)
+      by-cases (error f) e x = subst (Follows q met) (followFrom-error s q met f (sym e)) (queries.value x)
 
-  follows : (most q hops : ℕ) → q < most → Follows q (followFrom s (position q hops))
-  follows zero q hops l = absurd (omega arith)
-  follows (suc most) q hops l = follow-turn q hops (λ p down. follows most p (hops + 1) (omega arith))
+  follows : (most q met : ℕ) → q < most → Follows q met (followFrom s (position q met))
+  follows zero q met l = absurd (omega arith)
+  follows (suc most) q met l = follow-turn q met (λ p down. follows most p (met + 1) (omega arith))
 
   -- what is made of where it leads
   pub follow-elim : {A : Type 0} (P : Answer Fault A → Type 0) (j : Followed → Answer Fault A) (q : ℕ) → ((f : Fault) → RefusedFollow s q f → P (error f))
-      → ((m : Followed) → Reaches s q (m .place) (m .head .kind) (bodyOn s (m .head)) → P (j m)) → P (bind (followFrom s (position q 0)) j)
+      → ((hops p : ℕ) (v : Read s false p) → Reaches s q hops p v → P (j (followed p hops (headOf s v)))) → P (bind (followFrom s (position q 0)) j)
   unfolding bind
   follow-elim P j q bads goods = by-cases (followFrom s (position q 0)) (follows (suc q) q 0 (omega arith))
     where
-      by-cases : (a : Answer Fault Followed) → Follows q a → P (bind a j)
-      by-cases (ok m) x = goods m x
+      by-cases : (a : Answer Fault Followed) → Follows q 0 a → P (bind a j)
+      by-cases (ok m) x =
+          let none : x .hops ≡ x .hops + 0 = omega arith in
+          subst (λ m. P (j m)) (ap (λ n. followed (x .p) n (headOf s (x .v))) none ∙ x .same) (goods (x .hops) (x .p) (x .v) (x .reaches))
       by-cases (error f) x = bads f x
 
   module _ (q : ℕ) where
-    error-of-followIn : {f : Fault} → RefusedFollow s q f → followIn s q ≡ error f
-    unfolding followIn bind
-    error-of-followIn x = rw (error-of-follow x 0)
+    abbrev Ends : Answer Fault (ℕ × ℕ) → Type 0
+    Ends = Row (λ r. (v : Read s false (r .0)) × Reaches s q (r .1) (r .0) v) (RefusedFollow s q)
 
-    follow-row : Row (RefusedFollow s q) (followIn s q)
+    follow-row : Ends (followIn s q)
     unfolding followIn
-    follow-row = follow-elim (Row (RefusedFollow s q)) _ q (λ f x. x) (λ m x. tt)
+    follow-row = follow-elim Ends _ q (λ f x. x) (λ hops p v x. (v, x))
 
-    error-of-body : {f : Fault} → RefusedBody s q f → bodyPlaceIn s q ≡ error f
-    unfolding bodyPlaceIn bind
-    error-of-body (queries.follow x) = rw (error-of-follow x 0)
-    error-of-body (queries.kind x text bytes) =
-        let l = reaches-leads x 0 in
-        rw (l .leads, l .kind, ne-eqb _ _ text, ne-eqb _ _ bytes, l .place)
+    follow-is : (a : Answer Fault (ℕ × ℕ)) → Ends a → followIn s q ≡ a
+    unfolding followIn bind
+    follow-is (ok r) x = let none : r .1 + 0 ≡ r .1 = omega arith in rw (follow-reaches (x .1) 0) (ap (λ n. ok (r .0, n)) none)
+    follow-is (error f) x = rw (follow-refused x 0)
 
-    body-row : Row (RefusedBody s q) (bodyPlaceIn s q)
+    -- ---- the query for a body
+
+    abbrev Bodies : Answer Fault (ℕ × ℕ) → Type 0
+    Bodies = Row (λ r. HasBody s q (r .0) (r .1)) (RefusedBody s q)
+
+    body-row : Bodies (bodyPlaceIn s q)
     unfolding bodyPlaceIn
     body-row =
-        follow-elim (Row (RefusedBody s q)) _ q (λ f x. queries.follow x) (λ m x.
-        pick-elim (Row (RefusedBody s q)) (eqb (m .head .kind) 4 || eqb (m .head .kind) 5) (λ e. tt) (λ e.
-        or-false (eqb (m .head .kind) 4) _ e (λ text bytes. queries.kind x (eqb-false _ _ text) (eqb-false _ _ bytes))))
+        follow-elim Bodies _ q (λ f x. queries.follow x) (λ hops p v x.
+        pick-elim Bodies (eqb (v .kind) 4 || eqb (v .kind) 5)
+        (λ e. record {
+          hops = hops;
+          p = p;
+          value = v;
+          reaches = x;
+          kind = or-true (eqb (v .kind) 4) _ e (λ text. inl (eqb-true _ _ text)) (λ bytes. inr (eqb-true _ _ bytes));
+          firstIs = refl;
+          lenIs = sym (body-len false p v);
+        })
+        (λ e. or-false (eqb (v .kind) 4) _ e (λ text bytes. queries.kind x (eqb-false _ _ text) (eqb-false _ _ bytes))))
+
+    has-body : (k : ℕ) → (k ≡ 4) ⊎ (k ≡ 5) → eqb k 4 || eqb k 5 ≡ true
+    has-body k (inl e) = rw e
+    has-body k (inr e) = rw e
+
+    body-is : (a : Answer Fault (ℕ × ℕ)) → Bodies a → bodyPlaceIn s q ≡ a
+    unfolding bodyPlaceIn bind
+    body-is (ok r) x =
+        let len : x .value .end - x .value .first ≡ r .1 = sym (x .lenIs ∙ body-len false _ (x .value)) in
+        let place : (x .value .first, x .value .end - x .value .first) ≡ r = λ i. (sym (x .firstIs) i, len i) in
+        rw (follow-reaches (x .reaches) 0, has-body _ (x .kind)) (ap ok place)
+    body-is (error f) (queries.follow x) = rw (follow-refused x 0)
+    body-is (error f) (queries.kind x text bytes) = rw (follow-reaches x 0, ne-eqb _ _ text, ne-eqb _ _ bytes)
 
 -- ---- both ways
 
 module _ (file : List ℕ) (at : ℕ) where
+  peek-exactly : Exactly (λ s. peekIn false s at) (λ s h. (r : Read s false at) × (headOf s r ≡ h)) (λ s. RefusedRead s false at) file at
+  peek-exactly = query-exactly _ _ _ file at (λ s. peeks s false at) (λ s. peek-is s false at)
+
+  pub peek-answers-exactly : (h : Head) → (peekOf file at ≡ ok h) ↔ AnsweredQuery file at (λ s. (r : Read s false at) × (headOf s r ≡ h))
+  peek-answers-exactly h = peek-exactly (ok h)
+
+  pub peek-refused-exactly : (f : Fault) → (peekOf file at ≡ error f) ↔ RefusedQuery file at (λ s. RefusedRead s false at) f
+  peek-refused-exactly f = peek-exactly (error f)
+
+  read-exactly : Exactly (λ s. readIn s at) (λ s v. (r : Read s false at) × (valueOn s at (headOf s r) ≡ v)) (λ s. RefusedRead s false at) file at
+  read-exactly = query-exactly _ _ _ file at (λ s. read-row s at) (λ s. read-is s at)
+
+  pub read-answers-exactly : (v : Value) → (readOf file at ≡ ok v) ↔ AnsweredQuery file at (λ s. (r : Read s false at) × (valueOn s at (headOf s r) ≡ v))
+  read-answers-exactly v = read-exactly (ok v)
+
   pub read-refused-exactly : (f : Fault) → (readOf file at ≡ error f) ↔ RefusedQuery file at (λ s. RefusedRead s false at) f
-  read-refused-exactly = query-exactly _ _ file at (λ s. read-row s at) (λ s f. error-of-read s at)
+  read-refused-exactly f = read-exactly (error f)
+
+  skip-exactly : Exactly (λ s. skipIn s at) (λ s. Skips s at) (λ s. RefusedSkip s at) file at
+  skip-exactly = query-exactly _ _ _ file at (λ s. skip-row s at) (λ s. skip-is s at)
+
+  pub skip-answers-exactly : (e : ℕ) → (skipOf file at ≡ ok e) ↔ AnsweredQuery file at (λ s. Skips s at e)
+  skip-answers-exactly e = skip-exactly (ok e)
 
   pub skip-refused-exactly : (f : Fault) → (skipOf file at ≡ error f) ↔ RefusedQuery file at (λ s. RefusedSkip s at) f
-  skip-refused-exactly = query-exactly _ _ file at (λ s. skip-row s at) (λ s f. error-of-skip s at)
+  skip-refused-exactly f = skip-exactly (error f)
+
+  item-exactly : (i : ℕ) → Exactly (λ s. itemIn s at i) (λ s. HasItem s at i) (λ s. RefusedItem s at i) file at
+  item-exactly i = query-exactly _ _ _ file at (λ s. item-row s at i) (λ s. item-is s at i)
+
+  pub item-answers-exactly : (i p : ℕ) → (itemOf file at i ≡ ok p) ↔ AnsweredQuery file at (λ s. HasItem s at i p)
+  item-answers-exactly i p = item-exactly i (ok p)
 
   pub item-refused-exactly : (i : ℕ) (f : Fault) → (itemOf file at i ≡ error f) ↔ RefusedQuery file at (λ s. RefusedItem s at i) f
-  item-refused-exactly i = query-exactly _ _ file at (λ s. item-row s at i) (λ s f. error-of-item s at i)
+  item-refused-exactly i f = item-exactly i (error f)
+
+  follow-exactly : Exactly (λ s. followIn s at) (λ s r. (v : Read s false (r .0)) × Reaches s at (r .1) (r .0) v) (λ s. RefusedFollow s at) file at
+  follow-exactly = query-exactly _ _ _ file at (λ s. follow-row s at) (λ s. follow-is s at)
+
+  pub follow-answers-exactly : (p hops : ℕ) → (followOf file at ≡ ok (p, hops)) ↔ AnsweredQuery file at (λ s. (v : Read s false p) × Reaches s at hops p v)
+  follow-answers-exactly p hops = follow-exactly (ok (p, hops))
 
   pub follow-refused-exactly : (f : Fault) → (followOf file at ≡ error f) ↔ RefusedQuery file at (λ s. RefusedFollow s at) f
-  follow-refused-exactly = query-exactly _ _ file at (λ s. follow-row s at) (λ s f. error-of-followIn s at)
+  follow-refused-exactly f = follow-exactly (error f)
+
+  body-exactly : Exactly (λ s. bodyPlaceIn s at) (λ s r. HasBody s at (r .0) (r .1)) (λ s. RefusedBody s at) file at
+  body-exactly = query-exactly _ _ _ file at (λ s. body-row s at) (λ s. body-is s at)
+
+  pub body-answers-exactly : (first len : ℕ) → (bodyPlaceOf file at ≡ ok (first, len)) ↔ AnsweredQuery file at (λ s. HasBody s at first len)
+  body-answers-exactly first len = body-exactly (ok (first, len))
 
   pub body-refused-exactly : (f : Fault) → (bodyPlaceOf file at ≡ error f) ↔ RefusedQuery file at (λ s. RefusedBody s at) f
-  body-refused-exactly = query-exactly _ _ file at (λ s. body-row s at) (λ s f. error-of-body s at)
+  body-refused-exactly f = body-exactly (error f)

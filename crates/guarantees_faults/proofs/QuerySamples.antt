@@ -1,6 +1,7 @@
--- The rows of specs/Queries.antt on the witnesses of docs/READINGS.md, by the bytes; nothing is read.
+-- The relations of specs/Queries.antt on the witnesses of docs/READINGS.md and on small files, by the bytes; nothing is read.
 use mathlib.Core.Path.{_≡_, refl}
 use mathlib.Core.Bool.{Bool, true, false, false≢true}
+use mathlib.Core.Logic.{inl}
 use mathlib.Core.List.{List, [], _∷_}
 use Prim.Native.Nat.{ℕ, _+_, _-_, _/_, _%_, _≤_, _<_}
 use native.Mathlib.Omega.{arith}
@@ -11,8 +12,8 @@ use Rattle.kind.specs.Kind.{rule, size, counted, pending}
 use Rattle.guarantees_faults.specs.Faults as faults
 use Rattle.guarantees_faults.specs.Faults.{Usable, Whole}
 use Rattle.guarantees_faults.specs.Queries as queries
-use Rattle.guarantees_faults.specs.Queries.{RefusedQuery, Read, RefusedRead, RefusedSkip, RefusedItem, RefusedFollow, RefusedBody}
-use Rattle.guarantees_faults.specs.Queries.{OtherKey, RefusedLookup}
+use Rattle.guarantees_faults.specs.Queries.{AnsweredQuery, RefusedQuery, Read, RefusedRead, Skips, RefusedSkip, HasItem, RefusedItem}
+use Rattle.guarantees_faults.specs.Queries.{Reaches, RefusedFollow, HasBody, RefusedBody, KeyItem, RefusedLookup}
 use Rattle.guarantees_faults.proofs.Samples.{used, plain}
 
 -- B1: the offset of the delta byte
@@ -35,6 +36,8 @@ module _ (s : List ℕ) (inner : Bool) (q h : ℕ) (m : List ℕ) (u : Usable s 
     kindIs = refl;
     items = pending (rule (h / 16)) (h % 16) 0;
     itemsAre = refl;
+    first = length s - length m;
+    firstIs = refl;
     end = length s - length m + size (rule (h / 16)) (h % 16);
     endIs = refl;
     target = target;
@@ -101,13 +104,17 @@ unfolding rule pointer
 reserved-met =
     queries.inside (lit≤ tt) (lit< tt) (queries.pointer (pointer 0x90) refl (queries.value (queries.head (faults.reserved refl (lit≤ tt)))))
 
+integer : Read (0x10 ∷ 0xf0 ∷ []) false 0
+unfolding rule
+integer = read _ false 0 0x10 (0xf0 ∷ []) (used 0x10 (0xf0 ∷ []) (lit< tt)) refl (lit≤ tt) refl (lit≤ tt) (λ l. absurd (omega arith))
+
+one-hop : Reaches (0x10 ∷ 0xf0 ∷ []) 1 1 0 integer
+unfolding rule pointer integer
+one-hop = queries.pointer (pointer 0x10) refl (queries.here integer (λ e. absurd (omega arith)))
+
 integer-reached : RefusedQuery (0x10 ∷ 0xf0 ∷ 0 ∷ []) 1 (λ s. RefusedBody s 1) (fault WRONG_KIND 0)
-unfolding rule pointer
-integer-reached =
-    let r : Read (0x10 ∷ 0xf0 ∷ []) false 0 =
-    read _ false 0 0x10 (0xf0 ∷ []) (used 0x10 (0xf0 ∷ []) (lit< tt)) refl (lit≤ tt) refl (lit≤ tt) (λ l. absurd (omega arith)) in
-    queries.inside (lit≤ tt) (lit< tt)
-    (queries.kind (queries.pointer (pointer 0x10) refl (queries.here r (λ e. absurd (omega arith)))) (λ e. absurd (omega arith)) (λ e. absurd (omega arith)))
+unfolding integer
+integer-reached = queries.inside (lit≤ tt) (lit< tt) (queries.kind one-hop (λ e. absurd (omega arith)) (λ e. absurd (omega arith)))
 
 -- B9: the value of another key is not followed, here to the reserved header at 0
 value-not-followed : RefusedQuery (0x90 ∷ 0x71 ∷ 0x10 ∷ 0xf2 ∷ 0 ∷ []) 1 (λ s. RefusedLookup s 1 []) (fault NO_ITEM 1)
@@ -119,14 +126,72 @@ value-not-followed =
     let at3 : Usable s true 3 0xf2 [] = record { header = refl; used = lit< tt; flat = λ e. refl } in
     let key : (inner : Bool) → Read s inner 2 =
     λ inner. read s inner 2 0x10 (0xf2 ∷ []) (at2 inner) refl (lit≤ tt) refl (lit≤ tt) (λ l. absurd (omega arith)) in
-    let other : OtherKey s [] 2 = record {
+    let other : KeyItem s 2 = record {
       item = key true;
+      hops = 0;
       p = 2;
-      k = 1;
-      b = [];
+      v = key false;
       reaches = queries.here (key false) (λ e. absurd (omega arith));
-      other = λ e. absurd (omega arith);
     } in
     queries.inside (lit≤ tt) (lit< tt)
     (queries.missing (read s false 1 0x71 (0x10 ∷ 0xf2 ∷ []) at1 refl (lit≤ tt) refl (lit≤ tt) (λ l. absurd (omega arith))) refl
-    (queries.next other (read s true 3 0xf2 [] at3 refl (lit≤ tt) refl (lit≤ tt) (λ l. lit< tt)) queries.none))
+    (queries.next other (λ (e, same). absurd (omega arith)) (read s true 3 0xf2 [] at3 refl (lit≤ tt) refl (lit≤ tt) (λ l. lit< tt)) queries.none))
+
+-- an array of two integers: item 1 starts where item 0 ends, and the value ends where item 1 does
+abbrev region : List ℕ
+region = 0x62 ∷ 0x10 ∷ 0x11 ∷ []
+
+integers : Read region false 0
+unfolding rule
+integers = read region false 0 0x62 (0x10 ∷ 0x11 ∷ []) (used 0x62 (0x10 ∷ 0x11 ∷ []) (lit< tt)) refl (lit≤ tt) refl (lit≤ tt) (λ l. absurd (omega arith))
+
+first : Read region true 1
+unfolding rule
+first =
+    let u : Usable region true 1 0x10 (0x11 ∷ []) = record { header = refl; used = lit< tt; flat = λ e. refl } in
+    read region true 1 0x10 (0x11 ∷ []) u refl (lit≤ tt) refl (lit≤ tt) (λ l. absurd (omega arith))
+
+second : Read region true 2
+unfolding rule
+second =
+    let u : Usable region true 2 0x11 [] = record { header = refl; used = lit< tt; flat = λ e. refl } in
+    read region true 2 0x11 [] u refl (lit≤ tt) refl (lit≤ tt) (λ l. absurd (omega arith))
+
+item-1 : AnsweredQuery (0x62 ∷ 0x10 ∷ 0x11 ∷ 2 ∷ []) 0 (λ s. HasItem s 0 1 2)
+unfolding rule integers first
+item-1 = record {
+  short = lit≤ tt;
+  inside = lit< tt;
+  answers = record { value = integers; kind = refl; less = lit< tt; before = queries.next first queries.none; inside = lit< tt };
+}
+
+skipped : AnsweredQuery (0x62 ∷ 0x10 ∷ 0x11 ∷ 2 ∷ []) 0 (λ s. Skips s 0 3)
+unfolding rule integers first second
+skipped = record {
+  short = lit≤ tt;
+  inside = lit< tt;
+  answers = record { value = integers; items = queries.next first (queries.next second queries.none) };
+}
+
+-- the body of a text of one byte, asked for at a pointer to it
+text-reached : AnsweredQuery (0x41 ∷ 0x61 ∷ 0xf1 ∷ 0 ∷ []) 2 (λ s. HasBody s 2 1 1)
+unfolding rule
+text-reached =
+    let s : List ℕ = 0x41 ∷ 0x61 ∷ 0xf1 ∷ [] in
+    let r : Read s false 0 =
+    read s false 0 0x41 (0x61 ∷ 0xf1 ∷ []) (used 0x41 (0x61 ∷ 0xf1 ∷ []) (lit< tt)) refl (lit≤ tt) refl (lit≤ tt) (λ l. absurd (omega arith)) in
+    let u : Usable s false 2 0xf1 [] = record { header = refl; used = lit< tt; flat = λ e. absurd (false≢true e) } in
+    let p : Read s false 2 = read s false 2 0xf1 [] u refl (lit≤ tt) refl (lit≤ tt) (λ l. lit< tt) in
+    record {
+      short = lit≤ tt;
+      inside = lit< tt;
+      answers = record {
+        hops = 1;
+        p = 0;
+        value = r;
+        reaches = queries.pointer p refl (queries.here r (λ e. absurd (omega arith)));
+        kind = inl refl;
+        firstIs = refl;
+        lenIs = refl;
+      };
+    }

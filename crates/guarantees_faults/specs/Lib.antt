@@ -1,4 +1,4 @@
 -- what a token is refused for
 pub mod Faults
--- what a query is refused for
+-- what a query answers, and what it is refused for
 pub mod Queries
