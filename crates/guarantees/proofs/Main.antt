@@ -1,9 +1,10 @@
 -- The demands as theorems: each is one record of specs/Demands.antt, whose fields are the user's sentences in their order, and each field is a citation.
 -- docs/GUARANTEES.md quotes these statements and records, and reads them aloud.
 --
--- After the three demands, what says more than they do: check's answers (in at most one way, and which refusal when); what a query is refused for, and
--- lookup, on every file; one call of the writer in any state; lists of calls from any state, in C and by their parts, and an open value finished; longer
--- memory, and how many words are enough; paths; what all of this rests on (numbers and tokens there and back); document 01's samples.
+-- After the three demands, what says more than they do: check's answers (in at most one way, and which refusal when); what a query answers, and what
+-- it is refused for, on every file, lookup also by the other queries; one call of the writer in any state; lists of calls from any state, in C and by
+-- their parts, and an open value finished; longer memory, and how many words are enough; paths; what all of this rests on (numbers and tokens there
+-- and back); document 01's samples.
 use mathlib.Core.Path.{_≡_}
 use mathlib.Core.Bool.{Bool, true, false}
 use mathlib.Core.Logic.{_⊎_, _↔_}
@@ -19,11 +20,14 @@ use Rattle.token.specs.Token.{Token, emit, Fits}
 use Rattle.token.specs.Scan.{scan}
 use Rattle.token.proofs.Laws.{Scanned}
 use Rattle.token.proofs.Laws as token
+use Rattle.scan.specs.declared.Head.{Head}
 use Rattle.values.specs.Values.{Value, bytes, starts, Each, WellFormed}
 use Rattle.values.specs.Paths.{Refers, Leads}
 use Rattle.values.proofs.Unique as unique
 use Rattle.values.proofs.Leads as leads
-use Rattle.reader_value.specs.Value.{readOf}
+use Rattle.reader_region.specs.Region.{peekOf}
+use Rattle.reader_value.specs.Value.{valueOn, readOf}
+use Rattle.reader_value.specs.declared.Value.{Value as ReadValue}
 use Rattle.reader_items.specs.Items.{skipOf, itemOf}
 use Rattle.reader_follow.specs.Follow.{followOf}
 use Rattle.reader_body.specs.Body.{bodyPlaceOf}
@@ -37,10 +41,11 @@ use Rattle.writer.specs.Runs.{runs}
 use Rattle.writer.proofs.Refused as writer
 use Rattle.abi_writer.specs.Calls.{writerOf, wordsOf, numberC, runsC}
 use Rattle.guarantees_faults.specs.Faults.{RefusedToken}
+use Rattle.guarantees_faults.specs.Queries.{AnsweredQuery, Read, headOf, Skips, HasItem, Reaches, HasBody, Finds}
 use Rattle.guarantees_faults.specs.Queries.{RefusedQuery, RefusedRead, RefusedSkip, RefusedItem, RefusedFollow, RefusedBody, RefusedLookup}
 use Rattle.guarantees_faults.proofs.Refused as faults
-use Rattle.guarantees_faults.proofs.Queries as query-faults
-use Rattle.guarantees_faults.proofs.Lookups as lookup-faults
+use Rattle.guarantees_faults.proofs.Queries as queries
+use Rattle.guarantees_faults.proofs.Lookups as lookup-queries
 use Rattle.guarantees.specs.Accepts.{Overfull}
 use Rattle.guarantees.specs.Refused.{Unnamed, Faulty}
 use Rattle.guarantees.specs.Lookup.{Found, Missing}
@@ -135,28 +140,57 @@ too-long-exactly = refused.too-long-exactly
 pub bad-entry-exactly : (file : List ℕ) (cap p : ℕ) → Bytes file → (checkOf file cap .answer ≡ error (fault BAD_ENTRY p)) ↔ Unnamed file cap p
 bad-entry-exactly = refused.bad-entry-exactly
 
--- ---- what a query is refused for, on every file
+-- ---- what a query answers, and what it is refused for, on every file
+
+pub peek-answers-exactly : (file : List ℕ) (at : ℕ) (h : Head)
+    → (peekOf file at ≡ ok h) ↔ AnsweredQuery file at (λ s. (r : Read s false at) × (headOf s r ≡ h))
+peek-answers-exactly = queries.peek-answers-exactly
+
+pub peek-refused-exactly : (file : List ℕ) (at : ℕ) (f : Fault) → (peekOf file at ≡ error f) ↔ RefusedQuery file at (λ s. RefusedRead s false at) f
+peek-refused-exactly = queries.peek-refused-exactly
+
+pub read-answers-exactly : (file : List ℕ) (at : ℕ) (v : ReadValue)
+    → (readOf file at ≡ ok v) ↔ AnsweredQuery file at (λ s. (r : Read s false at) × (valueOn s at (headOf s r) ≡ v))
+read-answers-exactly = queries.read-answers-exactly
 
 pub read-refused-exactly : (file : List ℕ) (at : ℕ) (f : Fault) → (readOf file at ≡ error f) ↔ RefusedQuery file at (λ s. RefusedRead s false at) f
-read-refused-exactly = query-faults.read-refused-exactly
+read-refused-exactly = queries.read-refused-exactly
+
+pub skip-answers-exactly : (file : List ℕ) (at e : ℕ) → (skipOf file at ≡ ok e) ↔ AnsweredQuery file at (λ s. Skips s at e)
+skip-answers-exactly = queries.skip-answers-exactly
 
 pub skip-refused-exactly : (file : List ℕ) (at : ℕ) (f : Fault) → (skipOf file at ≡ error f) ↔ RefusedQuery file at (λ s. RefusedSkip s at) f
-skip-refused-exactly = query-faults.skip-refused-exactly
+skip-refused-exactly = queries.skip-refused-exactly
+
+pub item-answers-exactly : (file : List ℕ) (at i p : ℕ) → (itemOf file at i ≡ ok p) ↔ AnsweredQuery file at (λ s. HasItem s at i p)
+item-answers-exactly = queries.item-answers-exactly
 
 pub item-refused-exactly : (file : List ℕ) (at i : ℕ) (f : Fault) → (itemOf file at i ≡ error f) ↔ RefusedQuery file at (λ s. RefusedItem s at i) f
-item-refused-exactly = query-faults.item-refused-exactly
+item-refused-exactly = queries.item-refused-exactly
+
+pub follow-answers-exactly : (file : List ℕ) (at p hops : ℕ)
+    → (followOf file at ≡ ok (p, hops)) ↔ AnsweredQuery file at (λ s. (v : Read s false p) × Reaches s at hops p v)
+follow-answers-exactly = queries.follow-answers-exactly
 
 pub follow-refused-exactly : (file : List ℕ) (at : ℕ) (f : Fault) → (followOf file at ≡ error f) ↔ RefusedQuery file at (λ s. RefusedFollow s at) f
-follow-refused-exactly = query-faults.follow-refused-exactly
+follow-refused-exactly = queries.follow-refused-exactly
+
+pub body-answers-exactly : (file : List ℕ) (at first len : ℕ)
+    → (bodyPlaceOf file at ≡ ok (first, len)) ↔ AnsweredQuery file at (λ s. HasBody s at first len)
+body-answers-exactly = queries.body-answers-exactly
 
 pub body-refused-exactly : (file : List ℕ) (at : ℕ) (f : Fault) → (bodyPlaceOf file at ≡ error f) ↔ RefusedQuery file at (λ s. RefusedBody s at) f
-body-refused-exactly = query-faults.body-refused-exactly
+body-refused-exactly = queries.body-refused-exactly
+
+pub lookup-answers-exactly : (file : List ℕ) (at : ℕ) (key : List ℕ) (x : ℕ)
+    → (lookupOf file at key ≡ ok x) ↔ AnsweredQuery file at (λ s. Finds s at key x)
+lookup-answers-exactly = lookup-queries.lookup-answers-exactly
 
 pub lookup-refused-exactly : (file : List ℕ) (at : ℕ) (key : List ℕ) (f : Fault)
     → (lookupOf file at key ≡ error f) ↔ RefusedQuery file at (λ s. RefusedLookup s at key) f
-lookup-refused-exactly = lookup-faults.lookup-refused-exactly
+lookup-refused-exactly = lookup-queries.lookup-refused-exactly
 
--- ---- lookup, on every file
+-- ---- lookup, on every file, by the other queries
 
 pub lookup-found-exactly : (file : List ℕ) (at : ℕ) (key : List ℕ) (x : ℕ) → (lookupOf file at key ≡ ok x) ↔ Found file at key x
 lookup-found-exactly = lookups.lookup-found-exactly

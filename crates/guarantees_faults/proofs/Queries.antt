@@ -99,8 +99,8 @@ module _ (s : List ℕ) where
     body-len : (r : Read s inner q) → length (r .body) ≡ r .end - r .first
     body-len r = let size : length (r .body) ≡ size (rule (r .kind)) (r .n) = rw (r .kindIs) (whole-size s inner q (r .whole)) in omega (arith, r .endIs)
 
-    abbrev looked : Head → Answer Fault Head
-    looked h = pick (below q h) (error (fault BAD_TARGET q)) (ok h)
+    abbrev targeted : Head → Answer Fault Head
+    targeted h = pick (below q h) (error (fault BAD_TARGET q)) (ok h)
 
     peek-read : (r : Read s inner q) → peekIn inner s q ≡ ok (headOf s r)
     unfolding peekIn bind
@@ -116,7 +116,7 @@ module _ (s : List ℕ) where
     abbrev Peeks : Answer Fault Head → Type 0
     Peeks = Row (λ h. (r : Read s inner q) × (headOf s r ≡ h)) (RefusedRead s inner q)
 
-    whole-peeks : {h n : ℕ} {b : List ℕ} (w : Whole s inner q h n b) → Peeks (looked (headOfWhole s inner q w))
+    whole-peeks : {h n : ℕ} {b : List ℕ} (w : Whole s inner q h n b) → Peeks (targeted (headOfWhole s inner q w))
     whole-peeks {h} {n} w =
         pick-elim Peeks (leb 14 (h / 16) && leb q n)
         (λ e. queries.target w (leb-true _ _ (and-l (leb 14 (h / 16)) _ e)) (leb-true _ _ (and-r (leb 14 (h / 16)) _ e)))
@@ -138,9 +138,9 @@ module _ (s : List ℕ) where
         } in
         (r, refl))
 
-    scans-peeks : (a : Answer Fault Head) → Scans s inner q a → Peeks (bind a looked)
+    scans-peeks : (a : Answer Fault Head) → Scans s inner q a → Peeks (bind a targeted)
     unfolding bind
-    scans-peeks (ok h) x = subst (λ h. Peeks (looked h)) (sym (x .same)) (whole-peeks (x .whole))
+    scans-peeks (ok h) x = subst (λ h. Peeks (targeted h)) (sym (x .same)) (whole-peeks (x .whole))
     scans-peeks (error f) x = queries.head x
 
     peeks : Peeks (peekIn inner s q)

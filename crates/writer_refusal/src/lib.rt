@@ -108,8 +108,8 @@ fn is_bad_state(state: State, bytes: usize, words: usize) -> bool
     ensures { λ r. ⌜ r ≡ badState state bytes words ⌝ }
 {
     // an open value without a free word, or that does not start below the bytes written
-    let astray = (0 < state.pending) & ((words <= state.count) | (state.written <= state.start));
-    (bytes < state.written) | ((error::LIMIT < state.written) | ((words < state.count) | astray))
+    let open_bad = (0 < state.pending) & ((words <= state.count) | (state.written <= state.start));
+    (bytes < state.written) | ((error::LIMIT < state.written) | ((words < state.count) | open_bad))
 }
 
 // Whether a token of `size` bytes is accepted, with the items left after it. If there is room for it, the state is within the
