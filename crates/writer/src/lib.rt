@@ -118,23 +118,6 @@ fn token_flags(row: Rule, kind: u8, good: bool) -> CallFlags
 impl Writer {
     // ---- a token
 
-    // Whether `at` is a listed start; for a state that is BAD_STATE the answer means nothing.
-    fn is_listed(self, starts: &[u32], at: usize) -> bool
-        ensures { λ r. ⌜ ListedTest r at (self .state) (now (starts .entry)) ⌝ }
-    {
-        let count = self.state.count;
-        if error::LIMIT < self.state.written {
-            return false;
-        }
-        if starts.len() < count {
-            return false;
-        }
-        if self.state.written <= at {
-            return false;
-        }
-        writer_listing::is_among(&starts[..count], at as u32)
-    }
-
     // Whether a token that names the offset `target` is accepted, and what it takes. `good`: its text or target is right;
     // `row`: the rule of its kind.
     fn fit(
@@ -455,7 +438,7 @@ impl Writer {
         let kind = kind::KIND_REFERENCE;
         let rule = kind::rule_of(kind);
         let n = distance(self.state.written, at);
-        let good = self.is_listed(starts, at);
+        let good = writer_listing::is_listed(self.state.written, self.state.count, starts, at);
         let fit = self.fit(good, rule, kind, n, 0, b"", at, out, starts);
         self.put_token(fit, kind, n, 0, at, out, starts)
     }
@@ -467,7 +450,7 @@ impl Writer {
         let kind = kind::KIND_POINTER;
         let rule = kind::rule_of(kind);
         let n = distance(self.state.written, at);
-        let good = self.is_listed(starts, at);
+        let good = writer_listing::is_listed(self.state.written, self.state.count, starts, at);
         let fit = self.fit(good, rule, kind, n, 0, b"", at, out, starts);
         self.put_token(fit, kind, n, 0, at, out, starts)
     }
@@ -535,7 +518,7 @@ impl Writer {
     pub fn close(self, at: usize, out: &mut [u8], starts: &mut [u32]) -> WriteResult
         ensures { λ r. ⌜ wrote r (now (out .exit)) (now (starts .exit)) ≡ step (Call.close at) (self .state) (now (out .entry)) (now (starts .entry)) ⌝ }
     {
-        let good = self.is_listed(starts, at);
+        let good = writer_listing::is_listed(self.state.written, self.state.count, starts, at);
         let back = distance(self.state.written, at);
         if back <= 255 {
             return self.close_near(good, at, back as u8, out, starts);

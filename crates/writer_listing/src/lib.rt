@@ -1,10 +1,12 @@
 // The listed words, the first of a starts table (document 01, "Writer"): whether a word is among them, and how one more is listed.
 ghost use mathlib.Core.Path.{_≡_};
+ghost use mathlib.Core.Bool.{_&&_};
 ghost use Prim.Native.Nat.{_+_, _≤_, _<_, _^_};
-ghost use lib.Dec.{eqb};
-ghost use lib.ListN.{length, set};
+ghost use lib.Dec.{eqb, ltb};
+ghost use lib.ListN.{length, take, set};
 ghost use Rattle.prelude.specs.Pick.{pick};
 ghost use Rattle.prelude.specs.Search.{among};
+ghost use Rattle.error.specs.Error.{LIMIT};
 
 // 1 if the word at i is at most x, else 0.
 fn until(t: &[u32], i: usize, x: u32) -> usize
@@ -68,7 +70,7 @@ fn is_among_each(t: &[u32], x: u32) -> bool
 }
 
 // Whether a table has x: it is first looked for where a rising table would have it.
-pub fn is_among(t: &[u32], x: u32) -> bool
+fn is_among(t: &[u32], x: u32) -> bool
     ensures { λ r. ⌜ r ≡ among x (now (t .entry)) ⌝ }
 {
     if t.len() == 0 {
@@ -79,6 +81,23 @@ pub fn is_among(t: &[u32], x: u32) -> bool
         return true;
     }
     is_among_each(t, x)
+}
+
+// Whether `at` is below the bytes written and among the first `count` words of a table, which are listed; the answer means nothing if more bytes are
+// written than LIMIT, or more words counted than the table has.
+pub fn is_listed(written: usize, count: usize, starts: &[u32], at: usize) -> bool
+    ensures { λ r. ⌜ (written ≤ LIMIT → count ≤ length (now (starts .entry)) → r ≡ ltb at written && among at (take count (now (starts .entry)))) ⌝ }
+{
+    if error::LIMIT < written {
+        return false;
+    }
+    if starts.len() < count {
+        return false;
+    }
+    if written <= at {
+        return false;
+    }
+    is_among(&starts[..count], at as u32)
 }
 
 // Lists a start in word number `count` if no item is left pending, and returns how many are listed.

@@ -1,11 +1,11 @@
--- `writer::Writer::is_listed` meets its contract.
+-- `writer_listing::is_listed` meets its contract.
 use mathlib.Core.Path.{sym}
 use native.Mathlib.Omega.{arith}
 use lib.Seq.{length-take-le}
 use borrow.Author.Needs.{needs}
 use borrow.Author.Tests.{lt-ltb, le-ltb}
-use Rattle.writer.proofs.Writer.is_listed.Statement.{statement}
-use Rattle.writer.proofs.Writer.is_listed.Tie as tie
+use Rattle.writer_listing.proofs.is_listed.Statement.{statement}
+use Rattle.writer_listing.proofs.is_listed.Tie as tie
 
 pub is-listed-spec : {M : Type 1} → statement M
 is-listed-spec =
