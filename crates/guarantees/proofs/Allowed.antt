@@ -23,13 +23,13 @@ use Rattle.values.specs.Values.{tokens, bytes, region, starts, Each, Sound, Ite
 use Rattle.values.proofs.Members.{each-imp}
 use Rattle.writer.specs.Call.{Call}
 use Rattle.writer.specs.Given.{Given}
-use Rattle.guarantees.specs.Model.{Part, requestOf, ModelValue, formOf, formsOf, valueAt, valuesAt, endOf}
-use Rattle.guarantees.specs.Model.{Model, model, emptyModel, pendingIn, Request, adds, ends}
-use Rattle.guarantees.specs.History.{modelRun}
-use Rattle.guarantees.proofs.Models.{pending-form, length-forms, region-snoc, starts-snoc, start-lt, end-le}
+use Rattle.guarantees_writer.specs.Model.{Part, requestOf, ModelValue, formOf, formsOf, valueAt, valuesAt, endOf}
+use Rattle.guarantees_writer.specs.Model.{Model, model, emptyModel, pendingIn, Request, adds, ends}
+use Rattle.guarantees_writer.specs.History.{modelRun}
+use Rattle.guarantees_writer.proofs.Models.{pending-form, length-forms, region-snoc, starts-snoc, start-lt, end-le}
 use Rattle.guarantees.proofs.Invariant.{Fit, GoodValue, Finished, ModelInvariant, Clear, addedBy, invariant-run}
-use Rattle.guarantees.proofs.History.{moveAs, move-request}
-use Rattle.guarantees.proofs.Errors.{AllowedMove, allowed-move}
+use Rattle.guarantees_writer.proofs.History.{moveAs, move-request}
+use Rattle.guarantees_writer.proofs.Errors.{AllowedMove, allowed-move}
 
 abbrev pub AllowedPart : Part → Type 0
 AllowedPart p = Sound (formOf 0 p)

@@ -16,8 +16,8 @@ use Rattle.writer.specs.Call.{openVariantN, close}
 use Rattle.writer.specs.Given.{Given}
 use Rattle.writer.specs.declared.Scalar.the-variants.{False, True, Null}
 use Rattle.guarantees.specs.TokenValues.{tokenEnd, valueOfToken}
-use Rattle.guarantees.specs.Model.{Part, Request, adds, ends, requestOf, formOf}
-use Rattle.guarantees.specs.AcceptedParts.{partsAdded}
+use Rattle.guarantees_writer.specs.Model.{Part, Request, adds, ends, requestOf, formOf}
+use Rattle.guarantees_writer.specs.AcceptedParts.{partsAdded}
 use Rattle.guarantees.specs.ReadsBack.{valueOfPart}
 use Rattle.guarantees.specs.CallValues.{first, valueOfCall}
 use Rattle.guarantees.proofs.Invariant.{addedBy}

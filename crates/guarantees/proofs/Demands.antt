@@ -20,20 +20,21 @@ use Rattle.writer.specs.Runs.{runs}
 use Rattle.writer.specs.Given.{Given}
 use Rattle.abi_writer.specs.Calls.{writerOf, wordsOf, numberC, runsC}
 use Rattle.abi_writer.proofs.Theorems.{writerOf-wordsOf, runs-words}
-use Rattle.guarantees.specs.Model.{ends, Model, emptyModel, modelAnswer, modelAfter}
-use Rattle.guarantees.specs.History.{ModelRan, modelRun, Agree}
-use Rattle.guarantees.specs.AcceptedParts.{acceptedParts}
+use Rattle.guarantees_writer.specs.Model.{ends, Model, emptyModel, modelAnswer, modelAfter}
+use Rattle.guarantees_writer.specs.History.{ModelRan, modelRun, Agree}
+use Rattle.guarantees_writer.specs.AcceptedParts.{acceptedParts}
 use Rattle.guarantees.specs.ReadsBack.{ReadsBack}
-use Rattle.guarantees.specs.Rewrites.{rewriting, AllOk, Rewritten}
+use Rattle.guarantees.specs.Rewrites.{rewriting, Rewritten}
+use Rattle.guarantees_writer.specs.History.{AllOk}
 use Rattle.guarantees.specs.Demands.{TellsValues, AfterCalls}
 use Rattle.guarantees.proofs.Accepted.{accepted}
 use Rattle.guarantees.proofs.ReadsFile.{reads-token, reads-body, reads-body-of-pointer, reads-no-body, reads-end, reads-item, reads-none}
 use Rattle.guarantees.proofs.ReadsFile.{reads-immediate-end, reads-no-items}
 use Rattle.guarantees.proofs.ReadsLookup.{reads-lookup, reads-no-lookup, reads-lookup-kind}
 use Rattle.guarantees.proofs.Hops.{hops-none, follows-pointer, hops}
-use Rattle.guarantees.proofs.History.{history}
-use Rattle.guarantees.proofs.Lists.{modelRun-append, length-answers, ended-same, ended-answers}
-use Rattle.guarantees.proofs.AcceptedParts.{parts-accepted}
+use Rattle.guarantees_writer.proofs.History.{history}
+use Rattle.guarantees_writer.proofs.Lists.{modelRun-append, length-answers, ended-same, ended-answers}
+use Rattle.guarantees_writer.proofs.AcceptedParts.{parts-accepted}
 use Rattle.guarantees.proofs.Rest.{rest-kept}
 use Rattle.guarantees.proofs.Targets.{targets-earlier, formed-so-far}
 use Rattle.guarantees.proofs.RewritesRead.{rewrites-read}

@@ -37,12 +37,12 @@ use Rattle.values.proofs.Laws.{length-starts, start-of}
 use Rattle.writer_refusal.specs.Refusal.{Verdict}
 use Rattle.writer_refusal.proofs.Refusals.{past}
 use Rattle.writer.specs.Call.{Call}
-use Rattle.guarantees.specs.Model.{Part, part, Request, adds, ends, requestOf, ModelValue, modelValue, formOf, valueAt, valuesAt}
-use Rattle.guarantees.specs.Model.{Stage, between, within, closed, isClosed, Model, model, emptyModel, modelBytes, modelStarts}
-use Rattle.guarantees.specs.Model.{endOf, pendingIn, pendingAt, grown, firstOf, backTo, modelAnswer, settle, modelAfter}
-use Rattle.guarantees.specs.History.{modelRun, unlessRefused}
+use Rattle.guarantees_writer.specs.Model.{Part, part, Request, adds, ends, requestOf, ModelValue, modelValue, formOf, valueAt, valuesAt}
+use Rattle.guarantees_writer.specs.Model.{Stage, between, within, closed, isClosed, Model, model, emptyModel, modelBytes, modelStarts}
+use Rattle.guarantees_writer.specs.Model.{endOf, pendingIn, pendingAt, grown, firstOf, backTo, modelAnswer, settle, modelAfter}
+use Rattle.guarantees_writer.specs.History.{modelRun, unlessRefused}
 use Rattle.guarantees.specs.ReadsBack.{Holds}
-use Rattle.guarantees.proofs.Models.{values-snoc, start-lt, bytes-between, bytes-closed, bytes-grown, bytes-settle, modelRoom, answer-part, answer-close}
+use Rattle.guarantees_writer.proofs.Models.{values-snoc, start-lt, bytes-between, bytes-closed, bytes-grown, bytes-settle, modelRoom, answer-part, answer-close}
 
 -- ---- what is kept
 

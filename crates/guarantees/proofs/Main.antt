@@ -50,35 +50,35 @@ use Rattle.guarantees.specs.Accepts.{Overfull}
 use Rattle.guarantees.specs.Refused.{Unnamed, Faulty}
 use Rattle.guarantees.specs.Lookup.{Found, Missing}
 use Rattle.guarantees.specs.Samples.{Query, SampleAnswer, sampleAnswer, samples}
-use Rattle.guarantees.specs.Model.{requestOf, formsOf, deltaOf, Model, emptyModel}
-use Rattle.guarantees.specs.RefusedCall.{NoRoom, RefusedCall}
-use Rattle.guarantees.specs.History.{modelRun, Agree, Follows, Alike}
-use Rattle.guarantees.specs.AcceptedParts.{acceptedParts}
-use Rattle.guarantees.specs.Longer.{MemoryAnswer, longer, Stretch, runsGrowing, callsIn, bytesIn, wordsIn, acceptedOf, Leaves, modelGrowing}
-use Rattle.guarantees.specs.Written.{writes, expects, written}
-use Rattle.guarantees.specs.OneCall.{Writes, Only, Finishing, OneByte, FinishedBy}
+use Rattle.guarantees_writer.specs.Model.{requestOf, formsOf, deltaOf, Model, emptyModel}
+use Rattle.guarantees_writer.specs.RefusedCall.{NoRoom, RefusedCall}
+use Rattle.guarantees_writer.specs.History.{modelRun, Agree, Follows, Alike}
+use Rattle.guarantees_writer.specs.AcceptedParts.{acceptedParts}
+use Rattle.guarantees_writer.specs.Longer.{MemoryAnswer, longer, Stretch, runsGrowing, callsIn, bytesIn, wordsIn, acceptedOf, Leaves, modelGrowing}
+use Rattle.guarantees_writer.specs.Written.{writes, expects, written}
+use Rattle.guarantees_writer.specs.OneCall.{Writes, Only, Finishing, OneByte, FinishedBy}
 use Rattle.guarantees.specs.Demands.{Demand1, Demand2, Demand3}
 use Rattle.guarantees.proofs.Accepted as accepted
 use Rattle.guarantees.proofs.Full as full
 use Rattle.guarantees.proofs.Refused as refused
 use Rattle.guarantees.proofs.ReadErrors as errors
-use Rattle.guarantees.proofs.Errors as write-errors
+use Rattle.guarantees_writer.proofs.Errors as write-errors
 use Rattle.guarantees.proofs.Items as items
 use Rattle.guarantees.proofs.Lookups as lookups
 use Rattle.guarantees.proofs.AcceptedPaths as path-facts
 use Rattle.guarantees.proofs.Depths as depths
 use Rattle.guarantees.proofs.Samples as sampled
-use Rattle.guarantees.proofs.Finish as finishes
-use Rattle.guarantees.proofs.Calls as single
-use Rattle.guarantees.proofs.RefusedCall as refusals
-use Rattle.guarantees.proofs.AcceptedCall as accepted-call
-use Rattle.guarantees.proofs.History as calls
-use Rattle.guarantees.proofs.AcceptedParts as parts
-use Rattle.guarantees.proofs.Longer as memory
-use Rattle.guarantees.proofs.EnoughWords as words
+use Rattle.guarantees_writer.proofs.Finish as finishes
+use Rattle.guarantees_writer.proofs.Calls as single
+use Rattle.guarantees_writer.proofs.RefusedCall as refusals
+use Rattle.guarantees_writer.proofs.AcceptedCall as accepted-call
+use Rattle.guarantees_writer.proofs.History as calls
+use Rattle.guarantees_writer.proofs.AcceptedParts as parts
+use Rattle.guarantees_writer.proofs.Longer as memory
+use Rattle.guarantees_writer.proofs.EnoughWords as words
 use Rattle.guarantees.proofs.CallValues as call-values
 use Rattle.guarantees.proofs.Demands as demands
-use Rattle.guarantees.proofs.Written as lists
+use Rattle.guarantees_writer.proofs.Written as lists
 
 -- ---- the demands
 

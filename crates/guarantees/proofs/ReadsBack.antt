@@ -30,13 +30,13 @@ use Rattle.writer.specs.Given.{Given}
 use Rattle.checker.specs.Check.{checked, filled, checkOf}
 use Rattle.guarantees.specs.TokenValues.{tokenEnd, valueOfToken}
 use Rattle.guarantees.specs.Places.{TokenAt}
-use Rattle.guarantees.specs.Model.{Part, ends, ModelValue, formOf, formsOf, valueAt, valuesAt, closed, Model, endOf}
-use Rattle.guarantees.specs.Model.{model, emptyModel, modelBytes, backTo, modelAnswer, modelAfter}
-use Rattle.guarantees.specs.History.{modelRun}
+use Rattle.guarantees_writer.specs.Model.{Part, ends, ModelValue, formOf, formsOf, valueAt, valuesAt, closed, Model, endOf}
+use Rattle.guarantees_writer.specs.Model.{model, emptyModel, modelBytes, backTo, modelAnswer, modelAfter}
+use Rattle.guarantees_writer.specs.History.{modelRun}
 use Rattle.guarantees.specs.ReadsBack.{Holds, valueOfPart, GivesBack, ReadsBack}
 use Rattle.guarantees.proofs.Accepts.{accepts}
 use Rattle.guarantees.proofs.ReadsFile.{reads-token, reads-body, reads-end, reads-item, reads-none, reads-no-items, head-token-at}
-use Rattle.guarantees.proofs.Models.{forms-append, length-forms, values-append, length-values, start-lt, bytes-closed}
+use Rattle.guarantees_writer.proofs.Models.{forms-append, length-forms, values-append, length-values, start-lt, bytes-closed}
 use Rattle.guarantees.proofs.Invariant.{Finished, Staged, ModelInvariant, holds-fit, closes-near, closes-far}
 use Rattle.guarantees.proofs.Allowed.{AllowedPart, allowed-given, invariant-given, target-form, invariant-values}
 

@@ -14,11 +14,11 @@ use Rattle.writer.specs.Call.{Call}
 use Rattle.writer.specs.Step.{Result, startOf, step}
 use Rattle.writer.specs.Runs.{runs}
 use Rattle.writer.proofs.Refused.{refused-same}
-use Rattle.guarantees.specs.Model.{Request, adds, ends, requestOf}
+use Rattle.guarantees_writer.specs.Model.{Request, adds, ends, requestOf}
 use Rattle.guarantees.specs.SoFar.{Rest}
-use Rattle.guarantees.specs.OneCall.{FinishesNone, Finishes, Finishing}
-use Rattle.guarantees.proofs.Calls.{accepted-only}
-use Rattle.guarantees.proofs.AcceptedCall.{accepted-finishes}
+use Rattle.guarantees_writer.specs.OneCall.{FinishesNone, Finishes, Finishing}
+use Rattle.guarantees_writer.proofs.Calls.{accepted-only}
+use Rattle.guarantees_writer.proofs.AcceptedCall.{accepted-finishes}
 
 -- ---- one call
 

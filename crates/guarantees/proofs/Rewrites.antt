@@ -29,14 +29,15 @@ use Rattle.values.proofs.Members.{each-append, each-imp}
 use Rattle.values.proofs.Laws.{bytes-append, region-append, starts-append, items-room}
 use Rattle.writer.specs.Call.{Call, close}
 use Rattle.writer.specs.Given.{Given}
-use Rattle.guarantees.specs.Model.{Part, ModelValue, modelValue, formOf, formsOf, valuesAt, Request, adds, ends, requestOf}
-use Rattle.guarantees.specs.Model.{between, within, closed, Model, model, emptyModel, endOf, backTo, modelBytes, modelStarts}
-use Rattle.guarantees.specs.Model.{pendingIn, pendingAt, grown, isClosed, firstOf, modelAnswer, settle, modelAfter}
-use Rattle.guarantees.specs.History.{modelRun}
-use Rattle.guarantees.specs.Rewrites.{callOf, callsAt, callsOf, rewriting, AllOk}
-use Rattle.guarantees.proofs.Lists.{modelRun-append}
-use Rattle.guarantees.proofs.Models.{target-each, forms-append, values-snoc, region-snoc, bytes-between, bytes-closed, modelRoom, answer-part}
-use Rattle.guarantees.proofs.Models.{answer-close}
+use Rattle.guarantees_writer.specs.Model.{Part, ModelValue, modelValue, formOf, formsOf, valuesAt, Request, adds, ends, requestOf}
+use Rattle.guarantees_writer.specs.Model.{between, within, closed, Model, model, emptyModel, endOf, backTo, modelBytes, modelStarts}
+use Rattle.guarantees_writer.specs.Model.{pendingIn, pendingAt, grown, isClosed, firstOf, modelAnswer, settle, modelAfter}
+use Rattle.guarantees_writer.specs.History.{modelRun}
+use Rattle.guarantees.specs.Rewrites.{callOf, callsAt, callsOf, rewriting}
+use Rattle.guarantees_writer.specs.History.{AllOk}
+use Rattle.guarantees_writer.proofs.Lists.{modelRun-append}
+use Rattle.guarantees_writer.proofs.Models.{target-each, forms-append, values-snoc, region-snoc, bytes-between, bytes-closed, modelRoom, answer-part}
+use Rattle.guarantees_writer.proofs.Models.{answer-close}
 use Rattle.guarantees.proofs.RewritesRead.{partOf, partsOf, modelValueOf, modelValuesOf, form-part, value-model, values-models, request-call, call-given}
 
 -- ---- lists of calls

@@ -33,7 +33,7 @@ use Rattle.reader_value.specs.declared.Value.the-variants.{False as ReadFalse, 
 use Rattle.reader_body.specs.Body.{bodyOf}
 use Rattle.guarantees.specs.TokenValues.{tokenRows, valueOfToken}
 use Rattle.guarantees.specs.Places.{TokenAt}
-use Rattle.guarantees.specs.Model.{Part, part, ModelValue, modelValue, formOf, formsOf, valueAt, valuesAt, adds, requestOf}
+use Rattle.guarantees_writer.specs.Model.{Part, part, ModelValue, modelValue, formOf, formsOf, valueAt, valuesAt, adds, requestOf}
 use Rattle.guarantees.specs.Rewrites.{callRows, callOf, callOfValue}
 use Rattle.guarantees.proofs.Rows.{Rows, past, _▸_, rows-at}
 use Rattle.guarantees.proofs.ReadsFile.{reads-token, reads-body}

@@ -16,17 +16,17 @@ use Rattle.writer.specs.Call.{Call}
 use Rattle.writer.specs.Step.{fresh}
 use Rattle.writer.specs.Given.{Given}
 use Rattle.writer.specs.Runs.{runs}
-use Rattle.guarantees.specs.Model.{Part, ModelValue, formOf, formsOf, valuesAt, endOf, Model, emptyModel, modelStarts}
-use Rattle.guarantees.specs.History.{modelRun, Agree}
+use Rattle.guarantees_writer.specs.Model.{Part, ModelValue, formOf, formsOf, valuesAt, endOf, Model, emptyModel, modelStarts}
+use Rattle.guarantees_writer.specs.History.{modelRun, Agree}
 use Rattle.guarantees.specs.ReadsBack.{Holds}
-use Rattle.guarantees.specs.AcceptedParts.{partsIn}
+use Rattle.guarantees_writer.specs.AcceptedParts.{partsIn}
 use Rattle.guarantees.specs.SoFar.{Names, FormedSoFar}
-use Rattle.guarantees.proofs.Models.{forms-append, values-append, length-values, start-lt, length-startsOf, front-bytes, end-le}
-use Rattle.guarantees.proofs.AcceptedParts.{partsIn-append, region-parts}
+use Rattle.guarantees_writer.proofs.Models.{forms-append, values-append, length-values, start-lt, length-startsOf, front-bytes, end-le}
+use Rattle.guarantees_writer.proofs.AcceptedParts.{partsIn-append, region-parts}
 use Rattle.guarantees.proofs.Hops.{starts-before}
 use Rattle.guarantees.proofs.Invariant.{holds-fit, invariant-any}
 use Rattle.guarantees.proofs.Allowed.{invariant-given, invariant-values}
-use Rattle.guarantees.proofs.History.{history}
+use Rattle.guarantees_writer.proofs.History.{history}
 
 -- ---- where a part is
 

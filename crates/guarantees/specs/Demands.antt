@@ -43,11 +43,12 @@ use Rattle.guarantees.specs.TokenValues.{tokenEnd, valueOfToken}
 use Rattle.guarantees.specs.Places.{TokenAt, FollowsTo, further}
 use Rattle.guarantees.specs.Items.{countOf}
 use Rattle.guarantees.specs.Lookup.{FirstPair, NoPair}
-use Rattle.guarantees.specs.Errors.{checkErrors, readErrors, skipErrors, itemErrors, bodyErrors, writeErrors}
+use Rattle.guarantees.specs.Errors.{checkErrors, readErrors, skipErrors, itemErrors, bodyErrors}
+use Rattle.guarantees_writer.specs.RefusedCall.{writeErrors}
 use Rattle.guarantees.specs.AcceptedPaths.{AcceptedPaths}
-use Rattle.guarantees.specs.Model.{Part, requestOf, openOf, emptyModel, valuesAt}
-use Rattle.guarantees.specs.History.{modelRun, Agree}
-use Rattle.guarantees.specs.AcceptedParts.{partsIn, partsAdded, acceptedParts}
+use Rattle.guarantees_writer.specs.Model.{Part, requestOf, openOf, emptyModel, valuesAt}
+use Rattle.guarantees_writer.specs.History.{modelRun, Agree}
+use Rattle.guarantees_writer.specs.AcceptedParts.{partsIn, partsAdded, acceptedParts}
 use Rattle.guarantees.specs.SoFar.{Rest, Names, FormedSoFar}
 use Rattle.guarantees.specs.ReadsBack.{Holds, valueOfPart, ReadsBack}
 use Rattle.guarantees.specs.CallValues.{valueOfCall}

@@ -6,11 +6,9 @@
 --   skipErrors     skipping: also NESTED, of an item
 --   itemErrors     item access and lookup: also NO_ITEM and WRONG_KIND
 --   bodyErrors     bodies: those of following, and WRONG_KIND
---   writeErrors    the writer's calls, in the order of their reasons; so neither RESERVED nor RANGE
 use Prim.Native.Nat.{ℕ}
 use mathlib.Core.List.{List, [], _∷_}
 use Rattle.error.specs.Error.{EMPTY, TOO_LONG, TRUNC, RESERVED, OVERLONG, RANGE, NESTED, BAD_TEXT, BAD_TARGET, FULL, BAD_ENTRY, OUTSIDE, NO_ITEM, WRONG_KIND}
-use Rattle.error.specs.Error.{NO_ROOM, OWED, CLOSED, BAD_STATE}
 
 abbrev pub checkErrors : List ℕ
 checkErrors = EMPTY ∷ TOO_LONG ∷ TRUNC ∷ RESERVED ∷ OVERLONG ∷ RANGE ∷ NESTED ∷ BAD_TEXT ∷ BAD_TARGET ∷ FULL ∷ BAD_ENTRY ∷ []
@@ -26,6 +24,3 @@ itemErrors = EMPTY ∷ TOO_LONG ∷ TRUNC ∷ RESERVED ∷ OVERLONG ∷ RANGE �
 
 abbrev pub bodyErrors : List ℕ
 bodyErrors = EMPTY ∷ TOO_LONG ∷ TRUNC ∷ RESERVED ∷ OVERLONG ∷ RANGE ∷ BAD_TARGET ∷ OUTSIDE ∷ WRONG_KIND ∷ []
-
-abbrev pub writeErrors : List ℕ
-writeErrors = BAD_STATE ∷ CLOSED ∷ OWED ∷ BAD_TEXT ∷ BAD_TARGET ∷ FULL ∷ NO_ROOM ∷ []

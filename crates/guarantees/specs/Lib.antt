@@ -16,27 +16,13 @@ pub mod Errors
 pub mod AcceptedPaths
 -- document 01's samples
 pub mod Samples
--- the reference model of the writer
-pub mod Model
--- what a call is refused for, in any state
-pub mod RefusedCall
--- lists of calls, of the writer and of the model
-pub mod History
--- the parts of accepted calls
-pub mod AcceptedParts
 -- what is written so far
 pub mod SoFar
--- longer memory
-pub mod Longer
 -- what the reader gives back for the model's values
 pub mod ReadsBack
 -- the calls that write values again
 pub mod Rewrites
 -- what reading must return for what a call wrote
 pub mod CallValues
--- what one call may change and leaves
-pub mod OneCall
--- lists of calls, and the bytes that they write
-pub mod Written
 -- the demands
 pub mod Demands

@@ -27,7 +27,7 @@ use Rattle.reader_items.specs.Items.{skipOf, itemOf}
 use Rattle.reader_body.specs.Body.{bodyPlaceOf, bodyOf}
 use Rattle.checker.specs.Check.{checked, filled, checkOf}
 use Rattle.guarantees.specs.TokenValues.{tokenEnd, valueOfToken}
-use Rattle.guarantees.specs.Model.{Part, part, ModelValue, modelValue, formOf, formsOf, valueAt, valuesAt, endOf, Model, modelBytes, backTo}
+use Rattle.guarantees_writer.specs.Model.{Part, part, ModelValue, modelValue, formOf, formsOf, valueAt, valuesAt, endOf, Model, modelBytes, backTo}
 
 pub record Holds (vs : List ModelValue) (j q : ℕ) (p : Part) : Type 0 where
   pub before : List ModelValue

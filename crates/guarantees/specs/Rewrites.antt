@@ -9,7 +9,6 @@
 --                    the calls that write a file's values vs again, and close at its entry
 --   callOfValue v s  the call that writes again a value that the reader returned as v, with the body s if it is a text
 --                    or byte string: what the reader returns is enough
---   AllOk as         each of the answers is `ok`
 --   Rewritten file entry out table
 --                    the file has values; a new writer accepts each call that writes them again in order, and the close
 --                    at the entry; it has then written as many bytes as the file has, and they are the file, and what it has listed are
@@ -25,7 +24,6 @@ use Rattle.prelude.specs.Answer.{ok, bind}
 use Rattle.little_endian.specs.LittleEndian.{fromLittle}
 use Rattle.token.specs.Token.{Token, emit}
 use Rattle.values.specs.Values.{Value, tokens, bytes, starts, Each, WellFormed}
-use Rattle.writer_refusal.specs.Refusal.{Verdict}
 use Rattle.writer.specs.Call.{Call, scalar, integer, float32, float64, text, bytes as byteString, variant, reference, pointer, openArray, openMap, openTag}
 use Rattle.writer.specs.Call.{openVariant1, openVariantN, close}
 use Rattle.writer.specs.Step.{fresh}
@@ -37,6 +35,7 @@ use Rattle.reader_value.specs.declared.Value.{Value as ReadValue}
 use Rattle.reader_value.specs.declared.Value.the-variants.{False as ReadFalse, True as ReadTrue, Null as ReadNull, Integer, Float32, Float64}
 use Rattle.reader_value.specs.declared.Value.the-variants.{Text, Bytes, Array, Map, Tag, Variant, Variant1, VariantN, Reference, Pointer}
 use Rattle.reader_body.specs.Body.{bodyOf}
+use Rattle.guarantees_writer.specs.History.{AllOk}
 use Rattle.guarantees.specs.Places.{TokenAt}
 
 abbrev pub callRows : ℕ → Token → List Call
@@ -90,9 +89,6 @@ callOfValue (Variant1 i first) s = openVariant1 i
 callOfValue (VariantN i n first) s = openVariantN i n
 callOfValue (Reference x) s = reference x
 callOfValue (Pointer x) s = pointer x
-
-abbrev pub AllOk : List Verdict → Type 0
-AllOk vs = Each (λ v. v ≡ ok tt) vs
 
 pub record Rewritten (file : List ℕ) (entry : ℕ) (out table : List ℕ) : Type 0 where
   pub values : List Value

@@ -17,7 +17,7 @@ use lib.ListN.{length, take, drop, getD}
 use Rattle.token.specs.Token.{emit}
 use Rattle.values.specs.Values.{Value, region, starts, Values}
 use Rattle.writer_refusal.specs.declared.State.{State}
-use Rattle.guarantees.specs.Model.{Part, formOf}
+use Rattle.guarantees_writer.specs.Model.{Part, formOf}
 
 pub record Rest (s : State) (out table : List ℕ) (s′ : State) (out′ table′ : List ℕ) : Type 0 where
   pub written : s .written ≤ s′ .written

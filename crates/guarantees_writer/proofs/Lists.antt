@@ -9,8 +9,8 @@ use Rattle.prelude.proofs.Tests.{pick-elim}
 use Rattle.error.specs.Error.{CLOSED}
 use Rattle.values.specs.Values.{Each}
 use Rattle.writer.specs.Call.{Call}
-use Rattle.guarantees.specs.Model.{Request, adds, ends, requestOf, ModelValue, closed, Model, model, backTo, modelAnswer, modelAfter}
-use Rattle.guarantees.specs.History.{modelRan, unlessRefused, modelRun}
+use Rattle.guarantees_writer.specs.Model.{Request, adds, ends, requestOf, ModelValue, closed, Model, model, backTo, modelAnswer, modelAfter}
+use Rattle.guarantees_writer.specs.History.{modelRan, unlessRefused, modelRun}
 
 -- the calls of two lists, one list after the other
 pub modelRun-append : (a c : List Call) (b : Model) (n m : ℕ)

@@ -23,9 +23,9 @@ use Rattle.writer.specs.declared.Scalar.{Scalar}
 use Rattle.writer.specs.declared.Scalar.the-variants.{False, True, Null}
 use Rattle.writer.proofs.Accepted.{new-start, Accepted, token-ok}
 use Rattle.values.specs.Values.{Each}
-use Rattle.guarantees.specs.OneCall.{FinishesNone, Finishes, Pending, NextItem, TookItem, OneByte, left, FinishedBy}
-use Rattle.guarantees.proofs.Calls.{put-by}
-use Rattle.guarantees.proofs.Results.{write-more, write-last, write-open}
+use Rattle.guarantees_writer.specs.OneCall.{FinishesNone, Finishes, Pending, NextItem, TookItem, OneByte, left, FinishedBy}
+use Rattle.guarantees_writer.proofs.Calls.{put-by}
+use Rattle.guarantees_writer.proofs.Results.{write-more, write-last, write-open}
 
 -- ---- one item
 

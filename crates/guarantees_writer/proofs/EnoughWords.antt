@@ -17,13 +17,13 @@ use Rattle.writer_refusal.specs.declared.State.{State}
 use Rattle.writer.specs.Call.{Call}
 use Rattle.writer.specs.Step.{fresh, step}
 use Rattle.writer.specs.Runs.{runs}
-use Rattle.guarantees.specs.Model.{part, formOf, Request, adds, ends, requestOf, valuesAt, openOf, deltaOf, Model, emptyModel}
-use Rattle.guarantees.specs.Model.{modelBytes, modelStarts}
-use Rattle.guarantees.specs.History.{modelRun}
-use Rattle.guarantees.specs.RefusedCall.{Full, NoRoom, RefusedCall, bad-state, closed, owed, text, target, full, room}
-use Rattle.guarantees.proofs.Models.{values-append}
-use Rattle.guarantees.proofs.History.{runs-lengths, history}
-use Rattle.guarantees.proofs.RefusedCall.{refused-call-exactly}
+use Rattle.guarantees_writer.specs.Model.{part, formOf, Request, adds, ends, requestOf, valuesAt, openOf, deltaOf, Model, emptyModel}
+use Rattle.guarantees_writer.specs.Model.{modelBytes, modelStarts}
+use Rattle.guarantees_writer.specs.History.{modelRun}
+use Rattle.guarantees_writer.specs.RefusedCall.{Full, NoRoom, RefusedCall, bad-state, closed, owed, text, target, full, room}
+use Rattle.guarantees_writer.proofs.Models.{values-append}
+use Rattle.guarantees_writer.proofs.History.{runs-lengths, history}
+use Rattle.guarantees_writer.proofs.RefusedCall.{refused-call-exactly}
 
 full-row : (l : Request) (s : State) (out table : List ℕ) (f : ℕ) → f ≡ FULL → RefusedCall l s out table f → Full l s (length table)
 full-row l s out table f e (bad-state _) = absurd (omega arith)

@@ -11,7 +11,7 @@ use Rattle.token.specs.Token.{putIf, emit}
 use Rattle.writer_refusal.specs.Refusal.{refusalOf}
 use Rattle.writer.specs.Step.{tokenRefusal, deltaRefusal, write, writeDelta, writePointerDelta, putToken as puts, closeAt}
 use Rattle.writer.specs.Runs.{runs}
-use Rattle.guarantees.specs.Written.{writes, expects, written}
+use Rattle.guarantees_writer.specs.Written.{writes, expects, written}
 
 pub the-written : map writes written ≡ map expects written
 unfolding writes runs among put lead next textFrom little rule putIf emit refusalOf tokenRefusal deltaRefusal write writeDelta writePointerDelta puts closeAt

@@ -25,7 +25,7 @@ use Rattle.writer.specs.Step.{Move, puts, closes, moveOf, opens, pendingOf, tok
 use Rattle.writer.specs.Step.{writePointerDelta, settled, putToken, closeAt, move, step}
 use Rattle.writer.proofs.Accepted.{Accepted, token-inv, room-after, Near, delta-inv, delta-fits}
 use Rattle.writer.proofs.Refused.{pointerTo}
-use Rattle.guarantees.specs.OneCall.{Only}
+use Rattle.guarantees_writer.specs.OneCall.{Only}
 
 -- ---- what an accepted call does
 

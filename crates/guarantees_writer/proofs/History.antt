@@ -32,15 +32,15 @@ use Rattle.writer.specs.Runs.{runs}
 use Rattle.writer.specs.declared.Scalar.the-variants.{False, True, Null}
 use Rattle.writer.proofs.Accepted.{Accepted, token-inv, free-word, room-after, none-pending, delta-inv, delta-fits}
 use Rattle.writer.proofs.Refused.{refused-same}
-use Rattle.guarantees.proofs.Calls.{accepted-only}
-use Rattle.guarantees.proofs.Results.{write-open}
-use Rattle.guarantees.proofs.Errors.{fresh-not-bad}
-use Rattle.guarantees.specs.Model.{Part, part, Request, adds, ends, requestOf, formOf, ModelValue, modelValue, valuesAt}
-use Rattle.guarantees.specs.Model.{Stage, between, within, closed, Model, model, emptyModel, modelBytes, modelStarts}
-use Rattle.guarantees.specs.Model.{endOf, isClosed, pendingIn, pendingAt, grown, settle, modelAnswer, modelAfter, backTo}
-use Rattle.guarantees.specs.History.{modelRun, unlessRefused, Agree, Started, Follows, Alike}
-use Rattle.guarantees.proofs.Models.{pending-form, length-startsOf, starts-snoc, start-lt, bytes-between}
-use Rattle.guarantees.proofs.Models.{bytes-closed, end-le, bytes-grown, bytes-settle, answer-part, answer-close}
+use Rattle.guarantees_writer.proofs.Calls.{accepted-only}
+use Rattle.guarantees_writer.proofs.Results.{write-open}
+use Rattle.guarantees_writer.proofs.Errors.{fresh-not-bad}
+use Rattle.guarantees_writer.specs.Model.{Part, part, Request, adds, ends, requestOf, formOf, ModelValue, modelValue, valuesAt}
+use Rattle.guarantees_writer.specs.Model.{Stage, between, within, closed, Model, model, emptyModel, modelBytes, modelStarts}
+use Rattle.guarantees_writer.specs.Model.{endOf, isClosed, pendingIn, pendingAt, grown, settle, modelAnswer, modelAfter, backTo}
+use Rattle.guarantees_writer.specs.History.{modelRun, unlessRefused, Agree, Started, Follows, Alike}
+use Rattle.guarantees_writer.proofs.Models.{pending-form, length-startsOf, starts-snoc, start-lt, bytes-between}
+use Rattle.guarantees_writer.proofs.Models.{bytes-closed, end-le, bytes-grown, bytes-settle, answer-part, answer-close}
 
 -- ---- a call of the writer is a request to the model
 

@@ -1,5 +1,5 @@
 -- What an accepted call writes (`accepted-writes`), and which value it finishes (`accepted-finishes`), in any state, with any output and table.
-use mathlib.Core.Path.{_≡_, refl, _∙_}
+use mathlib.Core.Path.{_≡_, refl}
 use mathlib.Core.Bool.{true}
 use mathlib.Core.List.{List, [], _∷_, append-assoc}
 use Prim.Native.Nat.{ℕ, _+_, _-_, _≤_, _<_}
@@ -17,12 +17,12 @@ use Rattle.writer.specs.Call.{Call}
 use Rattle.writer.specs.Step.{write, writeDelta, writePointerDelta, move, step}
 use Rattle.writer.proofs.Accepted.{none-pending, Accepted, room-after, Near, delta-fits}
 use Rattle.writer.proofs.Refused.{pointerTo}
-use Rattle.guarantees.specs.Model.{Part, formOf, Request, adds, ends, requestOf}
-use Rattle.guarantees.specs.OneCall.{Writes, Finishing}
-use Rattle.guarantees.proofs.Calls.{put-by, close-by}
-use Rattle.guarantees.proofs.Results.{write-more, write-last, far-last, near-none}
-use Rattle.guarantees.proofs.Models.{pending-form}
-use Rattle.guarantees.proofs.History.{moveAs, move-request}
+use Rattle.guarantees_writer.specs.Model.{Part, formOf, Request, adds, ends, requestOf}
+use Rattle.guarantees_writer.specs.OneCall.{Writes, Finishing}
+use Rattle.guarantees_writer.proofs.Calls.{put-by, close-by}
+use Rattle.guarantees_writer.proofs.Results.{write-more, write-last, far-last, near-none}
+use Rattle.guarantees_writer.proofs.Models.{pending-form}
+use Rattle.guarantees_writer.proofs.History.{moveAs, move-request}
 
 module _ (s : State) (out table : List ℕ) where
   part-writes : (p : Part) → let t = formOf (s .written) p in s .written + length (emit t) < limit (length out)

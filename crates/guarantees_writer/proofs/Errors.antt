@@ -28,7 +28,7 @@ use Rattle.writer.specs.Step.{Move, puts, closes, moveOf, fresh, tokenRefusal, 
 use Rattle.writer.specs.Given.{Given}
 use Rattle.writer.specs.declared.Scalar.the-variants.{False, True, Null}
 use Rattle.writer.proofs.Refused.{pointerTo, settled-by}
-use Rattle.guarantees.specs.Errors.{writeErrors}
+use Rattle.guarantees_writer.specs.RefusedCall.{writeErrors}
 
 -- with an output and a table of any lengths
 pub fresh-not-bad : (n m : ℕ) → badState fresh n m ≡ false

@@ -33,10 +33,10 @@ use Rattle.writer.specs.Runs.{runs}
 use Rattle.writer.proofs.Accepted.{Accepted, token-inv, free-word, room-after, delta-inv, delta-fits}
 use Rattle.writer.proofs.Refused.{pointerTo, refused-same}
 use Rattle.writer.proofs.Runs.{length-answers, runs-append}
-use Rattle.guarantees.specs.Model.{Model, emptyModel}
-use Rattle.guarantees.specs.History.{Agree, Follows}
-use Rattle.guarantees.proofs.History.{settled-answer, runs-lengths, history-from, fresh-follows}
-use Rattle.guarantees.specs.Longer.{MemoryAnswer, longer, longerAll, Stretch, runsGrowing, callsIn, bytesIn, wordsIn, acceptedOf, Leaves, modelGrowing}
+use Rattle.guarantees_writer.specs.Model.{Model, emptyModel}
+use Rattle.guarantees_writer.specs.History.{Agree, Follows}
+use Rattle.guarantees_writer.proofs.History.{settled-answer, runs-lengths, history-from, fresh-follows}
+use Rattle.guarantees_writer.specs.Longer.{MemoryAnswer, longer, longerAll, Stretch, runsGrowing, callsIn, bytesIn, wordsIn, acceptedOf, Leaves, modelGrowing}
 
 -- ---- refusals
 

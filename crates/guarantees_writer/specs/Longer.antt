@@ -25,9 +25,9 @@ use Rattle.writer_refusal.specs.declared.State.{State}
 use Rattle.writer.specs.Call.{Call}
 use Rattle.writer.specs.Step.{Result, result}
 use Rattle.writer.specs.Runs.{Ran, ran, runs}
-use Rattle.guarantees.specs.Model.{Model}
-use Rattle.guarantees.specs.History.{ModelRan, modelRan, modelRun}
-use Rattle.guarantees.specs.Rewrites.{AllOk}
+use Rattle.guarantees_writer.specs.Model.{Model}
+use Rattle.guarantees_writer.specs.History.{ModelRan, modelRan, modelRun}
+use Rattle.guarantees_writer.specs.History.{AllOk}
 
 abbrev pub MemoryAnswer : Verdict → Type 0
 MemoryAnswer v = (v ≡ error BAD_STATE) ⊎ ((v ≡ error FULL) ⊎ (v ≡ error NO_ROOM))

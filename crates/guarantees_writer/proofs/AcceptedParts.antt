@@ -20,13 +20,13 @@ use Rattle.writer_refusal.proofs.Refusals.{past}
 use Rattle.writer.specs.Call.{Call}
 use Rattle.writer.specs.Step.{fresh}
 use Rattle.writer.specs.Runs.{runs}
-use Rattle.guarantees.specs.Model.{Part, part, Request, adds, ends, requestOf, ModelValue, modelValue, formsOf, valueAt, valuesAt, Stage, between, within}
-use Rattle.guarantees.specs.Model.{closed, openOf, deltaOf, isClosed, Model, model, emptyModel, modelBytes, pendingIn, pendingAt, grown, settle, backTo}
-use Rattle.guarantees.specs.Model.{modelAfter, modelAnswer}
-use Rattle.guarantees.specs.History.{modelRun, unlessRefused}
-use Rattle.guarantees.specs.AcceptedParts.{partsIn, partsAdded, acceptedParts}
-use Rattle.guarantees.proofs.Models.{forms-append}
-use Rattle.guarantees.proofs.History.{history}
+use Rattle.guarantees_writer.specs.Model.{Part, part, Request, adds, ends, requestOf, ModelValue, modelValue, formsOf, valueAt, valuesAt, Stage, between, within}
+use Rattle.guarantees_writer.specs.Model.{closed, openOf, deltaOf, isClosed, Model, model, emptyModel, modelBytes, pendingIn, pendingAt, grown, settle, backTo}
+use Rattle.guarantees_writer.specs.Model.{modelAfter, modelAnswer}
+use Rattle.guarantees_writer.specs.History.{modelRun, unlessRefused}
+use Rattle.guarantees_writer.specs.AcceptedParts.{partsIn, partsAdded, acceptedParts}
+use Rattle.guarantees_writer.proofs.Models.{forms-append}
+use Rattle.guarantees_writer.proofs.History.{history}
 
 -- ---- the bytes of parts
 

@@ -15,10 +15,11 @@
 --   RefusedCall l s out table f
 --                      the call is refused with the error f: a row for each error, in the order of the paper, with the premise that no row above it
 --                      applies
+--   writeErrors        the numbers of the errors, in the order of the rows; so neither RESERVED nor RANGE
 use Prim.Native.Nat.{ℕ, _+_, _-_, _≤_, _<_, min}
 use mathlib.Core.Path.{_≡_}
 use mathlib.Core.Bool.{true, false}
-use mathlib.Core.List.{List, []}
+use mathlib.Core.List.{List, [], _∷_}
 use lib.Dec.{eqb, ltb}
 use lib.ListN.{length, getD}
 use Rattle.prelude.specs.Pick.{pick}
@@ -27,7 +28,7 @@ use Rattle.utf8.specs.Text.{Text}
 use Rattle.kind.specs.Kind.{rule, pending, immediate}
 use Rattle.token.specs.Token.{emit}
 use Rattle.writer_refusal.specs.declared.State.{State}
-use Rattle.guarantees.specs.Model.{Part, part, formOf, Request, adds, ends}
+use Rattle.guarantees_writer.specs.Model.{Part, part, formOf, Request, adds, ends}
 
 pub data BadState (s : State) (n m : ℕ) : Type 0 where
   past-output : n < s .written → BadState s n m
@@ -80,3 +81,6 @@ pub data RefusedCall (l : Request) (s : State) (out table : List ℕ) : ℕ → 
       → Full l s (length table) → RefusedCall l s out table FULL
   room : (BadState s (length out) (length table) → ⊥) → s .closed ≡ false → (Owed l s → ⊥) → (BadText l → ⊥) → (BadTarget l s table → ⊥)
       → (Full l s (length table) → ⊥) → NoRoom l s (length out) → RefusedCall l s out table NO_ROOM
+
+abbrev pub writeErrors : List ℕ
+writeErrors = BAD_STATE ∷ CLOSED ∷ OWED ∷ BAD_TEXT ∷ BAD_TARGET ∷ FULL ∷ NO_ROOM ∷ []

@@ -24,8 +24,8 @@ use Rattle.writer.specs.Call.{Call, close}
 use Rattle.writer.specs.Step.{moveOf, pendingOf, tokenRefusal, deltaRefusal, result, startOf, write, writeDelta, writePointerDelta, step}
 use Rattle.writer.proofs.Accepted.{token-fits, none-pending, new-start, Accepted, free-word, room-after, start-lt, Near, delta-fits}
 use Rattle.writer.proofs.Refused.{pointerTo, settled-by}
-use Rattle.guarantees.specs.OneCall.{FinishesNone, Finishes, Pending, Closed}
-use Rattle.guarantees.proofs.Calls.{close-by, accepted-by, length-pick-set, accepted-only}
+use Rattle.guarantees_writer.specs.OneCall.{FinishesNone, Finishes, Pending, Closed}
+use Rattle.guarantees_writer.proofs.Calls.{close-by, accepted-by, length-pick-set, accepted-only}
 
 -- ---- the value that it finishes
 

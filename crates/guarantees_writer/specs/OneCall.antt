@@ -34,9 +34,9 @@ use Rattle.writer_refusal.specs.declared.State.{State}
 use Rattle.writer.specs.Call.{Call}
 use Rattle.writer.specs.Step.{puts, moveOf, opens, Result, result, startOf, step}
 use Rattle.writer.specs.Runs.{runs}
-use Rattle.guarantees.specs.Model.{part, formOf, Request, adds, ends}
-use Rattle.guarantees.specs.RefusedCall.{itemsAfter}
-use Rattle.guarantees.specs.Rewrites.{AllOk}
+use Rattle.guarantees_writer.specs.Model.{part, formOf, Request, adds, ends}
+use Rattle.guarantees_writer.specs.RefusedCall.{itemsAfter}
+use Rattle.guarantees_writer.specs.History.{AllOk}
 
 -- ---- what an accepted call may change
 

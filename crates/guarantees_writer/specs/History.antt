@@ -1,5 +1,6 @@
 -- Lists of the writer's calls, and the reference model's answers to them (document 01: "demand 3 makes a single claim about the list").
 --
+--   AllOk vs           each of the answers is `ok`
 --   ModelRan, modelRan vs b
 --                      the model's answers to a list of calls, and the model after the last one
 --   unlessRefused v b next
@@ -21,12 +22,16 @@ use mathlib.Core.Bool.{false}
 use mathlib.Core.List.{List, [], _∷_}
 use lib.ListN.{length, take}
 use Rattle.prelude.specs.Answer.{ok, error}
+use Rattle.values.specs.Values.{Each}
 use Rattle.writer_refusal.specs.Refusal.{badState, Verdict}
 use Rattle.writer_refusal.specs.declared.State.{State}
 use Rattle.writer.specs.Call.{Call}
 use Rattle.writer.specs.Runs.{runs}
-use Rattle.guarantees.specs.Model.{requestOf, ModelValue, Stage, between, within, closed, isClosed, Model, modelBytes, modelStarts, endOf}
-use Rattle.guarantees.specs.Model.{pendingIn, pendingAt, modelAnswer, modelAfter}
+use Rattle.guarantees_writer.specs.Model.{requestOf, ModelValue, Stage, between, within, closed, isClosed, Model, modelBytes, modelStarts, endOf}
+use Rattle.guarantees_writer.specs.Model.{pendingIn, pendingAt, modelAnswer, modelAfter}
+
+abbrev pub AllOk : List Verdict → Type 0
+AllOk vs = Each (λ v. v ≡ ok tt) vs
 
 pub record ModelRan : Type 0 where
   pub answers : List Verdict
