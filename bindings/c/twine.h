@@ -14,7 +14,8 @@
  *
  *   - a pointer is not NULL, even if its length is 0, and points to as many initialized elements as said;
  *   - memory that a call writes (starts, depths, out, state, name) overlaps no other that the call is handed;
- *   - nobody else writes any of it during the call.
+ *   - nobody else writes any of it during the call;
+ *   - there is enough stack: about 17 KB in check, 33 KB in depths and less than 2 KB in the others.
  *
  * Each function of the archive answers an error's number, TWINE_OK for none; only the one that returns its version
  * does not.
@@ -106,7 +107,7 @@ enum twine_error {
     TWINE_OWED = 16,
     /* writer: already closed */
     TWINE_CLOSED = 17,
-    /* writer: a state that the output or the table does not fit */
+    /* writer: a state that output or table do not fit, or whose open value is not among the bytes written */
     TWINE_BAD_STATE = 18
 };
 
@@ -170,20 +171,20 @@ uint32_t twine_depths(const uint8_t *file, size_t len,
      SCALAR                0 false, 1 true, 2 null             0
      INTEGER, NEGATIVE     the integer, in two's complement    0
      FLOAT                 the bits                            4 or 8, the bytes
-     TEXT, BYTES           the bytes                           the bytes
-     ARRAY                 the items                           the items
-     MAP                   the pairs                           the items, two for each pair
+     TEXT, BYTES           how many bytes                      how many bytes
+     ARRAY                 how many items                      how many items
+     MAP                   how many pairs                      how many items, two for each pair
      TAG                   the tag                             1
      VARIANT               the index                           0
      VARIANT1              the index                           1
-     VARIANTN              the index                           the items
+     VARIANTN              the index                           how many items
      REFERENCE, POINTER    the offset of the target            0                                            */
 uint32_t twine_read(const uint8_t *file, size_t len, size_t at, uint64_t out[4]);
 
 /* Where the value at an offset ends, its items included, which are read. out = {offset just after it, 0}. */
 uint32_t twine_skip(const uint8_t *file, size_t len, size_t at, uint64_t out[2]);
 
-/* An item of the value at an offset, which is not followed; for a map keys and values alternate.
+/* An item of the value at an offset; neither is followed. For a map keys and values alternate.
    out = {offset of the item, 0}. TWINE_WRONG_KIND for a kind without items, TWINE_NO_ITEM for an index at or past the
    count. Its time grows with the items before it: for a value that twine_skip accepts, as in a checked file, a loop over
    items takes item 0, and then what twine_skip returns for each. */
@@ -194,8 +195,8 @@ uint32_t twine_item(const uint8_t *file, size_t len, size_t at, size_t index, ui
 uint32_t twine_follow(const uint8_t *file, size_t len, size_t at, uint64_t out[2]);
 
 /* The value that the map at an offset has for a key: that of the first pair whose key, followed, is a text of these
-   bytes. The map itself is not followed. out = {offset of the value, 0}. TWINE_WRONG_KIND for another kind,
-   TWINE_NO_ITEM if there is no such key. */
+   bytes; a key that is, or points at, a reference is no such key. Neither the map nor the value is followed.
+   out = {offset of the value, 0}. TWINE_WRONG_KIND for another kind, TWINE_NO_ITEM if there is no such key. */
 uint32_t twine_lookup(const uint8_t *file, size_t len, size_t at,
                       const uint8_t *key, size_t key_len, uint64_t out[2]);
 
@@ -207,20 +208,22 @@ uint32_t twine_body(const uint8_t *file, size_t len, size_t at, uint64_t out[2])
 
    A writer's state is five words of the caller's, {written, count, pending, start, closed}: the bytes written, the
    values finished, the items that the open value still has to get, its start (without meaning if none are
-   pending), and whether the file is closed (any word but 0). Any five words are a state; one that out or starts
-   does not fit is TWINE_BAD_STATE.
+   pending), and whether the file is closed (any word but 0). Any five words are a state. TWINE_BAD_STATE is one with
+   more bytes written than out has, or than TWINE_LIMIT; with more values finished than starts has words; or with items
+   pending and no free word, or with items pending and a start that is not below `written`.
 
    out and starts go into each call as the call before left them; they may be longer than before, which can change the
    answers BAD_STATE, FULL and NO_ROOM, and no others. A call writes after the first `written` bytes of out, and the
    start of a value that it finishes into the word `count` of starts. TWINE_OK: the state is the next one, and in out
-   and starts nothing else has changed. On an error state, out and starts are as they were, in every word and byte.
+   and starts nothing else has changed. On an error, state, out and starts are as they were, in every word and byte.
 
-   One byte of out is held back for the close, and one for each item pending, so that an open value can always be
-   finished. As many words as out has bytes less one are always enough: with those, FULL comes only if out has no room
-   either. After the close the file is the first `written` bytes.
+   One byte of out is held back for the close, and one for each item pending, so that a value that an accepted call has
+   opened can always be finished. From a new writer on, as many words as out has bytes less one are always enough: with
+   those, FULL comes only if out has no room either. After the close the file is the first `written` bytes.
 
    The finished values are those that starts lists: its first `count` words are their offsets. A reference, a pointer and
-   the close name one of them, which is below `written`.
+   the close name one of them, which is below `written`, by its offset: the word `written`, state[0], before the call that
+   began the value.
 
    The first of these that applies is the error: BAD_STATE, CLOSED, OWED, BAD_TEXT, BAD_TARGET, FULL, NO_ROOM. */
 

@@ -2,7 +2,7 @@
 --
 -- In order: the values of an accepted file, written again, are the same bytes (`rewrites`); a file that was closed is
 -- read back (`reads-back`), and each call after it is CLOSED (`closed-after`); the calls of the library for C (`history-c`); all
--- that holds after a list of calls (`after-calls`); all that the queries return of a well-formed file (`tells-values`).
+-- that holds after a list of calls (`after-calls`); all that the queries return of a well-formed file (`reports-values`).
 use mathlib.Core.Path.{_≡_, refl, sym, ap, _∙_, subst}
 use mathlib.Core.List.{List, [], _∷_, _++_, map}
 use Prim.Native.Nat.{ℕ, _+_, _≤_}
@@ -26,7 +26,7 @@ use Rattle.guarantees_writer.specs.AcceptedParts.{acceptedParts}
 use Rattle.guarantees.specs.ReadsBack.{ReadsBack}
 use Rattle.guarantees.specs.Rewrites.{rewriting, Rewritten}
 use Rattle.guarantees_writer.specs.History.{AllOk}
-use Rattle.guarantees.specs.Demands.{TellsValues, AfterCalls}
+use Rattle.guarantees.specs.Demands.{ReportsValues, AfterCalls}
 use Rattle.guarantees.proofs.Accepted.{accepted}
 use Rattle.guarantees.proofs.ReadsFile.{reads-token, reads-body, reads-body-of-pointer, reads-no-body, reads-end, reads-item, reads-none}
 use Rattle.guarantees.proofs.ReadsFile.{reads-immediate-end, reads-no-items}
@@ -133,8 +133,8 @@ after-calls cs out table = record {
 
 -- ---- a well-formed file
 
-pub tells-values : (file : List ℕ) (vs : List Value) (entry : ℕ) → WellFormed file vs entry → TellsValues file vs
-tells-values file vs entry w = record {
+pub reports-values : (file : List ℕ) (vs : List Value) (entry : ℕ) → WellFormed file vs entry → ReportsValues file vs
+reports-values file vs entry w = record {
   read = reads-token file vs entry w;
   body = reads-body file vs entry w;
   pointerBody = reads-body-of-pointer file vs entry w;

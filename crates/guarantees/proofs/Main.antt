@@ -1,4 +1,4 @@
--- The demands as theorems: each is one record of specs/Demands.antt, whose fields are the user's sentences in their order, and each field is a citation.
+-- The demands as theorems: each is one record of specs/Demands.antt, whose fields are the demand's sentences in their order, and each field is a citation.
 -- docs/GUARANTEES.md quotes these statements and records, and reads them aloud.
 --
 -- After the three demands, what says more than they do: check's answers (in at most one way, and which refusal when); what a query answers, and what
@@ -103,7 +103,7 @@ demand-1 = record {
 }
 
 pub demand-2 : Demand2
-demand-2 = record { accepts = accepted.accepts-exactly; tells = demands.tells-values; rewrites = demands.rewrites }
+demand-2 = record { accepts = accepted.accepts-exactly; reports = demands.reports-values; rewrites = demands.rewrites }
 
 pub demand-3 : Demand3
 demand-3 = record { list = demands.after-calls; values = call-values.value-of-call; paths = path-facts.accepted-paths }

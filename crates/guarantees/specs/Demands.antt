@@ -1,9 +1,9 @@
--- The three demands, each a record whose fields are the user's sentences, in their order. proofs/Main.antt has them as the theorems `demand-1`,
+-- The three demands, each a record whose fields are the demand's sentences, in their order. proofs/Main.antt has them as the theorems `demand-1`,
 -- `demand-2` and `demand-3`. By the contracts of the calls, the definitions that they cite are what the code answers and leaves.
 --
 --   Numbered       each call, on any input, gives no other errors than those of its list in Errors.antt
 --   Demand1        any input gets an answer
---   TellsValues file vs
+--   ReportsValues file vs
 --                  of a well-formed file with the values vs the queries return what the Twine pages say
 --   Demand2        exactly the well-formed files, their values, and written again
 --   AfterCalls cs out table
@@ -84,7 +84,7 @@ pub record Demand1 : Type 0 where
 
 -- ---- demand 2
 
-pub record TellsValues (file : List ℕ) (vs : List Value) : Type 0 where
+pub record ReportsValues (file : List ℕ) (vs : List Value) : Type 0 where
   -- each token t, of a value or an item, with its header at q
   pub read : (j q : ℕ) (t : Token) → TokenAt vs j q t → readOf file q ≡ ok (valueOfToken q t)
   pub body : (j q : ℕ) (t : Token) → TokenAt vs j q t → (t .kind ≡ 4) ⊎ (t .kind ≡ 5)
@@ -119,7 +119,7 @@ pub record Demand2 : Type 0 where
   pub accepts : (file : List ℕ) (cap count entry : ℕ) (table : List ℕ) → Bytes file
       → (checkOf file cap ≡ checked (ok (count, entry)) table) ↔ Accepted file cap count entry table
   -- "and tells their values as those pages do."
-  pub tells : (file : List ℕ) (vs : List Value) (entry : ℕ) → WellFormed file vs entry → TellsValues file vs
+  pub reports : (file : List ℕ) (vs : List Value) (entry : ℕ) → WellFormed file vs entry → ReportsValues file vs
   -- "Writing an accepted file's values again in order with a fresh writer, its output at least as long as the file and its table with enough words,
   -- and closing at the file's entry, gives the same bytes."
   pub rewrites : (file : List ℕ) (cap count entry : ℕ) → Bytes file → checkOf file cap .answer ≡ ok (count, entry)

@@ -97,7 +97,7 @@ module _ (s : List ℕ) (inner : Bool) (q : ℕ) where
     ended : length s ≤ q → RefusedHead (fault TRUNC q)
     -- reserved kind or low
     reserved : {h : ℕ} {m : List ℕ} → Header h m → rule (h / 16) .lows ≤ h % 16 → RefusedHead (fault RESERVED q)
-    -- an item of a kind that is no immediate
+    -- an item of a kind that is not an immediate
     nested : {h : ℕ} {m : List ℕ} → Header h m → h % 16 < rule (h / 16) .lows → inner ≡ true → immediate (rule (h / 16)) ≡ false
         → RefusedHead (fault NESTED q)
     -- the number: TRUNC, RANGE of the tenth byte, OVERLONG
