@@ -3,7 +3,7 @@
 -- In order: the part of a token (`partOf`), and that its form is the token (`form-part`); the parts of tokens and of
 -- values, likewise (`forms-parts`, `values-models`); the row of the token's kind, out of sixteen (`row-of`): its call
 -- asks for its part (`request-call`), and is one that a program can make (`call-given`); what the reader returns for a
--- token, and its body, say which call it is (`rewrites-answers`, `rewrites-read`).
+-- token, and its body, say which call it is (`rewrites-read`).
 use mathlib.Core.Path.{_≡_, refl, sym, ap, _∙_}
 use mathlib.Core.Bool.{Bool, true, false}
 use mathlib.Core.Logic.{_⊎_, inl, inr}
@@ -224,9 +224,6 @@ callOfValue-read q t s body =
     ∙ ap (λ cs. getD cs (t .kind) (scalar Null)) reported
     ∙ sym (set-row (callRows q t) 4 (t .kind) (text s) (scalar Null) (λ k. ap text (sym (body (inl k))))
     ∙ set-row swapped 5 (t .kind) (byteString s) (scalar Null) (λ k. ap byteString (sym (body (inr k)))))
-
-pub rewrites-answers : (q : ℕ) (t : Token) → callOfValue (valueOfToken q t) (t .body) ≡ callOf q t
-rewrites-answers q t = callOfValue-read q t (t .body) (λ k. refl)
 
 -- for a token of a well-formed file
 pub rewrites-read : (file : List ℕ) (vs : List Value) (entry : ℕ) → WellFormed file vs entry → (j q : ℕ) (t : Token) → TokenAt vs j q t
