@@ -1,1 +1,1 @@
-// No function: what a token and a query are refused for, stated without a reader, and the theorems that the walk of check and the queries refuse exactly so.
+// No function: what a token is refused for, and what a query answers or is refused for, stated without a reader, with the theorems that this is so.
