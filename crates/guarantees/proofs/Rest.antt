@@ -11,7 +11,7 @@ use Rattle.prelude.proofs.Lists.{drop-later}
 use Rattle.writer_refusal.specs.Refusal.{Verdict}
 use Rattle.writer_refusal.specs.declared.State.{State}
 use Rattle.writer.specs.Call.{Call}
-use Rattle.writer.specs.Step.{Result, startOf, step}
+use Rattle.writer.specs.Step.{Result, step}
 use Rattle.writer.specs.Runs.{runs}
 use Rattle.writer.proofs.Refused.{refused-same}
 use Rattle.guarantees_writer.specs.Model.{Request, adds, ends, requestOf}
@@ -34,7 +34,7 @@ module _ (s : State) (table : List ℕ) (r : Result) where
       (omega (arith, f .count), ap (drop (r .writer .count)) (f .words) ∙ drop-set-lt (r .writer .count) table (s .count) x (omega (arith, f .count)))
 
   finishing-words : (l : Request) → Finishing l s table r → Words
-  finishing-words (adds p) f = split 0 (r .writer .pending) (λ some. none-words (f .0 some)) (λ none. one-words (startOf s) (f .1 (omega arith)))
+  finishing-words (adds p) f = split 0 (r .writer .pending) (λ some. none-words (f .0 some)) (λ none. let last = f .1 (omega arith) in one-words (last .0) (last .2))
   finishing-words (ends e) f = split 255 (s .written - e - 1) (λ far. one-words (s .written) (f .1 far)) (λ near. none-words (f .0 near))
 
 step-rest : (c : Call) (s : State) (out table : List ℕ) → let r = step c s out table in Rest s out table (r .writer) (r .out) (r .table)

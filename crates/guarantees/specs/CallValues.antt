@@ -3,9 +3,11 @@
 --   first q k n a    the offset just after the header at q and its numbers, for kind k, number n and argument count a:
 --                    where the body, or the items, start
 --   valueOfCall q c  the value that reading returns for what the call c wrote at q; for a close, the pointer, if it adds one
+--   bodyOfCall c     the bytes of its body: of a text or byte string those handed in, of a float its bits, the lowest byte first
 use Prim.Native.Nat.{ℕ, _+_, _*_}
-use mathlib.Core.List.{[]}
+use mathlib.Core.List.{List, []}
 use lib.ListN.{length}
+use Rattle.little_endian.specs.LittleEndian.{little}
 use Rattle.token.specs.Token.{token, emit}
 use Rattle.writer.specs.Call.{Call, scalar, integer, float32, float64, text, bytes, variant, reference, pointer, openArray, openMap, openTag, openVariant1}
 use Rattle.writer.specs.Call.{openVariantN, close}
@@ -34,3 +36,20 @@ valueOfCall q (openVariantN i n) = Value.VariantN i n (first q 12 i n)
 valueOfCall q (reference x) = Value.Reference x
 valueOfCall q (pointer x) = Value.Pointer x
 valueOfCall q (close e) = Value.Pointer e
+
+abbrev pub bodyOfCall : Call → List ℕ
+bodyOfCall (scalar v) = []
+bodyOfCall (integer z) = []
+bodyOfCall (float32 b) = little 4 b
+bodyOfCall (float64 b) = little 8 b
+bodyOfCall (text s) = s
+bodyOfCall (bytes s) = s
+bodyOfCall (openArray n) = []
+bodyOfCall (openMap n) = []
+bodyOfCall (openTag n) = []
+bodyOfCall (variant i) = []
+bodyOfCall (openVariant1 i) = []
+bodyOfCall (openVariantN i n) = []
+bodyOfCall (reference x) = []
+bodyOfCall (pointer x) = []
+bodyOfCall (close e) = []

@@ -51,7 +51,7 @@ use Rattle.guarantees_writer.specs.History.{modelRun, Agree}
 use Rattle.guarantees_writer.specs.AcceptedParts.{partsIn, partsAdded, acceptedParts}
 use Rattle.guarantees.specs.SoFar.{Rest, Names, FormedSoFar}
 use Rattle.guarantees.specs.ReadsBack.{Holds, valueOfPart, ReadsBack}
-use Rattle.guarantees.specs.CallValues.{valueOfCall}
+use Rattle.guarantees.specs.CallValues.{valueOfCall, bodyOfCall}
 use Rattle.guarantees.specs.Rewrites.{Rewritten}
 
 -- ---- demand 1
@@ -162,8 +162,10 @@ pub record AfterCalls (cs : List Call) (out table : List ℕ) : Type 0 where
 pub record Demand3 : Type 0 where
   -- "For every list of the writer's calls (each immediate, each opening, the close, refused ones too) from a fresh writer,"
   pub list : (cs : List Call) (out table : List ℕ) → AfterCalls cs out table
-  -- "gives back exactly the book's finished values: .. kinds, numbers, .. targets", in terms of the calls: what reading returns for a part that c adds
-  pub values : (c : Call) → Given c → (w q : ℕ) → Each (λ p. valueOfPart q p ≡ valueOfCall q c) (partsAdded (requestOf c) w)
+  -- "gives back exactly the book's finished values: .. kinds, numbers, bodies, .. targets", in terms of the calls: what reading returns for a part
+  -- that c adds, and its body
+  pub values : (c : Call) → Given c → (w q : ℕ)
+      → Each (λ p. (valueOfPart q p ≡ valueOfCall q c) × (p .body ≡ bodyOfCall c)) (partsAdded (requestOf c) w)
   -- "In any accepted file, whoever wrote it, no descent meets a value twice, and depths, lent enough words, accepts it and tells each value's depth:
   -- one descent from it has that many values, none has more."
   pub paths : (file : List ℕ) (cap count entry : ℕ) → Bytes file → checkOf file cap .answer ≡ ok (count, entry) → AcceptedPaths file count entry

@@ -4,25 +4,30 @@ use mathlib.Core.Bool.{true}
 use mathlib.Core.List.{List, [], _∷_, append-assoc}
 use Prim.Native.Nat.{ℕ, _+_, _-_, _≤_, _<_}
 use native.Mathlib.Omega.{arith}
+use lib.Dec.{eqb}
 use lib.ListN.{length, take, length-append}
 use lib.Seq.{sets, length-sets}
-use borrow.Author.Tests.{lt-ltb, le-ltb}
+use borrow.Author.Tests.{lt-ltb, le-ltb, eqb-true, eqb-false}
 use Rattle.prelude.specs.Answer.{ok}
+use Rattle.prelude.proofs.Tests.{pick-elim}
 use Rattle.prelude.proofs.Lists.{take-sets}
 use Rattle.kind.specs.Kind.{rule}
 use Rattle.token.specs.Token.{emit}
 use Rattle.writer_refusal.specs.Refusal.{limit}
 use Rattle.writer_refusal.specs.declared.State.{State}
 use Rattle.writer.specs.Call.{Call}
-use Rattle.writer.specs.Step.{write, writeDelta, writePointerDelta, move, step}
+use Rattle.writer.specs.Step.{startOf, write, writeDelta, writePointerDelta, move, step}
 use Rattle.writer.proofs.Accepted.{none-pending, Accepted, room-after, Near, delta-fits}
 use Rattle.writer.proofs.Refused.{pointerTo}
 use Rattle.guarantees_writer.specs.Model.{Part, formOf, Request, adds, ends, requestOf}
-use Rattle.guarantees_writer.specs.OneCall.{Writes, Finishing}
+use Rattle.guarantees_writer.specs.OneCall.{Starts, new, begun, Writes, Finishing}
 use Rattle.guarantees_writer.proofs.Calls.{put-by, close-by}
 use Rattle.guarantees_writer.proofs.Results.{write-more, write-last, far-last, near-none}
 use Rattle.guarantees_writer.proofs.Models.{pending-form}
 use Rattle.guarantees_writer.proofs.History.{moveAs, move-request}
+
+starts-is : (s : State) → Starts s (startOf s)
+starts-is s = pick-elim (Starts s) (eqb (s .pending) 0) (λ z. new (eqb-true _ _ z)) (λ z. let some = eqb-false (s .pending) 0 z in begun (omega arith))
 
 module _ (s : State) (out table : List ℕ) where
   part-writes : (p : Part) → let t = formOf (s .written) p in s .written + length (emit t) < limit (length out)
@@ -32,7 +37,7 @@ module _ (s : State) (out table : List ℕ) where
     written = refl;
     bytes = take-sets out (emit (formOf (s .written) p)) (s .written) (omega arith);
     pending = rw (pending-form (s .written) p);
-    start = λ _. refl;
+    start = λ _. starts-is s;
     closed = refl;
   }
 
@@ -63,7 +68,7 @@ module _ (s : State) (out table : List ℕ) where
         bytes = rw reach (rw (← append-assoc (take w out) t d, ← take-sets out t w (omega arith))
             (take-sets (sets out w t) d (w + length t) (omega (arith, length-sets out w t))));
         pending = rw (none-pending s (a .granted .alike)) (omega arith);
-        start = λ _. refl;
+        start = λ _. starts-is s;
         closed = refl;
       }
 
@@ -76,7 +81,7 @@ module _ (s : State) (out table : List ℕ) where
   unfolding write
   request-finishes (adds p) =
       let t = formOf (s .written) p in
-      put-by s out table (Finishing (adds p) s table) t _ (λ a. (write-more _ t _ s out table a, write-last _ t _ s out table a))
+      put-by s out table (Finishing (adds p) s table) t _ (λ a. (write-more _ t _ s out table a, λ e. (startOf s, starts-is s, write-last _ t _ s out table a e)))
   request-finishes (ends e) =
       close-by s out table (Finishing (ends e) s table) e
       (λ near n. (λ _. near-none _ s out table, λ far. absurd (omega arith)))

@@ -5,6 +5,7 @@
 --   requestBytes l w          the bytes that an accepted request adds after w bytes: its token; or the delta byte, perhaps after a pointer
 --   pendingAfter l s          the items that are pending after it
 --   closedAfter l             whether the writer is then closed
+--   Starts s x                the value that the next token belongs to starts at x
 --   Writes l s out r          an accepted request l leaves r: these bytes after those written, the items then pending, the start of the value that they
 --                             belong to, and closed if it is a close
 --   FinishesNone, Finishes x  it finishes no value; it finishes the one that starts at x
@@ -32,7 +33,7 @@ use Rattle.token.specs.Token.{Token, emit}
 use Rattle.writer_refusal.specs.Refusal.{badState, isListed, limit, room}
 use Rattle.writer_refusal.specs.declared.State.{State}
 use Rattle.writer.specs.Call.{Call}
-use Rattle.writer.specs.Step.{puts, moveOf, opens, Result, result, startOf, step}
+use Rattle.writer.specs.Step.{puts, moveOf, opens, Result, result, step}
 use Rattle.writer.specs.Runs.{runs}
 use Rattle.guarantees_writer.specs.Model.{part, formOf, Request, adds, ends}
 use Rattle.guarantees_writer.specs.RefusedCall.{itemsAfter}
@@ -66,11 +67,16 @@ abbrev pub closedAfter : Request → Bool
 closedAfter (adds p) = false
 closedAfter (ends e) = true
 
+-- a new value starts after the bytes written; an open one has its start
+pub data Starts (s : State) : ℕ → Type 0 where
+  new : s .pending ≡ 0 → Starts s (s .written)
+  begun : 0 < s .pending → Starts s (s .start)
+
 pub record Writes (l : Request) (s : State) (out : List ℕ) (r : Result) : Type 0 where
   pub written : r .writer .written ≡ s .written + length (requestBytes l (s .written))
   pub bytes : take (r .writer .written) (r .out) ≡ take (s .written) out ++ requestBytes l (s .written)
   pub pending : r .writer .pending ≡ pendingAfter l s
-  pub start : 0 < r .writer .pending → r .writer .start ≡ startOf s
+  pub start : 0 < r .writer .pending → Starts s (r .writer .start)
   pub closed : r .writer .closed ≡ closedAfter l
 
 -- ---- the value that it finishes
@@ -90,7 +96,8 @@ pub record Finishes (x : ℕ) (s : State) (table : List ℕ) (r : Result) : Type
 -- what a request that leaves r finishes: a token with items pending after it, none; the last token of a value, that value;
 -- a close, none if the delta byte reaches the value closed at, else the pointer that it adds
 abbrev pub Finishing : Request → State → List ℕ → Result → Type 0
-Finishing (adds p) s table r = (0 < r .writer .pending → FinishesNone s table r) × (r .writer .pending ≡ 0 → Finishes (startOf s) s table r)
+Finishing (adds p) s table r =
+    (0 < r .writer .pending → FinishesNone s table r) × (r .writer .pending ≡ 0 → (x : ℕ) × Starts s x × Finishes x s table r)
 Finishing (ends e) s table r = (s .written - e - 1 ≤ 255 → FinishesNone s table r) × (255 < s .written - e - 1 → Finishes (s .written) s table r)
 
 -- ---- the state that it leaves
