@@ -34,7 +34,8 @@ module _ (s : State) (table : List ℕ) (r : Result) where
       (omega (arith, f .count), ap (drop (r .writer .count)) (f .words) ∙ drop-set-lt (r .writer .count) table (s .count) x (omega (arith, f .count)))
 
   finishing-words : (l : Request) → Finishing l s table r → Words
-  finishing-words (adds p) f = split 0 (r .writer .pending) (λ some. none-words (f .0 some)) (λ none. let last = f .1 (omega arith) in one-words (last .0) (last .2))
+  finishing-words (adds p) f =
+      split 0 (r .writer .pending) (λ some. none-words (f .0 some)) (λ none. let last = f .1 (omega arith) in one-words (last .0) (last .2))
   finishing-words (ends e) f = split 255 (s .written - e - 1) (λ far. one-words (s .written) (f .1 far)) (λ near. none-words (f .0 near))
 
 step-rest : (c : Call) (s : State) (out table : List ℕ) → let r = step c s out table in Rest s out table (r .writer) (r .out) (r .table)

@@ -81,7 +81,8 @@ module _ (s : State) (out table : List ℕ) where
   unfolding write
   request-finishes (adds p) =
       let t = formOf (s .written) p in
-      put-by s out table (Finishing (adds p) s table) t _ (λ a. (write-more _ t _ s out table a, λ e. (startOf s, starts-is s, write-last _ t _ s out table a e)))
+      put-by s out table (Finishing (adds p) s table) t _
+      (λ a. (write-more _ t _ s out table a, λ e. (startOf s, starts-is s, write-last _ t _ s out table a e)))
   request-finishes (ends e) =
       close-by s out table (Finishing (ends e) s table) e
       (λ near n. (λ _. near-none _ s out table, λ far. absurd (omega arith)))

@@ -20,8 +20,10 @@ use Rattle.writer_refusal.proofs.Refusals.{past}
 use Rattle.writer.specs.Call.{Call}
 use Rattle.writer.specs.Step.{fresh}
 use Rattle.writer.specs.Runs.{runs}
-use Rattle.guarantees_writer.specs.Model.{Part, part, Request, adds, ends, requestOf, ModelValue, modelValue, formsOf, valueAt, valuesAt, Stage, between, within}
-use Rattle.guarantees_writer.specs.Model.{closed, openOf, deltaOf, isClosed, Model, model, emptyModel, modelBytes, pendingIn, pendingAt, grown, settle, backTo}
+use Rattle.guarantees_writer.specs.Model.{Part, part, Request, adds, ends, requestOf, ModelValue, modelValue, formsOf, valueAt, valuesAt, Stage}
+use Rattle.guarantees_writer.specs.Model.{between, within}
+use Rattle.guarantees_writer.specs.Model.{closed, openOf, deltaOf, isClosed, Model, model, emptyModel, modelBytes, pendingIn, pendingAt, grown}
+use Rattle.guarantees_writer.specs.Model.{settle, backTo}
 use Rattle.guarantees_writer.specs.Model.{modelAfter, modelAnswer}
 use Rattle.guarantees_writer.specs.History.{modelRun, unlessRefused}
 use Rattle.guarantees_writer.specs.AcceptedParts.{partsIn, partsAdded, acceptedParts}

@@ -36,7 +36,8 @@ use Rattle.writer.proofs.Runs.{length-answers, runs-append}
 use Rattle.guarantees_writer.specs.Model.{Model, emptyModel}
 use Rattle.guarantees_writer.specs.History.{Agree, Follows}
 use Rattle.guarantees_writer.proofs.History.{settled-answer, runs-lengths, history-from, fresh-follows}
-use Rattle.guarantees_writer.specs.Longer.{MemoryAnswer, longer, longerAll, Stretch, runsGrowing, callsIn, bytesIn, wordsIn, acceptedOf, Leaves, modelGrowing}
+use Rattle.guarantees_writer.specs.Longer.{MemoryAnswer, longer, longerAll, Stretch, runsGrowing, callsIn, bytesIn, wordsIn, acceptedOf, Leaves}
+use Rattle.guarantees_writer.specs.Longer.{modelGrowing}
 
 -- ---- refusals
 
