@@ -1,11 +1,11 @@
--- The errors of document 01 ("Numbers of refusal").
+-- The errors of document 01 ("Numbers of refusal") and of document 02 (W-201).
 --
 --   LIMIT                the most bytes that a file may have: a longer one is TOO_LONG
 --   EMPTY, ..            the numbers
 --   numberOf k           the number of the code's error k
---   Fault, fault f p     an error as document 01 has it: its number f and its place p
+--   Fault, fault f p     an error as the papers have it: its number f and its place p
 --   faultOf e            the code's error e in this form
---   names                the names in document 01's spelling, as bytes, by number; entry 0 is empty, since no error
+--   names                the names in the papers' spelling, as bytes, by number; entry 0 is empty, since no error
 --                        has the number 0
 --   nameOf k             the name of the code's error k
 --   padded s             the name s as the code returns it, padded with zeros
@@ -16,7 +16,7 @@ use Rattle.error.specs.declared.Error.{Error}
 use Rattle.error.specs.declared.ErrorName.{ErrorName}
 use Rattle.error.specs.declared.ErrorKind.{ErrorKind}
 use Rattle.error.specs.declared.ErrorKind.the-variants.{Empty, TooLong, Trunc, Reserved, Overlong, Range, Nested, BadText, BadTarget}
-use Rattle.error.specs.declared.ErrorKind.the-variants.{Full, BadEntry, Outside, NoItem, WrongKind, NoRoom, Owed, Closed, BadState}
+use Rattle.error.specs.declared.ErrorKind.the-variants.{Full, BadEntry, Outside, NoItem, WrongKind, NoRoom, Owed, Closed, BadState, LongBody, LongList}
 
 abbrev pub LIMIT : ℕ
 LIMIT = 16777216
@@ -75,6 +75,12 @@ CLOSED = 17
 abbrev pub BAD_STATE : ℕ
 BAD_STATE = 18
 
+abbrev pub LONG_BODY : ℕ
+LONG_BODY = 19
+
+abbrev pub LONG_LIST : ℕ
+LONG_LIST = 20
+
 abbrev pub numberOf : ErrorKind → ℕ
 numberOf Empty = EMPTY
 numberOf TooLong = TOO_LONG
@@ -94,6 +100,8 @@ numberOf NoRoom = NO_ROOM
 numberOf Owed = OWED
 numberOf Closed = CLOSED
 numberOf BadState = BAD_STATE
+numberOf LongBody = LONG_BODY
+numberOf LongList = LONG_LIST
 
 pub record Fault : Type 0 where
   pub number : ℕ
@@ -126,6 +134,8 @@ names =
     ∷ (79 ∷ 87 ∷ 69 ∷ 68 ∷ [])  -- OWED
     ∷ (67 ∷ 76 ∷ 79 ∷ 83 ∷ 69 ∷ 68 ∷ [])  -- CLOSED
     ∷ (66 ∷ 65 ∷ 68 ∷ 95 ∷ 83 ∷ 84 ∷ 65 ∷ 84 ∷ 69 ∷ [])  -- BAD_STATE
+    ∷ (76 ∷ 79 ∷ 78 ∷ 71 ∷ 95 ∷ 66 ∷ 79 ∷ 68 ∷ 89 ∷ [])  -- LONG_BODY
+    ∷ (76 ∷ 79 ∷ 78 ∷ 71 ∷ 95 ∷ 76 ∷ 73 ∷ 83 ∷ 84 ∷ [])  -- LONG_LIST
     ∷ []
 
 unfoldable pub nameOf : ErrorKind → List ℕ

@@ -1,4 +1,4 @@
-// The errors of document 01 ("Numbers of refusal"): their numbers and their names.
+// The errors of document 01 ("Numbers of refusal") and of document 02 (W-201): their numbers and their names.
 ghost use mathlib.Core.Path.{_≡_};
 ghost use lib.ListN.{getD};
 ghost use mathlib.Core.List.{[]};
@@ -13,8 +13,7 @@ pub enum ErrorKind {
     Empty,
     // The file is over 16,777,216 bytes long.
     TooLong,
-    // The region ends inside a number or a fixed body; a length or count exceeds the bytes left, or a pair count exceeds
-    // half of them; an item is wanted at the region's end.
+    // The region ends inside a number or a fixed body, or an item is wanted at the region's end.
     Trunc,
     // A reserved kind or low nibble.
     Reserved,
@@ -46,16 +45,20 @@ pub enum ErrorKind {
     Closed,
     // Writer: a state that does not fit the output or the table.
     BadState,
+    // The length of a text or byte string exceeds the bytes left.
+    LongBody,
+    // A count of items or arguments exceeds the bytes left, or a count of pairs exceeds half of them.
+    LongList,
 }
 
-// What went wrong, and where: the offset that document 01 calls its place. The writer's errors have no place, and are
+// What went wrong, and where: the offset that the papers call its place. The writer's errors have no place, and are
 // given by their kind alone.
 pub struct Error {
     pub kind: ErrorKind,
     pub place: usize,
 }
 
-// A name in document 01's spelling: the first `len` bytes of `text`, followed by zeros, at least one, as C wants it.
+// A name in the papers' spelling: the first `len` bytes of `text`, followed by zeros, at least one, as C wants it.
 pub struct ErrorName {
     pub text: [u8; 11],
     pub len: usize,
@@ -84,11 +87,13 @@ pub fn number(kind: ErrorKind) -> u32
         ErrorKind::Owed => 16,
         ErrorKind::Closed => 17,
         ErrorKind::BadState => 18,
+        ErrorKind::LongBody => 19,
+        ErrorKind::LongList => 20,
     }
 }
 
 // How many names the table has.
-const COUNT: usize = 19;
+const COUNT: usize = 21;
 
 // The names by number; no error has the number 0.
 const NAMES: [ErrorName; COUNT] = [
@@ -166,6 +171,14 @@ const NAMES: [ErrorName; COUNT] = [
     },
     ErrorName {
         text: *b"BAD_STATE\0\0",
+        len: 9,
+    },
+    ErrorName {
+        text: *b"LONG_BODY\0\0",
+        len: 9,
+    },
+    ErrorName {
+        text: *b"LONG_LIST\0\0",
         len: 9,
     },
 ];
