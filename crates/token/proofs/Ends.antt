@@ -72,7 +72,7 @@ scan-left inner at (h ∷ s) t rest e =
     bind-by _ _ _ e₂ (λ v s₁ ev e₃.
     need-by _ _ _ e₃ (λ most e₄.
     bind-by _ _ _ e₄ (λ a s₂ ea e₅.
-    body-by _ _ _ _ a s₂ t rest e₅ (λ b et sc sized room.
+    body-by _ _ _ _ _ a s₂ t rest e₅ (λ b et sc sized room.
     let one = number-short _ _ s v s₁ ev in
     let two = number-short _ _ s₁ a s₂ ea in
     rw et (record {
@@ -103,7 +103,7 @@ item-pending at (h ∷ s) t rest e =
     bind-by _ _ _ e₂ (λ v s₁ ev e₃.
     need-by _ _ _ e₃ (λ most e₄.
     bind-by _ _ _ e₄ (λ a s₂ ea e₅.
-    body-by _ _ _ _ a s₂ t rest e₅ (λ b et sc sized room.
+    body-by _ _ _ _ _ a s₂ t rest e₅ (λ b et sc sized room.
     let none = immediate-none (h / 16) (not-false _ (not-true _ flat)) in
     let z = number-none _ (rule (h / 16) .args) s₁ a s₂ (none .args) ea in
     rw (et, none .single, none .each, z, zero-mul)))))))

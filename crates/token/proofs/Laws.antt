@@ -1,9 +1,8 @@
 -- `scan` and `emit`, one after the other: each law is one proof over all kinds.
 --
 -- In order: a number that may be there; the body; the bytes of a token; what is emitted is scanned back, whatever
--- follows (`scan-emit`); what is scanned is, in shortest form, what would be emitted (`emit-scan`); a fault is placed
--- at the header (`scan-place`).
-use mathlib.Core.Path.{_≡_, refl, sym, ap, _∙_, subst}
+-- follows (`scan-emit`); what is scanned is, in shortest form, what would be emitted (`emit-scan`).
+use mathlib.Core.Path.{_≡_, refl, sym, ap, _∙_}
 use Prim.Native.Nat.{ℕ, _+_, _-_, _*_, _/_, _%_, _^_, _≤_, _<_, min, zero-le}
 use mathlib.Core.Bool.{Bool, true, false, true≢false}
 use mathlib.Core.List.{List, [], _∷_, _++_, append-assoc}
@@ -12,12 +11,11 @@ use lib.ListN.{length, take, drop, length-append, take-append-drop, length-drop}
 use lib.Seq.{take-at, drop-at, length-take-le}
 use lib.Dec.{leb}
 use borrow.Author.Tests.{lt-ltb, le-leb, lt-leb}
-use Rattle.prelude.specs.Answer.{Res, got, bad, guard, then, orError, Need, _>>_, _>>=_}
+use Rattle.prelude.specs.Answer.{got, guard, orError, _>>_, _>>=_}
 use Rattle.prelude.specs.Bytes.{Bytes}
 use Rattle.prelude.proofs.Tests.{split, facts}
 use Rattle.prelude.proofs.Readers.{guard-by, orError-by, need-by, bind-by, bad-got}
 use Rattle.prelude.proofs.Parts.{bytes-after}
-use Rattle.error.specs.Error.{Fault, fault}
 use Rattle.leb128.proofs.Laws.{get-put, put-get}
 use Rattle.kind.specs.Kind.{rule, size, counted}
 use Rattle.kind.specs.declared.Rule.{Rule}
@@ -41,16 +39,17 @@ number-by at false n s rest b e k = orError-by _ _ e (λ e₁. let z : 0 ≡ n =
 
 -- ---- the body
 
-body-append : (at k : ℕ) (r : Rule) (n a : ℕ) (b s : List ℕ) → length b ≡ size r n → counted r n a ≤ length s → body at k r n a (b ++ s) ≡ got (token k n a b) s
+body-append : (at end k : ℕ) (r : Rule) (n a : ℕ) (b s : List ℕ) → length b ≡ size r n → counted r n a ≤ length s
+    → body at end k r n a (b ++ s) ≡ got (token k n a b) s
 unfolding body guard
-body-append at k r n a b s e h =
+body-append at end k r n a b s e h =
     let room : size r n + counted r n a ≤ length (b ++ s) = rw length-append (omega arith) in
     rw (le-leb, take-at b s (size r n) e, drop-at b s (size r n) e)
 
-pub body-by : {X : Type 0} (at k : ℕ) (r : Rule) (n a : ℕ) (s : List ℕ) (t : Token) (rest : List ℕ) → body at k r n a s ≡ got t rest
+pub body-by : {X : Type 0} (at end k : ℕ) (r : Rule) (n a : ℕ) (s : List ℕ) (t : Token) (rest : List ℕ) → body at end k r n a s ≡ got t rest
     → ((b : List ℕ) → t ≡ token k n a b → s ≡ b ++ rest → length b ≡ size r n → counted r n a ≤ length rest → X) → X
 unfolding body
-body-by at k r n a s t rest e c =
+body-by at end k r n a s t rest e c =
     guard-by _ _ _ e (λ room e₁.
     let all : size r n + counted r n a ≤ length s = omega facts in
     let own : size r n ≤ length s = omega arith in
@@ -155,7 +154,7 @@ emit-scan inner at (h ∷ s) t rest b e =
     bind-by _ _ _ e₄ (λ a s₂ ea e₅.
     number-by _ _ v s s₁ (b .1) ev (λ sv none v<.
     number-by _ _ a s₁ s₂ (bytes-after (putIf (leb 15 (h % 16)) v) s₁ (rw sv at (b .1))) ea (λ sa one a<.
-    body-by _ _ _ _ a s₂ t rest e₅ (λ c et sc sized room.
+    body-by _ _ _ _ _ a s₂ t rest e₅ (λ c et sc sized room.
     let i = nibble-number (h % 16) v (omega arith) none in
     let header : h ≡ h / 16 * 16 + min (h % 16 + v) 15 = omega (arith, i .nibble) in
     rw et (record {
@@ -166,46 +165,3 @@ emit-scan inner at (h ∷ s) t rest b e =
         room = room;
       };
     })))))))))
-
--- ---- the place of a fault
-
--- a fault of r has the place p
-abbrev Placed : {A : Type 0} → ℕ → Res Fault A → Type 0
-Placed p (got a s) = Unit {0}
-Placed p (bad e) = e .place ≡ p
-
-placed-guard : {A : Type 0} (p : ℕ) (t : Bool) (e : Fault) (r : Res Fault A) → e .place ≡ p → Placed p r → Placed p (guard t e r)
-unfolding guard
-placed-guard p true e r q h = h
-placed-guard p false e r q h = q
-
-placed-need : {A : Type 0} (p : ℕ) (c : Need Fault) (r : List ℕ → Res Fault A) (s : List ℕ) → c .else .place ≡ p → Placed p (r s) → Placed p ((c >> r) s)
-unfolding _>>_
-placed-need p c r s q h = placed-guard p (c .test) (c .else) (r s) q h
-
-placed-bind : {A B : Type 0} (p : ℕ) (r : List ℕ → Res Fault A) (f : A → List ℕ → Res Fault B) (s : List ℕ) → Placed p (r s)
-    → ((a : A) (m : List ℕ) → Placed p (f a m)) → Placed p ((r >>= f) s)
-unfolding _>>=_ then
-placed-bind {A} {B} p r f s h g = by-cases (r s) h
-  where
-    by-cases : (x : Res Fault A) → Placed p x → Placed p (then x f)
-    by-cases (got a m) h = g a m
-    by-cases (bad e) h = h
-
-placed-number : (at : ℕ) (w : Bool) (s : List ℕ) → Placed at (number at w s)
-unfolding number orError
-placed-number at w s = by-cases (getIf w s)
-  where
-    by-cases : (x : Res ℕ ℕ) → Placed at (orError (λ f. fault f at) x)
-    by-cases (got a m) = tt
-    by-cases (bad e) = refl
-
-scan-placed : (inner : Bool) (at : ℕ) (s : List ℕ) → Placed at (scan inner at s)
-unfolding scan scanKind body
-scan-placed inner at [] = refl
-scan-placed inner at (h ∷ s) =
-    placed-need at _ _ s refl (placed-need at _ _ s refl (placed-bind at _ _ s (placed-number at _ s)
-    (λ v m. placed-need at _ _ m refl (placed-bind at _ _ m (placed-number at _ m) (λ a m′. placed-guard at _ _ _ refl tt)))))
-
-pub scan-place : (inner : Bool) (at : ℕ) (s : List ℕ) (f : Fault) → scan inner at s ≡ bad f → f .place ≡ at
-scan-place inner at s f e = subst (Placed at) e (scan-placed inner at s)
