@@ -5,7 +5,7 @@
 use mathlib.Core.Path.{_≡_, refl, ap, _∙_}
 use Prim.Native.Nat.{ℕ, suc, _+_, _-_, _*_, _/_, _%_, _≤_, _<_}
 use mathlib.Core.Bool.{Bool, true, false, not, _&&_}
-use mathlib.Core.List.{List}
+use mathlib.Core.List.{List, _∷_}
 use native.Mathlib.Nat.{zero-add, add-zero, zero-mul}
 use native.Mathlib.Numerals.{add-one}
 use native.Mathlib.Omega.{arith}
@@ -17,7 +17,7 @@ use Rattle.prelude.specs.Pick.{pick}
 use Rattle.prelude.specs.Answer.{Answer, ok, error, Res, got, bad, guard, then, orError, measured, need, _>>_, _>>=_}
 use Rattle.prelude.proofs.Tests.{pick-cong, facts, and-l, and-r}
 use Rattle.prelude.proofs.Readers.{measured-ok}
-use Rattle.error.specs.Error.{Fault, fault, numberOf, TRUNC, RESERVED, RANGE, NESTED}
+use Rattle.error.specs.Error.{Fault, fault, numberOf, TRUNC, RESERVED, RANGE, NESTED, LONG_LIST}
 use Rattle.leb128.specs.Leb.{get}
 use Rattle.leb128.specs.Answers as numbers
 use Rattle.leb128.specs.Internal.{leftOf}
@@ -28,7 +28,7 @@ use Rattle.kind.specs.Internal.{Row}
 use Rattle.kind.specs.declared.Rule.{Rule}
 use Rattle.kind.proofs.Laws.{None, rule-row}
 use Rattle.token.specs.Token.{Token}
-use Rattle.token.specs.Scan.{getIf, number, body, scanKind, scan}
+use Rattle.token.specs.Scan.{getIf, number, shortage, body, scanKind, scan}
 use Rattle.scan.specs.Answers.{headOf, scanAt}
 use Rattle.scan_number.specs.Internal.{inRange, numbered}
 use Rattle.scan.specs.Internal.{fitted, andThen, ranged}
@@ -58,7 +58,7 @@ module _ (s : List ℕ) (at : ℕ) where
       go (bad e) q = refl
 
   seen-body : (k n a : ℕ) (m : List ℕ) → length m ≤ length s
-      → headOf (length s) (body at k (rule k) n a m) ≡ fitted (length s) at k (rule k) n a (length m)
+      → headOf (length s) (body at (length s) k (rule k) n a m) ≡ fitted (length s) at k (rule k) n a (length m)
   unfolding body headOf
   seen-body k n a m h =
       let z = size (rule k) n in
@@ -72,12 +72,12 @@ module _ (s : List ℕ) (at : ℕ) where
       (λ t. refl))
 
   seen-ranged : (k low v : ℕ) (m : List ℕ) → End s m
-      → headOf (length s) ((need (leb (low + v) (rule k .most)) (fault RANGE at) >> (number at (rule k .args) >>= body at k (rule k) (low + v))) m)
+      → headOf (length s) ((need (leb (low + v) (rule k .most)) (fault RANGE at) >> (number at (rule k .args) >>= body at (length s) k (rule k) (low + v))) m)
       ≡ pick (leb (low + v) (rule k .most)) (ranged s at k (rule k) (low + v) (length m)) (error (fault RANGE at))
   unfolding _>>_ _>>=_
   seen-ranged k low v m e =
       rw seen-guard (pick-cong (leb (low + v) (rule k .most))
-      (λ t. ap (λ x. headOf (length s) (then (number at (rule k .args) x) (body at k (rule k) (low + v)))) (e .end)
+      (λ t. ap (λ x. headOf (length s) (then (number at (rule k .args) x) (body at (length s) k (rule k) (low + v)))) (e .end)
       ∙ seen-number (rule k .args) (length s - length m) _ _ (omega arith) (λ a rest e′. seen-body k (low + v) a rest (e′ .short)))
       (λ t. refl))
 
@@ -125,7 +125,7 @@ AfterNumber inner s at r (Err e) = error (fault (numberOf e) at) ≡ scanAt inne
 -- after the second number a
 pub record Second (inner : Bool) (s : List ℕ) (at k n a left : ℕ) : Type 0 where
   pub short : left ≤ length s
-  pub whole : pick (leb a left) (ok (head k n a (length s - left) (length s - left))) (error (fault TRUNC at)) ≡ scanAt inner s at
+  pub whole : pick (leb a left) (ok (head k n a (length s - left) (length s - left))) (error (fault LONG_LIST (length s - left))) ≡ scanAt inner s at
 
 abbrev pub Counted : Bool → List ℕ → ℕ → ℕ → ℕ → GetResult → Type 0
 Counted inner s at k n (Ok a left) = Second inner s at k n a left
@@ -153,7 +153,8 @@ module _ (inner : Bool) (s : List ℕ) (at : ℕ) (there : at < length s) where
       (error (fault RESERVED at))
   unfolding scanAt scan scanKind _>>_ _>>=_ numbered
   scan-head =
-      rw (drop-cons s at 0 there, seen-guard, seen-guard, add-one)
+      let end : at + length (getD s at 0 ∷ drop (suc at) s) ≡ length s = omega (arith, length-drop (suc at) s) in
+      rw (drop-cons s at 0 there, end, seen-guard, seen-guard, add-one)
       (pick-cong (ltb low (rule kind .lows))
       (λ t. pick-cong (not (inner && not (immediate (rule kind))))
       (λ u. seen-number s at (leb 15 low) (suc at) _ ruled there (λ v m e. seen-ranged s at kind low v m e)
@@ -227,8 +228,8 @@ module _ {inner : Bool} {s : List ℕ} {at k : ℕ} {r : Rule} {n left : ℕ} (b
         rw (← scan-fitted) (rw (fixed, scale, each) (simp (zero-mul, add-zero, le-leb 0 left (omega arith))))
 
     module _ {g : Bool} (room : g ≡ leb (size r n + r .each * n) left) where
-      pub scan-full : not g ≡ true → error (fault TRUNC at) ≡ scanAt inner s at
-      scan-full z = rw (← scan-fitted, add-zero, ← room, not-true g z)
+      pub scan-full : not g ≡ true → {f : Fault} → f ≡ shortage at (length s - left) r → error f ≡ scanAt inner s at
+      scan-full z is = rw (is, ← scan-fitted, add-zero, ← room, not-true g z)
 
       pub scan-sized : not g ≡ false
           → ok (head k n (r .single + r .each * n) (length s - left) (length s - left + (r .fixed + r .scale * n))) ≡ scanAt inner s at

@@ -65,20 +65,20 @@ pub fn scan(region: &[u8], at: usize, inner: bool) -> ScanResult
             if rule.args {
                 return match leb128::get(&region[first..]) {
                     GetResult::Ok { value, left } => {
-                        // TRUNC: the items exceed the bytes left
+                        let after = len - left;
+                        // LONG_LIST: the count of arguments exceeds the bytes left
                         if (left as u64) < value {
                             return ScanResult::Err(Error {
-                                kind: ErrorKind::Trunc,
-                                place: at,
+                                kind: ErrorKind::LongList,
+                                place: after,
                             });
                         }
-                        let first = len - left;
                         ScanResult::Ok(Head {
                             kind,
                             n,
                             items: value,
-                            first,
-                            end: first,
+                            first: after,
+                            end: after,
                         })
                     }
                     GetResult::Err(error) => ScanResult::Err(Error {
@@ -97,13 +97,10 @@ pub fn scan(region: &[u8], at: usize, inner: bool) -> ScanResult
                     end: first,
                 });
             }
-            // TRUNC: the body or the counted items exceed the bytes left
+            // TRUNC of a float, LONG_BODY, LONG_LIST: the body or the counted items exceed the bytes left
             let room = scan_number::has_room(rule, n, left as u64);
             if !room {
-                return ScanResult::Err(Error {
-                    kind: ErrorKind::Trunc,
-                    place: at,
-                });
+                return ScanResult::Err(scan_number::shortage(rule, at, first));
             }
             let body = rule.fixed + rule.scale * n;
             ScanResult::Ok(Head {

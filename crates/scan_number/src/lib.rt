@@ -1,13 +1,16 @@
-// The number n of a header, and the room for what it counts.
+// The number n of a header, the room for what it counts, and the error if there is none.
+use error::Error;
 use error::ErrorKind;
 use kind::Rule;
 use leb128::GetResult;
 ghost use mathlib.Core.Path.{_≡_};
 ghost use Prim.Native.Nat.{_+_, _*_, _≤_, _<_, _^_};
 ghost use lib.Dec.{leb};
+ghost use Rattle.error.specs.Error.{faultOf};
 ghost use Rattle.leb128.specs.Answers as numbers;
 ghost use Rattle.kind.specs.Kind.{size};
 ghost use Rattle.kind.specs.Internal.{Row};
+ghost use Rattle.token.specs.Scan as tokens;
 ghost use Rattle.scan_number.specs.Internal.{numbered};
 
 // The number n of a header with this low nibble, if s comes after it, and the bytes left after n.
@@ -46,4 +49,30 @@ pub fn has_room(rule: Rule, n: u64, left: u64) -> bool
         return false;
     }
     rule.fixed + unit * n <= left
+}
+
+// The error of a token at the offset `at` whose body, or the items that it counts, exceed the bytes left; `first` is the
+// offset just after its numbers.
+pub fn shortage(rule: Rule, at: usize, first: usize) -> Error
+    ensures { λ r. ⌜ faultOf r ≡ tokens.shortage at first rule ⌝ }
+{
+    // TRUNC: the region ends inside a fixed body
+    if 0 < rule.fixed {
+        return Error {
+            kind: ErrorKind::Trunc,
+            place: at,
+        };
+    }
+    // LONG_BODY: the length exceeds the bytes left
+    if 0 < rule.scale {
+        return Error {
+            kind: ErrorKind::LongBody,
+            place: first,
+        };
+    }
+    // LONG_LIST: the count of items exceeds the bytes left
+    Error {
+        kind: ErrorKind::LongList,
+        place: first,
+    }
 }

@@ -89,15 +89,18 @@ scan-spec =
     (λ c κs. search needs)
     (λ c. search needs)
     -- the second number
+    (λ c. let q = second (c .before .before .before) _ (c .before .value2 .given .1) in omega (arith, q .short))
     (λ c. let q = second (c .before .before .before .before) _ (c .before .before .value2 .given .1) in rw (← q .whole, lt-leb _ _ (c .if5 .taken)))
-    (λ c. let q = second (c .before .before .before .before) _ (c .before .before .value2 .given .1) in omega (arith, q .short))
     (λ c. search needs)
     (λ c. let q = second (c .before .before .before .before) _ (c .before .before .value2 .given .1) in rw (← q .whole, le-leb _ _ (c .if5 .left)))
     (λ c. second (c .before .before .before) _ (c .before .error .given .1))
     -- none
     (λ c. let e = c .before .before .before in scan-bare (number (e .before)) (e .if4 .left) (c .if6 .taken))
     (λ c κs. let w = c .before .before .before .before in (number w .row, number w .most, left-lt w))
-    (λ c. let e = alone (c .before) in scan-full (number (e .before)) (e .if4 .left) (c .before .has-room .ensures) (c .if7 .taken))
+    (λ c κs. search needs)
+    (λ c. let h = c .before in
+    let e = alone (h .before) in
+    scan-full (number (e .before)) (e .if4 .left) (h .before .has-room .ensures) (h .if7 .taken) (c .shortage .ensures))
     (λ c. omega (arith, room (c .before)))
     (λ c. omega (arith, room (c .before .before)))
     (λ c. omega (arith, room (c .before .before .before)))
