@@ -1,10 +1,10 @@
 -- Members of lists: `Each` and `among`.
 --
--- In order: `Each` of lists joined, and of what follows from it; what holds for each holds for one that is among them;
+-- In order: `Each` by a test that all pass; of lists joined, and of what follows from it; what holds for each holds for one that is among them;
 -- what is among a list is among a longer one; the index of what is among the first of a rising list.
 use mathlib.Core.Path.{_≡_, sym, _∙_}
 use mathlib.Core.Logic.{_↔_}
-use mathlib.Core.Bool.{true, false≢true, or-comm}
+use mathlib.Core.Bool.{Bool, true, false≢true, or-comm}
 use mathlib.Core.List.{List, [], _∷_, _++_}
 use Prim.Native.Nat.{ℕ, _<_}
 use native.Mathlib.Omega.{arith}
@@ -13,7 +13,8 @@ use lib.ListN.{getD, take, length-take}
 use lib.Seq.{getD-take}
 use borrow.Author.Tests.{eqb-true}
 use Rattle.prelude.specs.Search.{among, rank, Rising}
-use Rattle.prelude.proofs.Tests.{or-true}
+use Rattle.prelude.proofs.Tests.{and-l, and-r, or-true}
+use Rattle.prelude.proofs.Tables.{every}
 use Rattle.prelude.proofs.Searches.{rank-at, among-by}
 use Rattle.values.specs.Values.{Each}
 
@@ -22,6 +23,10 @@ each-all P f [] = tt
 each-all P f (x ∷ xs) = (f x, each-all P f xs)
 
 module _ {A : Type 0} where
+  pub each-every : (p : A → Bool) (xs : List A) → every p xs ≡ true → Each (λ x. p x ≡ true) xs
+  each-every p [] e = tt
+  each-every p (x ∷ xs) e = (and-l (p x) _ e, each-every p xs (and-r (p x) _ e))
+
   pub each-append : (P : A → Type 0) (a b : List A) → Each P (a ++ b) ↔ (Each P a × Each P b)
   each-append P [] b = (λ e. (tt, e), λ e. e .1)
   each-append P (x ∷ a) b =
