@@ -24,35 +24,39 @@ use Rattle.scan.specs.declared.Head.{Head}
 use Rattle.guarantees_faults.specs.Faults as faults
 use Rattle.guarantees_faults.specs.Faults.{Header, Usable, Numbered, Counted, Whole, RefusedHead}
 use Rattle.guarantees_faults.proofs.Readers.{guard-elim, need-elim, need-fails, need-on, bind-fails, bind-on}
-use Rattle.guarantees_faults.proofs.Numbers.{number-is, number-fails, number-elim, EndOf, end-trans, number-end}
+use Rattle.guarantees_faults.proofs.Numbers.{number-is, number-none, number-fails, number-elim, EndOf, end-trans, number-end}
+use Rattle.guarantees_faults.proofs.Shortages.{shortage-by, float-need, float-shortage, exceeds-need, exceeds-shortage}
 
 module _ (s : List ℕ) (inner : Bool) (q : ℕ) where
   -- what scan reads after a header h: from its number on, and from its second number on
   abbrev fromNumber : ℕ → List ℕ → Res Fault Token
   fromNumber h =
       number q (leb 15 (h % 16)) >>= (λ v.
-      need (leb (h % 16 + v) (rule (h / 16) .most)) (fault RANGE q) >> (number q (rule (h / 16) .args) >>= body q (h / 16) (rule (h / 16)) (h % 16 + v)))
+      need (leb (h % 16 + v) (rule (h / 16) .most)) (fault RANGE q) >> (number q (rule (h / 16) .args) >>= body q (length s) (h / 16) (rule (h / 16)) (h % 16 + v)))
 
   abbrev fromCount : ℕ → ℕ → List ℕ → Res Fault Token
-  fromCount h n = number q (rule (h / 16) .args) >>= body q (h / 16) (rule (h / 16)) n
+  fromCount h n = number q (rule (h / 16) .args) >>= body q (length s) (h / 16) (rule (h / 16)) n
 
   abbrev scanned : Res Fault Token
   scanned = scan inner q (drop q s)
 
   -- ---- scan goes on
 
+  header-end : {h : ℕ} {m : List ℕ} → Header s inner q h m → q + length (h ∷ m) ≡ length s
+  header-end x = omega (arith, length-drop q s, ap length x)
+
   module _ {h : ℕ} {x : Res Fault Token} where
     usable-on : {m : List ℕ} → Usable s inner q h m → fromNumber h m ≡ x → scanned ≡ x
     unfolding scan scanKind
     usable-on u e =
-        rw (u .header) (need-on _ _ _ (lt-ltb _ _ (u .used)) (need-on _ _ _ (ap not (unless inner (immediate (rule (h / 16))) (u .flat))) e))
+        rw (u .header, header-end (u .header)) (need-on _ _ _ (lt-ltb _ _ (u .used)) (need-on _ _ _ (ap not (unless inner (immediate (rule (h / 16))) (u .flat))) e))
 
     numbered-on : {n : ℕ} {m : List ℕ} → Numbered s inner q h n m → fromCount h n m ≡ x → scanned ≡ x
     numbered-on r e =
         let bound : h % 16 + r .more ≤ rule (h / 16) .most = omega (arith, r .sum, r .most) in
         usable-on (r .usable) (bind-on _ _ _ (number-is q (r .number)) (need-on _ _ _ (le-leb _ _ bound) (rw (r .sum) at e)))
 
-    counted-on : {n a : ℕ} {m : List ℕ} → Counted s inner q h n a m → body q (h / 16) (rule (h / 16)) n a m ≡ x → scanned ≡ x
+    counted-on : {n a : ℕ} {m : List ℕ} → Counted s inner q h n a m → body q (length s) (h / 16) (rule (h / 16)) n a m ≡ x → scanned ≡ x
     counted-on c e = numbered-on (c .numbered) (bind-on _ _ _ (number-is q (c .count)) e)
 
   -- ---- a token that scan reads
@@ -131,7 +135,9 @@ module _ (s : List ℕ) (inner : Bool) (q : ℕ) where
   scanned-bad (faults.number u low x) = usable-on u (bind-fails _ _ _ (number-fails q (le-leb _ _ low) x))
   scanned-bad (faults.over u v high) = usable-on u (bind-on _ _ _ (number-is q v) (need-fails _ _ _ (lt-leb _ _ high)))
   scanned-bad (faults.second r two x) = numbered-on r (bind-fails _ _ _ (number-fails q two x))
-  scanned-bad (faults.short c l) = counted-on c (rw (lt-leb _ _ l))
+  scanned-bad (faults.float {h} {n} {a} {m} c three l) =
+      counted-on c (rw (lt-leb _ _ (float-need n a three l), float-shortage q (length s - length m) three))
+  scanned-bad (faults.long c x) = counted-on c (rw (lt-leb _ _ (exceeds-need x), exceeds-shortage _ _ x))
 
   pub error-of-head : {f : Fault} → RefusedHead s inner q f → scanAt inner s q ≡ error f
   unfolding scanAt headOf
@@ -153,7 +159,7 @@ module _ (s : List ℕ) (inner : Bool) (q : ℕ) where
   abbrev ScansTo : Res Fault Token → Type 0
   ScansTo r = Scans (headOf (length s) r)
 
-  header-scans : (h : ℕ) (m : List ℕ) → Header s inner q h m → ScansTo (scanKind inner q (h / 16) (rule (h / 16)) (h % 16) m)
+  header-scans : (h : ℕ) (m : List ℕ) → Header s inner q h m → ScansTo (scanKind inner q (length s) (h / 16) (rule (h / 16)) (h % 16) m)
   unfolding scanKind body headOf
   header-scans h m x =
       need-elim ScansTo _ _ m (λ e. faults.reserved x (omega facts)) (λ low.
@@ -166,7 +172,9 @@ module _ (s : List ℕ) (inner : Bool) (q : ℕ) where
       let r : Numbered s inner q h (h % 16 + v) m₁ = record { after = m; usable = u; more = v; number = first; sum = refl; most = omega facts } in
       number-elim q ScansTo _ _ m₁ (λ e w bad. faults.second r w bad) (λ a m₂ second.
       let c : Counted s inner q h (h % 16 + v) a m₂ = record { after = m₁; numbered = r; count = second } in
-      guard-elim ScansTo _ _ _ (λ e. faults.short c (omega facts)) (λ room.
+      guard-elim ScansTo _ _ _
+      (λ e. shortage-by _ _ a (length m₂) (number-none second) (RefusedHead s inner q) q (length s - length m₂) (omega facts)
+      (λ three l. faults.float c three l) (λ e x. faults.long c x)) (λ room.
       let w : Whole s inner q h (h % 16 + v) (take (size (rule (h / 16)) (h % 16 + v)) m₂) = record {
         args = a;
         after = m₂;
@@ -182,7 +190,7 @@ module _ (s : List ℕ) (inner : Bool) (q : ℕ) where
     where
       by-cases : (r : List ℕ) → drop q s ≡ r → ScansTo (scan inner q r)
       by-cases [] e = faults.ended (omega (arith, length-drop q s, ap length e))
-      by-cases (h ∷ m) e = header-scans h m e
+      by-cases (h ∷ m) e = rw (header-end e) (header-scans h m e)
 
   -- ---- both ways
 

@@ -2,10 +2,14 @@
 mod Readers
 -- `get` answers as the bytes say
 mod Numbers
+-- the kinds that announce a body or items
+pub mod Shortages
 -- `scan` refuses a token exactly so
 pub mod Heads
 -- the walk refuses a token exactly so
 pub mod Refused
+-- its place and its number
+pub mod Places
 -- the queries answer, and refuse, exactly so
 pub mod Queries
 -- .. and lookup

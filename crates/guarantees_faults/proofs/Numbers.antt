@@ -4,7 +4,7 @@
 -- `number`, which a header's numbers are read by.
 use mathlib.Core.Path.{_≡_, refl, sym, ap, _∙_, subst}
 use Prim.Native.Nat.{ℕ, zero, suc, _+_, _*_, _%_, _≤_, _<_, min}
-use mathlib.Core.Bool.{Bool, true, false}
+use mathlib.Core.Bool.{Bool, true, false, true≢false}
 use mathlib.Core.List.{List, [], _∷_, _++_, append-assoc}
 use native.Mathlib.Omega.{arith}
 use lib.Dec.{ltb, leb, lit≤}
@@ -114,6 +114,11 @@ bad-of-stuck : {s : List ℕ} {e : ℕ} → Stuck 9 0 s e → BadNumber s e
 bad-of-stuck (cut s g h) = faults.cut {s = s} g (omega arith)
 bad-of-stuck (tenth p b rest g h over) = faults.tenth p b rest g h (omega arith)
 bad-of-stuck (padded p rest g h last) = faults.padded p rest g h (omega arith)
+
+-- one that is not there is 0
+pub number-none : {w : Bool} {s : List ℕ} {n : ℕ} {rest : List ℕ} → NumberIf w s n rest → w ≡ false → n ≡ 0
+number-none none f = refl
+number-none (some x) f = absurd (true≢false f)
 
 module _ (at : ℕ) where
   pub number-is : {w : Bool} {s : List ℕ} {n : ℕ} {rest : List ℕ} → NumberIf w s n rest → number at w s ≡ got n rest

@@ -1,10 +1,10 @@
 -- The walk of check refuses a token exactly as `RefusedToken` says.
 --
 -- In order: tests; the walk answers each row (`error-of-refused`); what it answers is a row (`refused-of-error`); both ways (`refused-exactly`), and no
--- token is refused in two ways (`one-refusal`); number and place of a refusal (`refusal`).
+-- token is refused in two ways (`one-refusal`).
 use mathlib.Core.Path.{_≡_, refl, sym, ap, _∙_, subst}
 use mathlib.Core.Logic.{_↔_}
-use Prim.Native.Nat.{ℕ, _-_, _/_, _≤_, _<_}
+use Prim.Native.Nat.{ℕ, _-_, _/_}
 use mathlib.Core.Bool.{Bool, true, false, not, _&&_, false≢true}
 use mathlib.Core.List.{List}
 use native.Mathlib.Omega.{arith}
@@ -14,14 +14,14 @@ use lib.ListN.{length}
 use Rattle.prelude.specs.Answer.{Answer, ok, error, bind}
 use Rattle.prelude.specs.Search.{among}
 use Rattle.prelude.proofs.Tests.{pick-elim, and-l, and-r, unless, unless-by, facts}
-use Rattle.error.specs.Error.{Fault, fault, TRUNC, FULL}
+use Rattle.error.specs.Error.{Fault}
 use Rattle.utf8.specs.Text.{isText}
 use Rattle.utf8.proofs.Laws.{text-isText, isText-text}
 use Rattle.scan.specs.Answers.{scanAt, bodyOn}
 use Rattle.scan.specs.declared.Head.{Head}
 use Rattle.checker_value.specs.Walk.{hasTarget, tokenFault, nextToken}
 use Rattle.guarantees_faults.specs.Faults as faults
-use Rattle.guarantees_faults.specs.Faults.{BadNumber, Whole, RefusedHead, HasWord, RefusedToken}
+use Rattle.guarantees_faults.specs.Faults.{Whole, HasWord, RefusedToken}
 use Rattle.guarantees_faults.proofs.Heads.{headOfWhole, whole-body, scanAt-whole, error-of-head, Scans, scanAt-scans}
 
 -- ---- tests
@@ -114,34 +114,3 @@ module _ (s : List ℕ) (cap : ℕ) (done : List ℕ) (pending q : ℕ) where
 
   pub one-refusal : (f g : Fault) → RefusedToken s cap done pending q f → RefusedToken s cap done pending q g → f ≡ g
   one-refusal f g x y = let e : error f ≡ error g = sym (error-of-refused x) ∙ error-of-refused y in cc
-
-  -- ---- number and place
-
-  -- every refusal has its place at q, and a number from TRUNC to FULL; FULL is of a value that has no word
-  pub record Refusal (f : Fault) : Type 0 where
-    pub place : f .place ≡ q
-    pub number : (TRUNC ≤ f .number) × (f .number ≤ FULL)
-    pub full : f .number ≡ FULL → (pending ≡ 0) × (cap ≤ length done)
-
-  bad-number : {m : List ℕ} {e : ℕ} → BadNumber m e → (TRUNC ≤ e) × (e < FULL)
-  bad-number (faults.cut g h) = omega arith
-  bad-number (faults.tenth p b rest g h over) = omega arith
-  bad-number (faults.padded p rest g h last) = omega arith
-
-  other : (e : ℕ) → TRUNC ≤ e → e < FULL → Refusal (fault e q)
-  other e low high = record { place = refl; number = omega arith; full = λ z. absurd (omega arith) }
-
-  head-refusal : {f : Fault} → RefusedHead s inner q f → Refusal f
-  head-refusal (faults.ended l) = other _ (omega arith) (omega arith)
-  head-refusal (faults.reserved x low) = other _ (omega arith) (omega arith)
-  head-refusal (faults.nested x low item deep) = other _ (omega arith) (omega arith)
-  head-refusal (faults.number u low x) = let n = bad-number x in other _ (n .0) (n .1)
-  head-refusal (faults.over u v high) = other _ (omega arith) (omega arith)
-  head-refusal (faults.second r two x) = let n = bad-number x in other _ (n .0) (n .1)
-  head-refusal (faults.short c l) = other _ (omega arith) (omega arith)
-
-  pub refusal : {f : Fault} → Refuses f → Refusal f
-  refusal (faults.full z c) = record { place = refl; number = omega arith; full = λ e. (z, c) }
-  refusal (faults.head w x) = head-refusal x
-  refusal (faults.text w x four wrong) = other _ (omega arith) (omega arith)
-  refusal (faults.target w x text ref wrong) = other _ (omega arith) (omega arith)

@@ -1,14 +1,14 @@
 -- The rows on document 01's samples and on the witnesses of docs/READINGS.md, by the bytes; nothing is read.
 use mathlib.Core.Path.{_≡_, refl, sym, subst}
 use mathlib.Core.Bool.{Bool, true, false, false≢true}
-use mathlib.Core.List.{List, [], _∷_}
+use mathlib.Core.List.{List, [], _∷_, _++_}
 use Prim.Native.Nat.{ℕ, _-_, _/_, _%_, _^_, _≤_, _<_}
 use native.Mathlib.Omega.{arith}
 use borrow.Author.Needs.{needs}
 use lib.Dec.{leb, lit≤, lit<}
 use lib.ListN.{replicate}
 use Rattle.prelude.specs.Search.{among}
-use Rattle.error.specs.Error.{fault, TRUNC, RESERVED, OVERLONG, RANGE, NESTED, BAD_TARGET, FULL}
+use Rattle.error.specs.Error.{fault, TRUNC, RESERVED, OVERLONG, RANGE, NESTED, BAD_TARGET, FULL, LONG_BODY, LONG_LIST}
 use Rattle.leb128.specs.Leb.{value}
 use Rattle.kind.specs.Kind.{rule}
 use Rattle.values.specs.Values.{Each}
@@ -79,11 +79,70 @@ plain s inner q h m u small most one = record {
   count = subst (λ w. NumberIf w m 0 m) (sym one) faults.none;
 }
 
--- A8: three items in two bytes, which are reserved
-count-first : Value (0x63 ∷ 0x90 ∷ 0x90 ∷ []) TRUNC
+-- a value, and no second number
+bare : (h : ℕ) (m : List ℕ) → h % 16 < rule (h / 16) .lows → leb 15 (h % 16) ≡ false → h % 16 ≤ rule (h / 16) .most → rule (h / 16) .args ≡ false
+    → Counted (h ∷ m) false 0 h (h % 16) 0 m
+bare h m l small most one = plain _ _ _ h m (used h m l) small most one
+
+-- D2: a float's body that is cut is TRUNC at the header
+cut-float : Value (0x30 ∷ 0 ∷ 1 ∷ 2 ∷ []) TRUNC
 unfolding rule
-count-first =
-    faults.short (plain _ _ _ 0x63 _ (used 0x63 (0x90 ∷ 0x90 ∷ []) (lit< tt)) refl (lit≤ tt) refl) (lit< tt)
+cut-float = faults.float (bare 0x30 _ (lit< tt) refl (lit≤ tt) refl) refl (lit< tt)
+
+-- A8: three items in two bytes, which are reserved
+count-first : RefusedHead (0x63 ∷ 0x90 ∷ 0x90 ∷ []) false 0 (fault LONG_LIST 1)
+unfolding rule
+count-first = faults.long (bare 0x63 _ (lit< tt) refl (lit≤ tt) refl) (faults.items refl (lit< tt))
+
+-- A9: two pairs in three bytes; one fits
+two-pairs : RefusedHead (0x72 ∷ 0x10 ∷ 0x11 ∷ 0x12 ∷ []) false 0 (fault LONG_LIST 1)
+unfolding rule
+two-pairs = faults.long (bare 0x72 _ (lit< tt) refl (lit≤ tt) refl) (faults.pairs refl (lit< tt))
+
+one-pair : Whole (0x71 ∷ 0x10 ∷ 0x11 ∷ 0x12 ∷ []) false 0 0x71 1 []
+unfolding rule
+one-pair = record { args = 0; after = _; numbers = bare 0x71 (0x10 ∷ 0x11 ∷ 0x12 ∷ []) (lit< tt) refl (lit≤ tt) refl; room = lit≤ tt; body = refl }
+
+-- D1: the length of an item, at the offset after its header; a text with nothing after it, at the region's end
+item-length : RefusedHead (0x61 ∷ 0x45 ∷ 0x61 ∷ []) true 1 (fault LONG_BODY 2)
+unfolding rule
+item-length =
+    let u : Usable (0x61 ∷ 0x45 ∷ 0x61 ∷ []) true 1 0x45 (0x61 ∷ []) = record { header = refl; used = lit< tt; flat = λ l. refl } in
+    faults.long (plain _ _ _ _ _ u refl (lit≤ tt) refl) (faults.text refl (lit< tt))
+
+length-at-the-end : RefusedHead (0x45 ∷ []) false 0 (fault LONG_BODY 1)
+unfolding rule
+length-at-the-end = faults.long (bare 0x45 [] (lit< tt) refl (lit≤ tt) refl) (faults.text refl (lit< tt))
+
+-- W-201: "01's `7f` sample becomes LONG_LIST, 10"
+pairs-of-2^63 : RefusedHead (0x7f ∷ 0xf1 ∷ (replicate 7 0xff ++ (0x7f ∷ []))) false 0 (fault LONG_LIST 10)
+unfolding rule value
+pairs-of-2^63 =
+    let m : List ℕ = 0xf1 ∷ (replicate 7 0xff ++ (0x7f ∷ [])) in
+    let nine : Number m (2 ^ 63 - 15) [] =
+    faults.number (0xf1 ∷ replicate 7 0xff) 0x7f [] (search needs) (lit< tt) (lit≤ tt) (λ e. absurd (omega arith)) (λ l. lit≤ tt) in
+    let c : Counted (0x7f ∷ m) false 0 0x7f (2 ^ 63) 0 [] = record {
+      after = [];
+      numbered = record { after = m; usable = used 0x7f m (lit< tt); more = 2 ^ 63 - 15; number = faults.some nine; sum = refl; most = lit≤ tt };
+      count = faults.none;
+    } in
+    faults.long c (faults.pairs refl (lit< tt))
+
+-- D1: the argument count 133 after a variant index of 15, at the offset after the second number
+arguments-after-both : RefusedHead (0xcf ∷ 0x00 ∷ 0x85 ∷ 0x01 ∷ 0x10 ∷ []) false 0 (fault LONG_LIST 4)
+unfolding rule value
+arguments-after-both =
+    let m : List ℕ = 0x00 ∷ 0x85 ∷ 0x01 ∷ 0x10 ∷ [] in
+    let index : Number m 0 (0x85 ∷ 0x01 ∷ 0x10 ∷ []) =
+    faults.number [] 0x00 _ tt (lit< tt) (lit≤ tt) (λ e. absurd (omega arith)) (λ l. absurd (omega arith)) in
+    let count : Number (0x85 ∷ 0x01 ∷ 0x10 ∷ []) 133 (0x10 ∷ []) =
+    faults.number (0x85 ∷ []) 0x01 _ (search needs) (lit< tt) (lit≤ tt) (λ e. absurd (omega arith)) (λ l. lit≤ tt) in
+    let c : Counted (0xcf ∷ m) false 0 0xcf 15 133 (0x10 ∷ []) = record {
+      after = 0x85 ∷ 0x01 ∷ 0x10 ∷ [];
+      numbered = record { after = m; usable = used 0xcf m (lit< tt); more = 0; number = faults.some index; sum = refl; most = lit≤ tt };
+      count = faults.some count;
+    } in
+    faults.long c (faults.arguments refl (lit< tt))
 
 -- "lets `61 f0` point at its own array"
 own-array : RefusedToken (0x61 ∷ 0xf0 ∷ []) 1 [] 1 1 (fault BAD_TARGET 1)

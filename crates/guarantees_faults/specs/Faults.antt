@@ -1,14 +1,16 @@
--- What a token is refused for (document 01, "Numbers of refusal"), by the bytes and the kind table alone; nothing here reads.
+-- What a token is refused for (document 01, "Numbers of refusal", and document 02, W-201), by the bytes and the kind table alone; nothing here reads.
 --
 -- The rows of `RefusedToken`, and in them those of `RefusedHead`, are in the paper's order: "the first fault wins. Within a value: FULL, RESERVED,
 -- NESTED, number (TRUNC, then RANGE of the tenth byte, OVERLONG, RANGE of n), the second number of kind 12 likewise, TRUNC of the body, BAD_TEXT,
--- BAD_TARGET". A row says its own fault, and that no row above it applies: `HasWord`, `Header`, `Usable`, `Numbered`, `Counted` and `Whole` gather,
--- step by step, what was not refused.
+-- BAD_TARGET". Of a length or count, TRUNC of the body has become LONG_BODY or LONG_LIST, at the same place in this order. A row says its own fault, and
+-- that no row above it applies: `HasWord`, `Header`, `Usable`, `Numbered`, `Counted` and `Whole` gather, step by step, what was not refused.
 --
 --   GoesOn b             b is a continuation byte
 --   Number s n rest      the bytes s are the number n in its shortest form, and then `rest`
 --   BadNumber s e        s begins with no number, for the reason e
 --   NumberIf w s n rest  the same as `Number` if w is true; else there is none, and n is 0
+--   Exceeds k n a left e the length or count that a token of kind k announces, by n or by the argument count a, exceeds the `left` bytes after its numbers,
+--                        or half of them if it counts pairs; the error is e
 --
 -- A token is wanted at the offset q of the region s, and if `inner` is true, as an item.
 --
@@ -18,20 +20,21 @@
 --   Counted h n a m      .. and a is its second number, or 0 if its kind has none
 --   Whole h n b          .. and its body b is in the region, and a byte for each item that it counts
 --   RefusedHead f        the token is refused with f, number and place, for what its header, numbers and counts say
+--   Placed f             the place of f is the header's offset; of LONG_BODY and LONG_LIST, and of no other, it is the offset just after the numbers
 --
 -- In check's walk `done` are the starts of the values before it, `cap` is how many words the table has, and `pending` how many items are pending in the
 -- open value, or 0 if there is none and a new value is wanted.
 --
 --   HasWord              a new value has a word
 --   RefusedToken f       the token is refused with f
-use Prim.Native.Nat.{ℕ, _+_, _-_, _/_, _%_, _≤_, _<_}
+use Prim.Native.Nat.{ℕ, _+_, _-_, _*_, _/_, _%_, _≤_, _<_}
 use mathlib.Core.Path.{_≡_}
 use mathlib.Core.Bool.{Bool, true, false}
 use mathlib.Core.List.{List, [], _∷_, _++_}
 use lib.Dec.{ltb, leb}
 use lib.ListN.{length, take, drop}
 use Rattle.prelude.specs.Search.{among}
-use Rattle.error.specs.Error.{Fault, fault, TRUNC, RESERVED, OVERLONG, RANGE, NESTED, BAD_TEXT, BAD_TARGET, FULL}
+use Rattle.error.specs.Error.{Fault, fault, TRUNC, RESERVED, OVERLONG, RANGE, NESTED, BAD_TEXT, BAD_TARGET, FULL, LONG_BODY, LONG_LIST}
 use Rattle.leb128.specs.Leb.{value}
 use Rattle.utf8.specs.Text.{Text}
 use Rattle.kind.specs.Kind.{rule, size, counted, immediate}
@@ -59,6 +62,17 @@ pub data BadNumber : List ℕ → ℕ → Type 0 where
 pub data NumberIf : Bool → List ℕ → ℕ → List ℕ → Type 0 where
   none : {s : List ℕ} → NumberIf false s 0 s
   some : {s : List ℕ} {n : ℕ} {rest : List ℕ} → Number s n rest → NumberIf true s n rest
+
+-- ---- lengths and counts
+
+pub data Exceeds (k n a left : ℕ) : ℕ → Type 0 where
+  -- the length of a text, and of a byte string
+  text : k ≡ 4 → left < n → Exceeds k n a left LONG_BODY
+  bytes : k ≡ 5 → left < n → Exceeds k n a left LONG_BODY
+  -- the item count of an array, the pair count of a map, the argument count of a variant of many
+  items : k ≡ 6 → left < n → Exceeds k n a left LONG_LIST
+  pairs : k ≡ 7 → left / 2 < n → Exceeds k n a left LONG_LIST
+  arguments : k ≡ 12 → left < a → Exceeds k n a left LONG_LIST
 
 -- ---- a token
 
@@ -107,9 +121,14 @@ module _ (s : List ℕ) (inner : Bool) (q : ℕ) where
         → RefusedHead (fault RANGE q)
     -- the second number likewise
     second : {h n : ℕ} {m : List ℕ} {e : ℕ} → Numbered h n m → rule (h / 16) .args ≡ true → BadNumber m e → RefusedHead (fault e q)
-    -- the body, or the items counted, exceed the bytes left
-    short : {h n a : ℕ} {m : List ℕ} → Counted h n a m → length m < size (rule (h / 16)) n + counted (rule (h / 16)) n a
-        → RefusedHead (fault TRUNC q)
+    -- the region ends inside a float's body, of 4 bytes or of 8
+    float : {h n a : ℕ} {m : List ℕ} → Counted h n a m → h / 16 ≡ 3 → length m < 4 + 4 * n → RefusedHead (fault TRUNC q)
+    -- a length or count exceeds the bytes left; the place is just after the numbers
+    long : {h n a e : ℕ} {m : List ℕ} → Counted h n a m → Exceeds (h / 16) n a (length m) e → RefusedHead (fault e (length s - length m))
+
+  pub data Placed (f : Fault) : Type 0 where
+    header : f .number < LONG_BODY → f .place ≡ q → Placed f
+    numbers : {h n a : ℕ} {m : List ℕ} → Counted h n a m → LONG_BODY ≤ f .number → f .place ≡ length s - length m → Placed f
 
 -- ---- a token in check's walk
 

@@ -1,0 +1,107 @@
+-- The place and the number of a refusal.
+--
+-- In order: of a token, by its head, the number (`head-known`) and the place (`head-placed`); the same in check's walk (`refused-known`,
+-- `refused-placed`), where FULL is of a value that has no word (`refused-full`).
+use mathlib.Core.Path.{_≡_, refl}
+use mathlib.Core.Bool.{Bool, true, false, not, false≢true}
+use mathlib.Core.List.{List, [], _∷_, _++_}
+use Prim.Native.Nat.{ℕ, _≤_, _<_}
+use native.Mathlib.Omega.{arith}
+use lib.Dec.{ltb, eqb}
+use lib.ListN.{length}
+use Rattle.prelude.specs.Pick.{pick}
+use Rattle.prelude.specs.Search.{among}
+use Rattle.error.specs.Error.{Fault, TRUNC, RESERVED, OVERLONG, RANGE, NESTED, BAD_TEXT, BAD_TARGET, FULL, LONG_BODY, LONG_LIST}
+use Rattle.prelude.proofs.Tests.{and-l, and-r}
+use Rattle.prelude.proofs.Tables.{every}
+use Rattle.values.proofs.Members.{each-among, each-every}
+use Rattle.guarantees_faults.specs.Faults as faults
+use Rattle.guarantees_faults.specs.Faults.{BadNumber, Exceeds, RefusedHead, Placed, RefusedToken}
+
+-- ---- by the head
+
+-- what holds of the errors of a number holds of its error; likewise of a length or count
+number-each : (P : ℕ → Type 0) {m : List ℕ} {e : ℕ} → P TRUNC → P RANGE → P OVERLONG → BadNumber m e → P e
+number-each P t r o (faults.cut g h) = t
+number-each P t r o (faults.tenth p b rest g h over) = r
+number-each P t r o (faults.padded p rest g h last) = o
+
+exceeds-each : (P : ℕ → Type 0) {k n a left e : ℕ} → P LONG_BODY → P LONG_LIST → Exceeds k n a left e → P e
+exceeds-each P b l (faults.text is h) = b
+exceeds-each P b l (faults.bytes is h) = b
+exceeds-each P b l (faults.items is h) = l
+exceeds-each P b l (faults.pairs is h) = l
+exceeds-each P b l (faults.arguments is h) = l
+
+-- the errors of a token, read as a value, and as an item if `inner` is true
+abbrev pub valueErrors : List ℕ
+valueErrors = TRUNC ∷ RESERVED ∷ OVERLONG ∷ RANGE ∷ LONG_BODY ∷ LONG_LIST ∷ []
+
+abbrev pub tokenErrors : Bool → List ℕ
+tokenErrors inner = valueErrors ++ pick inner (NESTED ∷ []) []
+
+module _ {s : List ℕ} {inner : Bool} {q : ℕ} where
+  pub head-known : {f : Fault} → RefusedHead s inner q f → among (f .number) (tokenErrors inner) ≡ true
+  unfolding among
+  head-known (faults.ended l) = refl
+  head-known (faults.reserved x low) = refl
+  head-known (faults.nested x low item deep) = rw item
+  head-known (faults.number u low x) = number-each (λ e. among e (tokenErrors inner) ≡ true) refl refl refl x
+  head-known (faults.over u v high) = refl
+  head-known (faults.second r two x) = number-each (λ e. among e (tokenErrors inner) ≡ true) refl refl refl x
+  head-known (faults.float c three l) = refl
+  head-known (faults.long c x) = exceeds-each (λ e. among e (tokenErrors inner) ≡ true) refl refl x
+
+  pub head-placed : {f : Fault} → RefusedHead s inner q f → Placed s inner q f
+  head-placed (faults.ended l) = faults.header (omega arith) refl
+  head-placed (faults.reserved x low) = faults.header (omega arith) refl
+  head-placed (faults.nested x low item deep) = faults.header (omega arith) refl
+  head-placed (faults.number u low x) = faults.header (number-each (λ e. e < LONG_BODY) (omega arith) (omega arith) (omega arith) x) refl
+  head-placed (faults.over u v high) = faults.header (omega arith) refl
+  head-placed (faults.second r two x) = faults.header (number-each (λ e. e < LONG_BODY) (omega arith) (omega arith) (omega arith) x) refl
+  head-placed (faults.float c three l) = faults.header (omega arith) refl
+  head-placed (faults.long c x) = faults.numbers c (exceeds-each (λ e. LONG_BODY ≤ e) (omega arith) (omega arith) x) refl
+
+-- the header's offset, for all errors but two
+pub placed-at : {s : List ℕ} {inner : Bool} {q : ℕ} {f : Fault} → Placed s inner q f → f .number < LONG_BODY → f .place ≡ q
+placed-at (faults.header l e) low = e
+placed-at (faults.numbers c l e) low = absurd (omega arith)
+
+-- ---- in check's walk
+
+abbrev pub walkErrors : List ℕ
+walkErrors = BAD_TEXT ∷ BAD_TARGET ∷ FULL ∷ tokenErrors true
+
+-- a test that all these pass, the error of a token passes
+module _ (p : ℕ → Bool) (passed : every p (tokenErrors true) ≡ true) where
+  every-front : (a b : List ℕ) → every p (a ++ b) ≡ true → every p (a ++ []) ≡ true
+  every-front [] b e = refl
+  every-front (x ∷ a) b e = rw (and-l (p x) _ e, every-front a b (and-r (p x) _ e))
+
+  token-every : (inner : Bool) → every p (tokenErrors inner) ≡ true
+  token-every true = passed
+  token-every false = every-front valueErrors (NESTED ∷ []) passed
+
+  head-every : {s : List ℕ} {inner : Bool} {q : ℕ} {f : Fault} → RefusedHead s inner q f → p (f .number) ≡ true
+  head-every {inner = inner} {f = f} x = each-among (λ e. p e ≡ true) (f .number) (tokenErrors inner) (each-every p (tokenErrors inner) (token-every inner))
+      (head-known x)
+
+module _ {s : List ℕ} {cap : ℕ} {done : List ℕ} {pending q : ℕ} where
+  pub refused-known : {f : Fault} → RefusedToken s cap done pending q f → among (f .number) walkErrors ≡ true
+  unfolding among
+  refused-known (faults.full z c) = refl
+  refused-known (faults.head w x) = head-every (λ e. among e walkErrors) refl x
+  refused-known (faults.text w x four wrong) = refl
+  refused-known (faults.target w x text ref wrong) = refl
+
+  pub refused-placed : {f : Fault} → RefusedToken s cap done pending q f → Placed s (ltb 0 pending) q f
+  refused-placed (faults.full z c) = faults.header (omega arith) refl
+  refused-placed (faults.head w x) = head-placed x
+  refused-placed (faults.text w x four wrong) = faults.header (omega arith) refl
+  refused-placed (faults.target w x text ref wrong) = faults.header (omega arith) refl
+
+  pub refused-full : {f : Fault} → RefusedToken s cap done pending q f → f .number ≡ FULL → (pending ≡ 0) × (cap ≤ length done)
+  refused-full (faults.full z c) e = (z, c)
+  refused-full (faults.head w x) e = absurd (false≢true (rw e at (head-every (λ e. not (eqb e FULL)) refl x)))
+  refused-full (faults.text w x four wrong) e = absurd (omega arith)
+  refused-full (faults.target w x text ref wrong) e = absurd (omega arith)
