@@ -16,7 +16,7 @@ use Rattle.scan.specs.declared.Head.{Head}
 use Rattle.checker_value.specs.Walk.{Walk, between, nextToken, walkAfter, startsFrom}
 use Rattle.checker_value.proofs.Walks.{WalkInvariant, invariant-begun, after-invariant, after-less, walk-end, walk-error, walk-token}
 use Rattle.guarantees_faults.specs.Faults.{RefusedToken}
-use Rattle.guarantees_faults.proofs.Refused.{refused-of-error, Refusal, refusal}
+use Rattle.guarantees_faults.proofs.Refused.{refused-of-error}
 
 module _ (s : List ℕ) (cap : ℕ) (I : Walk → Type 0) where
   -- at the region's end, between two values
@@ -35,7 +35,6 @@ module _ (s : List ℕ) (cap : ℕ) (I : Walk → Type 0) where
     pub holds : I walk
     pub inside : walk .pending ≡ 0 → walk .at < length s
     pub refused : RefusedToken s cap (walk .done) (walk .pending) (walk .at) f
-    pub refusal : Refusal s cap (walk .done) (walk .pending) (walk .at) f
 
   abbrev pub Ends : Answer Fault (List ℕ) → Type 0
   Ends (ok done) = Ended done
@@ -61,7 +60,6 @@ module _ (s : List ℕ) (cap : ℕ) (I : Walk → Type 0) where
               holds = i;
               inside = λ z. let here : leb (length s) (w .at) ≡ false = rw (eq-eqb (w .pending) 0 z) at t in omega facts;
               refused = refused-of-error s cap (w .done) (w .pending) (w .at) f (sym e);
-              refusal = refusal s cap (w .done) (w .pending) (w .at) (refused-of-error s cap (w .done) (w .pending) (w .at) f (sym e));
             })
 
         by-test : (b : Bool) → eqb (w .pending) 0 && leb (length s) (w .at) ≡ b → Next → Ends (startsFrom s cap w)

@@ -26,6 +26,7 @@ use Rattle.values.proofs.Laws.{length-starts}
 use Rattle.checker_value.specs.Walk.{Walk, between, nextToken, walkTurned, walkTurn, startsFrom}
 use Rattle.checker.specs.Check.{checkIn, listed, checkOf}
 use Rattle.checker_value.proofs.Walks.{WalkInvariant, walk-error, come}
+use Rattle.guarantees_faults.proofs.Places.{placed-at, refused-placed, refused-full}
 use Rattle.guarantees.specs.Accepts.{Overfull}
 use Rattle.guarantees.proofs.Files.{Whole, whole, length-whole, bytes-whole, checkIn-whole, empty, long, at-once, Shape, refused, read, shape}
 use Rattle.guarantees.proofs.Files.{answer-error, found-ok, Failed, early, walking, last, failed}
@@ -52,9 +53,10 @@ overfull : (file : List ℕ) (cap p : ℕ) → Bytes file → (w : Whole file) �
 overfull file cap p b w e =
     let s = w .region in
     let r = subst (Ends s cap (WalkedValues s)) (sym e) (walked-ends s cap (bytes-whole file w b)) in
-    let (between, none) = r .refusal .full refl in
+    let (between, none) = refused-full (r .refused) refl in
     let v = walked-between s (r .walk) between (r .holds) in
-    let place : length (region (v .values)) ≡ p = sym (r .refusal .place ∙ v .at) in
+    let here : p ≡ r .walk .at = placed-at (refused-placed (r .refused)) (omega arith) in
+    let place : length (region (v .values)) ≡ p = sym (here ∙ v .at) in
     let front : file ≡ region (v .values) ++ (v .rest ++ (w .delta ∷ [])) =
     w .same ∙ rw (← append-assoc) (ap (λ x. x ++ (w .delta ∷ [])) (v .same)) in
     record {
@@ -64,7 +66,7 @@ overfull file cap p b w e =
       count = omega (arith, ap length (v .done), length-starts 0 (v .values), r .going .count, none);
       same = ap (take p) front ∙ take-at (region (v .values)) _ p place;
       place = place;
-      more = omega (arith, r .inside between, r .refusal .place, length-whole file w);
+      more = omega (arith, r .inside between, here, length-whole file w);
     }
 
 -- the walk goes through the values, and has no word for the next
@@ -106,7 +108,7 @@ never-full file cap p enough e =
     full-by file cap p e (λ w q.
     let s = w .region in
     let r = subst (Ends s cap (λ v. Unit {0})) (sym q) (walk-ends s cap (λ v. Unit {0}) (λ v h t u. tt) tt) in
-    let (between, none) = r .refusal .full refl in
+    let (between, none) = refused-full (r .refused) refl in
     omega (arith, done-le s cap (r .walk) (r .going), none, r .inside between, length-whole file w))
 
 -- ---- fewer words

@@ -14,8 +14,6 @@ pub mod Accepted
 pub mod Full
 -- what a refusal of check says
 pub mod Refused
--- the number and the place of what scan refuses
-pub mod Faults
 -- which errors each reading call can give
 pub mod ReadErrors
 -- the row of a kind

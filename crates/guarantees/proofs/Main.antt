@@ -9,17 +9,20 @@ use mathlib.Core.Path.{_≡_}
 use mathlib.Core.Bool.{Bool, true, false}
 use mathlib.Core.Logic.{_⊎_, _↔_}
 use mathlib.Core.List.{List, [], _++_, map}
-use Prim.Native.Nat.{ℕ, suc, _+_, _≤_, _<_}
+use Prim.Native.Nat.{ℕ, suc, _+_, _-_, _*_, _/_, _≤_, _<_}
+use lib.Dec.{ltb}
 use lib.ListN.{length, take, getD}
 use Rattle.prelude.specs.Answer.{ok, error, got}
 use Rattle.prelude.specs.Bytes.{Bytes}
-use Rattle.error.specs.Error.{Fault, fault, LIMIT, EMPTY, TOO_LONG, TRUNC, FULL, BAD_ENTRY, NO_ITEM}
+use Rattle.error.specs.Error.{Fault, fault, LIMIT, EMPTY, TOO_LONG, FULL, BAD_ENTRY, NO_ITEM}
 use Rattle.leb128.specs.Leb.{top, get, put}
 use Rattle.leb128.proofs.Laws as leb128
+use Rattle.kind.specs.Kind.{rule, size, counted}
 use Rattle.token.specs.Token.{Token, emit, Fits}
 use Rattle.token.specs.Scan.{scan}
 use Rattle.token.proofs.Laws.{Scanned}
 use Rattle.token.proofs.Laws as token
+use Rattle.scan.specs.Answers.{scanAt}
 use Rattle.scan.specs.declared.Head.{Head}
 use Rattle.values.specs.Values.{Value, bytes, starts, Each, WellFormed}
 use Rattle.values.specs.Paths.{Refers, Leads}
@@ -40,10 +43,13 @@ use Rattle.writer.specs.Step.{puts, moveOf, fresh, opens, step}
 use Rattle.writer.specs.Runs.{runs}
 use Rattle.writer.proofs.Refused as writer
 use Rattle.abi_writer.specs.Calls.{writerOf, wordsOf, numberC, runsC}
-use Rattle.guarantees_faults.specs.Faults.{RefusedToken}
+use Rattle.guarantees_faults.specs.Faults.{Exceeds, Counted, RefusedHead, Placed, RefusedToken}
 use Rattle.guarantees_faults.specs.Queries.{AnsweredQuery, Read, headOf, Skips, HasItem, Reaches, HasBody, Finds}
 use Rattle.guarantees_faults.specs.Queries.{RefusedQuery, RefusedRead, RefusedSkip, RefusedItem, RefusedFollow, RefusedBody, RefusedLookup}
+use Rattle.guarantees_faults.proofs.Shortages as shortages
+use Rattle.guarantees_faults.proofs.Heads as heads
 use Rattle.guarantees_faults.proofs.Refused as faults
+use Rattle.guarantees_faults.proofs.Places as places
 use Rattle.guarantees_faults.proofs.Queries as queries
 use Rattle.guarantees_faults.proofs.Lookups as lookup-queries
 use Rattle.guarantees.specs.Accepts.{Overfull}
@@ -113,13 +119,27 @@ demand-3 = record { list = demands.after-calls; values = call-values.value-of-ca
 pub one-reading : (file : List ℕ) (vs ws : List Value) (e f : ℕ) → WellFormed file vs e → WellFormed file ws f → (vs ≡ ws) × (e ≡ f)
 one-reading = unique.one-reading
 
-pub fault-exactly : (file : List ℕ) (cap : ℕ) (f : Fault) → Bytes file → TRUNC ≤ f .number → f .number ≤ FULL
-    → (checkOf file cap .answer ≡ error f) ↔ Faulty file cap (f .place) f
+pub fault-exactly : (file : List ℕ) (cap : ℕ) (f : Fault) → Bytes file → (f .number ≡ EMPTY → ⊥) → (f .number ≡ TOO_LONG → ⊥) → (f .number ≡ BAD_ENTRY → ⊥)
+    → (checkOf file cap .answer ≡ error f) ↔ ((p : ℕ) × Faulty file cap p f)
 fault-exactly = refused.fault-exactly
+
+pub fault-placed : (file : List ℕ) (cap p : ℕ) (f : Fault) (x : Faulty file cap p f) → Placed (take (length file - 1) file) (ltb 0 (x .missing)) p f
+fault-placed = refused.fault-placed
 
 pub refused-exactly : (s : List ℕ) (cap : ℕ) (done : List ℕ) (pending q : ℕ) (f : Fault)
     → (nextToken s cap done pending q ≡ error f) ↔ RefusedToken s cap done pending q f
 refused-exactly = faults.refused-exactly
+
+pub head-refused-exactly : (s : List ℕ) (inner : Bool) (q : ℕ) (f : Fault) → (scanAt inner s q ≡ error f) ↔ RefusedHead s inner q f
+head-refused-exactly = heads.head-refused-exactly
+
+pub head-placed : {s : List ℕ} {inner : Bool} {q : ℕ} {f : Fault} → RefusedHead s inner q f → Placed s inner q f
+head-placed = places.head-placed
+
+pub short-exactly : {s : List ℕ} {inner : Bool} {q h n a : ℕ} {m : List ℕ} → Counted s inner q h n a m
+    → (length m < size (rule (h / 16)) n + counted (rule (h / 16)) n a)
+    ↔ (((h / 16 ≡ 3) × (length m < 4 + 4 * n)) ⊎ ((e : ℕ) × Exceeds (h / 16) n a (length m) e))
+short-exactly = shortages.short-exactly
 
 pub full-exactly : (file : List ℕ) (cap p : ℕ) → Bytes file → (checkOf file cap .answer ≡ error (fault FULL p)) ↔ Overfull file cap p
 full-exactly = full.full-exactly

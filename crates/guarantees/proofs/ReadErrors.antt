@@ -6,24 +6,23 @@
 use mathlib.Core.Path.{_≡_, refl, sym, subst}
 use mathlib.Core.Bool.{Bool, true, false, _||_}
 use mathlib.Core.List.{List, [], _∷_}
-use Prim.Native.Nat.{ℕ, zero, suc, _+_, _-_, _≤_, _<_}
+use Prim.Native.Nat.{ℕ, zero, suc, _+_, _-_, _<_}
 use native.Mathlib.Decide.{ℕ-discrete}
 use native.Mathlib.Nat.{le-refl}
 use native.Mathlib.Omega.{arith}
 use lib.Dec.{eqb, ltb, leb}
 use lib.ListN.{length, take}
-use borrow.Author.Tests.{eq-eqb, ne-eqb}
 use Rattle.prelude.specs.Pick.{pick}
 use Rattle.prelude.specs.Answer.{Answer, ok, error, bind}
 use Rattle.prelude.specs.Search.{among}
-use Rattle.prelude.proofs.Tests.{pick-elim, and-l, and-r}
+use Rattle.prelude.proofs.Tests.{pick-elim}
 use Rattle.prelude.proofs.Tables.{every}
-use Rattle.error.specs.Error.{Fault, fault, LIMIT, EMPTY, TOO_LONG, NESTED, BAD_TARGET, BAD_ENTRY, OUTSIDE, NO_ITEM}
+use Rattle.error.specs.Error.{Fault, LIMIT, EMPTY, TOO_LONG, NESTED, BAD_TARGET, OUTSIDE, NO_ITEM}
 use Rattle.kind.specs.Kind.{rule, immediate}
 use Rattle.scan.specs.Answers.{scanAt}
 use Rattle.scan.specs.declared.Head.{Head}
 use Rattle.values.specs.Values.{Each}
-use Rattle.values.proofs.Members.{each-among}
+use Rattle.values.proofs.Members.{each-among, each-every, each-append}
 use Rattle.reader_region.specs.Region.{regionLen, inRegion, below, peekIn, peekOf}
 use Rattle.reader_region.proofs.Laws.{pointer-lt}
 use Rattle.reader_value.specs.Value.{readIn, readOf}
@@ -35,9 +34,10 @@ use Rattle.reader_lookup.specs.Lookup.{isKey, pairs, lookupIn, lookupOf}
 use Rattle.checker.specs.Check.{checkIn, checkOf}
 use Rattle.depths.specs.Depths.{Deepened, deepen, depthsOf}
 use Rattle.guarantees.specs.Errors.{checkErrors, readErrors, skipErrors, itemErrors, bodyErrors}
-use Rattle.guarantees.proofs.Faults.{tokenErrors, scanAt-error}
+use Rattle.guarantees_faults.proofs.Heads.{head-refused-exactly}
+use Rattle.guarantees_faults.proofs.Places.{valueErrors, tokenErrors, walkErrors, head-known}
 use Rattle.guarantees.proofs.Files.{empty, long, Failed, early, walking, last}
-use Rattle.guarantees.proofs.Refused.{walk-number, fails}
+use Rattle.guarantees.proofs.Refused.{walk-known, fails}
 
 -- what every query may give: the errors of the file and the offset, and of a token that is read as a value
 abbrev common : List ℕ
@@ -81,7 +81,7 @@ module _ (l : List ℕ) where
         where
           by-cases : (a : Answer Fault Head) → scanAt inner s q ≡ a → Errs l a
           by-cases (ok h) e = tt
-          by-cases (error f) e = each-among _ (f .number) (tokenErrors inner) own (scanAt-error inner q s f (sym e) .1)
+          by-cases (error f) e = each-among _ (f .number) (tokenErrors inner) own (head-known (head-refused-exactly s inner q f .0 e))
 
       errs-value : (q : ℕ) → Errs l (peekIn false s q)
       errs-value q = errs-peek false tokens q
@@ -107,7 +107,7 @@ module _ (l : List ℕ) where
       -- and l has NESTED
       module _ (nested : among NESTED l ≡ true) where
         errs-item : (q : ℕ) → Errs l (peekIn true s q)
-        errs-item q = errs-peek true (tokens .0, (tokens .1 .0, (tokens .1 .1 .0, (tokens .1 .1 .1 .0, (nested, tt))))) q
+        errs-item q = errs-peek true (each-append (λ f. among f l ≡ true) valueErrors (NESTED ∷ []) .1 (tokens, (nested, tt))) q
 
         errs-items : (k q : ℕ) → Errs l (skipItems s k q)
         unfolding skipItems
@@ -128,10 +128,6 @@ module _ (l : List ℕ) where
             errs-bind (peekIn true s (h .end)) _ (errs-item (h .end)) (λ v. errs-pairs at key none k (v .end)))))
 
 -- ---- the queries on a file
-
-each-every : (p : ℕ → Bool) (xs : List ℕ) → every p xs ≡ true → Each (λ x. p x ≡ true) xs
-each-every p [] e = tt
-each-every p (x ∷ xs) e = (and-l (p x) _ e, each-every p xs (and-r (p x) _ e))
 
 module _ (file : List ℕ) (at : ℕ) (f : Fault) where
   -- of a list that has the common errors
@@ -213,34 +209,16 @@ pairs-known s at key k q f e =
 
 -- ---- check and depths
 
--- n numbers from a on
-abbrev range : ℕ → ℕ → List ℕ
-range a zero = []
-range a (suc n) = a ∷ range (suc a) n
-
-among-range : (f a n : ℕ) → a ≤ f → f < a + n → among f (range a n) ≡ true
-unfolding among
-among-range f a zero least most = absurd (omega arith)
-among-range f a (suc n) least most =
-    elim (ℕ-discrete f a) [
-      | yes e ↦ rw (eq-eqb f a e)
-      | no e ↦ rw (ne-eqb f a e) (among-range f (suc a) n (omega arith) (omega arith))
-    ]
-
-in-check : (f : ℕ) → EMPTY ≤ f → f ≤ BAD_ENTRY → among f checkErrors ≡ true
-in-check f least most = among-range f 1 11 least (omega arith)
-
 pub check-errors : (file : List ℕ) (cap : ℕ) (f : Fault) → checkOf file cap .answer ≡ error f → among (f .number) checkErrors ≡ true
+unfolding among
 check-errors file cap f e = by-failed (fails file cap f e)
   where
-    own : (n p : ℕ) → EMPTY ≤ n → n ≤ BAD_ENTRY → f ≡ fault n p → among (f .number) checkErrors ≡ true
-    own n p least most q = rw q (in-check n least most)
-
     by-failed : Failed file cap f → among (f .number) checkErrors ≡ true
-    by-failed (early (empty z q)) = own EMPTY 0 (omega arith) (omega arith) q
-    by-failed (early (long l q)) = own TOO_LONG 0 (omega arith) (omega arith) q
-    by-failed (walking w q) = let r = walk-number (w .region) cap f q in in-check (f .number) (omega arith) (omega arith)
-    by-failed (last w done walked q none) = own BAD_ENTRY _ (omega arith) (omega arith) q
+    by-failed (early (empty z q)) = rw q
+    by-failed (early (long l q)) = rw q
+    by-failed (walking w q) =
+        each-among (λ n. among n checkErrors ≡ true) (f .number) walkErrors (each-every (λ n. among n checkErrors) walkErrors refl) (walk-known (w .region) cap f q)
+    by-failed (last w done walked q none) = rw q
 
 pub depths-errors-known : (file : List ℕ) (cap room : ℕ) (f : Fault) → depthsOf file cap room .answer ≡ error f → among (f .number) checkErrors ≡ true
 unfolding depthsOf checkOf among

@@ -2,30 +2,33 @@
 --
 -- In order: a file that is refused at once (`empty-exactly`, `too-long-exactly`); one whose entry is not the start of a
 -- value (`bad-entry-exactly`); every other refusal: all before its place is well formed, and the token that is wanted
--- there is refused (`first-fault`); such a fault is the answer (`fault-first`), at its place and with a number from
--- TRUNC to FULL (`fault-answer`); so both ways (`fault-exactly`).
+-- there is refused (`first-fault`); such a fault is the answer (`fault-first`); so both ways (`fault-exactly`), with the place that `Placed` says
+-- (`fault-placed`).
 use mathlib.Core.Path.{_≡_, refl, sym, ap, _∙_, subst}
 use mathlib.Core.Logic.{_↔_}
 use Prim.Native.Nat.{ℕ, zero, suc, _+_, _-_, _≤_, _<_}
-use mathlib.Core.Bool.{false}
+use mathlib.Core.Bool.{true, false, false≢true}
 use mathlib.Core.List.{List, [], _∷_, _++_, append-assoc, append-nil}
 use native.Mathlib.Nat.{add-zero, zero-add, suc-ne-zero}
 use native.Mathlib.Omega.{arith}
 use borrow.Author.Tests.{lt-leb, ne-eqb}
+use lib.Dec.{ltb}
 use lib.ListN.{length, take, drop, length-append, take-append-drop}
 use lib.Seq.{take-at, take-append-le, drop-append-seam}
 use Rattle.prelude.specs.Answer.{error}
 use Rattle.prelude.specs.Bytes.{Bytes}
+use Rattle.prelude.specs.Search.{among}
 use Rattle.prelude.proofs.Readers.{bind-ok, bind-error}
-use Rattle.error.specs.Error.{Fault, fault, LIMIT, EMPTY, TOO_LONG, TRUNC, FULL, BAD_ENTRY}
+use Rattle.error.specs.Error.{Fault, fault, LIMIT, EMPTY, TOO_LONG, BAD_ENTRY}
 use Rattle.token.specs.Token.{Token, emit, Fits}
 use Rattle.values.specs.Values.{Value, bytes, region, starts, Values}
 use Rattle.values.proofs.Laws.{length-starts}
 use Rattle.checker_value.specs.Walk.{Walk, between, nextToken, startsFrom}
 use Rattle.checker.specs.Check.{checkIn, checkOf}
 use Rattle.checker_value.proofs.Walks.{WalkInvariant, walk-error}
-use Rattle.guarantees_faults.specs.Faults.{RefusedToken}
-use Rattle.guarantees_faults.proofs.Refused.{error-of-refused, refusal}
+use Rattle.guarantees_faults.specs.Faults.{Placed, RefusedToken}
+use Rattle.guarantees_faults.proofs.Refused.{error-of-refused}
+use Rattle.guarantees_faults.proofs.Places.{walkErrors, refused-known, refused-placed}
 use Rattle.guarantees.specs.Refused.{Unnamed, Begun, Open, Faulty}
 use Rattle.guarantees.proofs.Files.{Whole, whole, length-whole, region-whole, bytes-whole, checkIn-whole, entered, entered-none}
 use Rattle.guarantees.proofs.Files.{empty, long, at-once, answer-error, Failed, early, walking, last, failed}
@@ -43,10 +46,10 @@ numbers e = ap (λ (x : Fault). x .number) e
 places : {f g : Fault} → f ≡ g → f .place ≡ g .place
 places e = ap (λ (x : Fault). x .place) e
 
-pub walk-number : (s : List ℕ) (cap : ℕ) (f : Fault) → error f ≡ startsFrom s cap (between 0 []) → (TRUNC ≤ f .number) × (f .number ≤ FULL)
-walk-number s cap f e =
+pub walk-known : (s : List ℕ) (cap : ℕ) (f : Fault) → error f ≡ startsFrom s cap (between 0 []) → among (f .number) walkErrors ≡ true
+walk-known s cap f e =
     let r = subst (Ends s cap (λ v. Unit {0})) (sym e) (walk-ends s cap (λ v. Unit {0}) (λ v h t u. tt) tt) in
-    r .refusal .number
+    refused-known (r .refused)
 
 module _ (file : List ℕ) (cap : ℕ) where
   pub fails : (f : Fault) → checkOf file cap .answer ≡ error f → Failed file cap f
@@ -60,6 +63,7 @@ module _ (file : List ℕ) (cap : ℕ) where
   -- ---- at once
 
   pub empty-exactly : (p : ℕ) → (checkOf file cap .answer ≡ error (fault EMPTY p)) ↔ ((length file ≡ 0) × (p ≡ 0))
+  unfolding among
   empty-exactly p = (
     λ e. by-failed (fails (fault EMPTY p) e),
     λ h. answers (fault EMPTY p) (at-once file (fault EMPTY p) cap (empty (h .0) (ap (fault EMPTY) (h .1)))),
@@ -68,10 +72,11 @@ module _ (file : List ℕ) (cap : ℕ) where
       by-failed : Failed file cap (fault EMPTY p) → (length file ≡ 0) × (p ≡ 0)
       by-failed (early (empty z q)) = (z, places q)
       by-failed (early (long l q)) = absurd (omega (arith, numbers q))
-      by-failed (walking w q) = absurd (omega (arith, walk-number (w .region) cap (fault EMPTY p) q))
+      by-failed (walking w q) = absurd (false≢true (walk-known (w .region) cap (fault EMPTY p) q))
       by-failed (last w done walked q none) = absurd (omega (arith, numbers q))
 
   pub too-long-exactly : (p : ℕ) → (checkOf file cap .answer ≡ error (fault TOO_LONG p)) ↔ ((LIMIT < length file) × (p ≡ 0))
+  unfolding among
   too-long-exactly p = (
     λ e. by-failed (fails (fault TOO_LONG p) e),
     λ h. answers (fault TOO_LONG p) (at-once file (fault TOO_LONG p) cap (long (h .0) (ap (fault TOO_LONG) (h .1)))),
@@ -80,7 +85,7 @@ module _ (file : List ℕ) (cap : ℕ) where
       by-failed : Failed file cap (fault TOO_LONG p) → (LIMIT < length file) × (p ≡ 0)
       by-failed (early (empty z q)) = absurd (omega (arith, numbers q))
       by-failed (early (long l q)) = (l, places q)
-      by-failed (walking w q) = absurd (omega (arith, walk-number (w .region) cap (fault TOO_LONG p) q))
+      by-failed (walking w q) = absurd (false≢true (walk-known (w .region) cap (fault TOO_LONG p) q))
       by-failed (last w done walked q none) = absurd (omega (arith, numbers q))
 
   -- ---- the entry
@@ -94,12 +99,13 @@ module _ (file : List ℕ) (cap : ℕ) where
       ∙ sym (checkIn-whole file w cap))
 
   pub bad-entry-exactly : (p : ℕ) → Bytes file → (checkOf file cap .answer ≡ error (fault BAD_ENTRY p)) ↔ Unnamed file cap p
+  unfolding among
   bad-entry-exactly p b = (λ e. by-failed (fails (fault BAD_ENTRY p) e), λ u. answers (fault BAD_ENTRY p) (unnamed-fails p u))
     where
       by-failed : Failed file cap (fault BAD_ENTRY p) → Unnamed file cap p
       by-failed (early (empty z q)) = absurd (omega (arith, numbers q))
       by-failed (early (long l q)) = absurd (omega (arith, numbers q))
-      by-failed (walking w q) = absurd (omega (arith, walk-number (w .region) cap (fault BAD_ENTRY p) q))
+      by-failed (walking w q) = absurd (false≢true (walk-known (w .region) cap (fault BAD_ENTRY p) q))
       by-failed (last w done walked q none) =
           let l = walked-region (w .region) cap (bytes-whole file w b) done walked in
           record {
@@ -162,16 +168,16 @@ module _ (file : List ℕ) (cap : ℕ) (f : Fault) (w : Whole file) where
       rw (← long) (faulty-at vs (t ∷ is) (suc k) rest front refl (p .same ∙ sym (append-assoc (region vs) (bytes (t ∷ is)) rest)) (p .values)
       (omega arith) (omega arith, begun) (rw long more) (rw long reported))
 
-  faulty : Bytes file → error f ≡ startsFrom s cap (between 0 []) → Faulty file cap (f .place) f
+  faulty : Bytes file → error f ≡ startsFrom s cap (between 0 []) → (p : ℕ) × Faulty file cap p f
   faulty b e =
       let r = subst (Ends s cap (WalkedValues s)) (sym e) (walked-ends s cap (bytes-whole file w b)) in
-      subst (λ p. Faulty file cap p f) (sym (r .refusal .place)) (faulty-walk (r .walk) (r .holds) (r .going) (r .inside) (r .refused))
+      (r .walk .at, faulty-walk (r .walk) (r .holds) (r .going) (r .inside) (r .refused))
 
 pub first-fault : (file : List ℕ) (cap : ℕ) (f : Fault) → Bytes file → checkOf file cap .answer ≡ error f
-    → (f .number ≡ EMPTY → ⊥) → (f .number ≡ TOO_LONG → ⊥) → (f .number ≡ BAD_ENTRY → ⊥) → Faulty file cap (f .place) f
+    → (f .number ≡ EMPTY → ⊥) → (f .number ≡ TOO_LONG → ⊥) → (f .number ≡ BAD_ENTRY → ⊥) → (p : ℕ) × Faulty file cap p f
 first-fault file cap f b e none much entry = by-failed (fails file cap f e)
   where
-    by-failed : Failed file cap f → Faulty file cap (f .place) f
+    by-failed : Failed file cap f → (p : ℕ) × Faulty file cap p f
     by-failed (early (empty z q)) = absurd (none (numbers q))
     by-failed (early (long l q)) = absurd (much (numbers q))
     by-failed (walking w q) = faulty file cap f w b q
@@ -221,14 +227,12 @@ fault-first file cap p f x =
     let w = whole file (x .some) (x .short) in
     answers file cap f (bind-error _ (faulty-fails file cap p f x w) ∙ sym (checkIn-whole file w cap))
 
-pub fault-answer : (file : List ℕ) (cap p : ℕ) (f : Fault) → Faulty file cap p f → (f .place ≡ p) × (TRUNC ≤ f .number) × (f .number ≤ FULL)
-fault-answer file cap p f x =
-    let r = refusal _ _ _ _ _ (x .refused) in
-    (r .place, r .number .0, r .number .1)
-
-pub fault-exactly : (file : List ℕ) (cap : ℕ) (f : Fault) → Bytes file → TRUNC ≤ f .number → f .number ≤ FULL
-    → (checkOf file cap .answer ≡ error f) ↔ Faulty file cap (f .place) f
-fault-exactly file cap f b low high = (
-  λ e. first-fault file cap f b e (λ q. omega arith) (λ q. omega arith) (λ q. omega arith),
-  λ x. fault-first file cap (f .place) f x,
+pub fault-exactly : (file : List ℕ) (cap : ℕ) (f : Fault) → Bytes file → (f .number ≡ EMPTY → ⊥) → (f .number ≡ TOO_LONG → ⊥) → (f .number ≡ BAD_ENTRY → ⊥)
+    → (checkOf file cap .answer ≡ error f) ↔ ((p : ℕ) × Faulty file cap p f)
+fault-exactly file cap f b none much entry = (
+  λ e. first-fault file cap f b e none much entry,
+  λ x. fault-first file cap (x .0) f (x .1),
 )
+
+pub fault-placed : (file : List ℕ) (cap p : ℕ) (f : Fault) (x : Faulty file cap p f) → Placed (take (length file - 1) file) (ltb 0 (x .missing)) p f
+fault-placed file cap p f x = refused-placed (x .refused)

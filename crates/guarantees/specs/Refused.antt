@@ -7,7 +7,7 @@
 --   Open cap len vs ts k
 --                        the tokens ts after the values vs are such an open value; or there are none, and no item is missing
 --   Faulty file cap p f  a fault of the walk: all before p is well formed, finished values and an open one as far as it
---                        got; the token that is wanted at p is refused with f
+--                        got; the token that is wanted at p is refused with f, whose place `Placed` says: p for all errors but LONG_BODY and LONG_LIST
 use Prim.Native.Nat.{ℕ, _+_, _-_, _≤_, _<_}
 use mathlib.Core.Path.{_≡_}
 use mathlib.Core.Bool.{false}

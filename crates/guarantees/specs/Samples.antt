@@ -1,5 +1,5 @@
--- The twelve marked samples of document 01, as one list: a file, a query, and what document 01 answers. Two of the
--- samples ask more than one thing, and have an entry for each.
+-- The twelve marked samples of document 01, as one list: a file, a query, and what document 01 answers; the map of 2^63 pairs as document 02 (W-201)
+-- has it, LONG_LIST, 10. Two of the samples ask more than one thing, and have an entry for each.
 --
 --   Query            check and depths, each with tables of four words; an item of the value at an offset; the value at an offset
 --   SampleAnswer     check's answer and table, and the depths; an offset; a value
@@ -12,7 +12,7 @@ use mathlib.Core.List.{List, [], _∷_, _++_}
 use lib.IntN.{negsuc}
 use lib.ListN.{replicate}
 use Rattle.prelude.specs.Answer.{Answer, ok, error}
-use Rattle.error.specs.Error.{Fault, fault, EMPTY, TRUNC, OVERLONG, RANGE, NESTED, BAD_TARGET, BAD_ENTRY, NO_ITEM}
+use Rattle.error.specs.Error.{Fault, fault, EMPTY, OVERLONG, RANGE, NESTED, BAD_TARGET, BAD_ENTRY, NO_ITEM, LONG_LIST}
 use Rattle.reader_value.specs.Value.{readOf}
 use Rattle.reader_value.specs.declared.Value.{Value}
 use Rattle.reader_value.specs.declared.Value.the-variants.{Integer}
@@ -55,7 +55,7 @@ samples =
     ∷ (0x1f ∷ 0x1b ∷ 0xe1 ∷ 0x00 ∷ [], check, table (checked (ok (2, 2)) (0 ∷ 2 ∷ 0 ∷ 0 ∷ [])) (1 ∷ 2 ∷ 0 ∷ 0 ∷ []))
     ∷ (0x1f ∷ 0x80 ∷ 0x00 ∷ 0x02 ∷ [], check, refused OVERLONG 0)
     ∷ (0x61 ∷ 0x61 ∷ 0x00 ∷ 0x02 ∷ [], check, refused NESTED 1)
-    ∷ (0x7f ∷ 0xf1 ∷ (replicate 7 0xff ++ (0x7f ∷ 0x00 ∷ [])), check, refused TRUNC 0)
+    ∷ (0x7f ∷ 0xf1 ∷ (replicate 7 0xff ++ (0x7f ∷ 0x00 ∷ [])), check, refused LONG_LIST 10)
     ∷ (0x2f ∷ 0xf0 ∷ (replicate 7 0xff ++ (0x7f ∷ 0x09 ∷ [])), check, table (checked (ok (1, 0)) (0 ∷ 0 ∷ 0 ∷ 0 ∷ [])) (1 ∷ 0 ∷ 0 ∷ 0 ∷ []))
     ∷ (0x2f ∷ 0xf0 ∷ (replicate 7 0xff ++ (0x7f ∷ 0x09 ∷ [])), read 0, value (ok (Integer (negsuc (2 ^ 63 - 1)))))
     ∷ (0x1f ∷ 0xf1 ∷ (replicate 7 0xff ++ (0x7f ∷ 0x09 ∷ [])), check, refused RANGE 0)
