@@ -32,9 +32,10 @@ extern "C" {
 #endif
 
 /* The version of this interface: raised by 1 with each change of what a caller hands over or gets, such as a parameter
-   or the words of a state. The archive has a function that is named after its version, and whatever includes this header
-   refers to it: compiled against another version, it does not link. gcc and clang keep the reference, also with
-   --gc-sections (before gcc 11 and clang 13 only without); another compiler may drop it. */
+   or the words of a state, but not with a new function or a new error number: take every answer but TWINE_OK for an
+   error. The archive has a function that is named after its version, and whatever includes this header refers to it:
+   compiled against another version, it does not link. gcc and clang keep the reference, also with --gc-sections (before
+   gcc 11 and clang 13 only without); another compiler may drop it. */
 #define TWINE_ABI 1
 
 #define TWINE_ABI_PASTE(version) twine_abi_##version
@@ -75,8 +76,7 @@ enum twine_error {
     TWINE_EMPTY = 1,
     /* the file has more than TWINE_LIMIT bytes [0] */
     TWINE_TOO_LONG = 2,
-    /* the region ends inside a number or a body, or a length or count exceeds the bytes left, or a count of pairs half
-       of them [the header]; an item is wanted at the region's end [that end] */
+    /* the region ends inside a number or a float [the header]; an item is wanted at the region's end [that end] */
     TWINE_TRUNC = 3,
     /* a reserved kind or low nibble [the header] */
     TWINE_RESERVED = 4,
@@ -108,7 +108,12 @@ enum twine_error {
     /* writer: already closed */
     TWINE_CLOSED = 17,
     /* writer: a state that output or table do not fit, or whose open value is not among the bytes written */
-    TWINE_BAD_STATE = 18
+    TWINE_BAD_STATE = 18,
+    /* the length of a text or byte string exceeds the bytes left in the region [the offset just after the numbers] */
+    TWINE_LONG_BODY = 19,
+    /* a count of items exceeds the bytes left in the region, or a count of pairs half of them [the offset just after the
+       numbers] */
+    TWINE_LONG_LIST = 20
 };
 
 /* What a value is. Arrays, maps, tags, VARIANT1 and VARIANTN may have items, and are never items. */
@@ -132,9 +137,9 @@ enum twine_kind {
 /* The name of an error, such as "BAD_TARGET"; the empty string for a number that no error has. */
 static inline const char *twine_error_name(uint32_t number) {
     static const char *const names[] = {
-        "",           "EMPTY", "TOO_LONG",  "TRUNC",   "RESERVED", "OVERLONG",   "RANGE",   "NESTED", "BAD_TEXT",
-        "BAD_TARGET", "FULL",  "BAD_ENTRY", "OUTSIDE", "NO_ITEM",  "WRONG_KIND", "NO_ROOM", "OWED",   "CLOSED",
-        "BAD_STATE",
+        "",           "EMPTY",     "TOO_LONG",  "TRUNC",   "RESERVED", "OVERLONG",   "RANGE",   "NESTED", "BAD_TEXT",
+        "BAD_TARGET", "FULL",      "BAD_ENTRY", "OUTSIDE", "NO_ITEM",  "WRONG_KIND", "NO_ROOM", "OWED",   "CLOSED",
+        "BAD_STATE",  "LONG_BODY", "LONG_LIST",
     };
     return number < sizeof names / sizeof names[0] ? names[number] : "";
 }
@@ -165,7 +170,9 @@ uint32_t twine_depths(const uint8_t *file, size_t len,
    offset 0: it may be any lower offset. */
 
 /* Reads the value at an offset, but neither its items nor the bytes of a text. out = {kind, number, first, count};
-   first is the offset just after the header's numbers, at which the body or the first item starts.
+   first is the offset just after the header's numbers, at which the body or the first item starts. The body is in the
+   region, else TWINE_LONG_BODY, or TWINE_TRUNC for a float; the items of an array, map or VARIANTN are no more than the
+   bytes left there, else TWINE_LONG_LIST.
 
      kind                  number                              count
      SCALAR                0 false, 1 true, 2 null             0
