@@ -70,13 +70,81 @@ static void samples(void) {
     ACCEPTED("\x1f\x1b\xe1\x00", 2, 2, {0, 2}, {1, 2});
     REFUSED("\x1f\x80\x00\x02", TWINE_OVERLONG, 0);
     REFUSED("\x61\x61\x00\x02", TWINE_NESTED, 1);
-    REFUSED("\x7f\xf1\xff\xff\xff\xff\xff\xff\xff\x7f\x00", TWINE_TRUNC, 0);
+    REFUSED("\x7f\xf1\xff\xff\xff\xff\xff\xff\xff\x7f\x00", TWINE_LONG_LIST, 10);
     ACCEPTED(LEAST, 1, 0, {0}, {1});
     REFUSED("\x1f\xf1\xff\xff\xff\xff\xff\xff\xff\x7f\x09", TWINE_RANGE, 0);
     REFUSED("\x42\xc3\x28\x02", TWINE_BAD_TEXT, 0);
     REFUSED("\x41\x61\x41\x61\x00", TWINE_BAD_ENTRY, 4);
     REFUSED("\x41\x61\x41\x61\x05", TWINE_BAD_ENTRY, 4);
     REFUSED("\x90\x00", TWINE_RESERVED, 0);
+}
+
+/* What goes past the region's end. */
+static void ends(void) {
+    /* a length; the place is just after the numbers, even if the region ends there */
+    REFUSED("\x45\x61\x00", TWINE_LONG_BODY, 1);
+    REFUSED("\x52\x61\x00", TWINE_LONG_BODY, 1);
+    REFUSED("\x41\x00", TWINE_LONG_BODY, 1);
+    REFUSED("\x61\x45\x61\x00", TWINE_LONG_BODY, 2);
+    REFUSED("\x5f\x01\x61\x00", TWINE_LONG_BODY, 2);
+    ACCEPTED("\x41\x61\x01", 1, 0, {0}, {1});
+    /* RANGE comes before it, BAD_TEXT after it */
+    REFUSED("\x4f\xf1\xff\xff\xff\xff\xff\xff\xff\xff\x01\x00", TWINE_RANGE, 0);
+    REFUSED("\x4f\xf0\xff\xff\xff\xff\xff\xff\xff\xff\x01\x00", TWINE_LONG_BODY, 11);
+    REFUSED("\x43\xc3\x28\x00", TWINE_LONG_BODY, 1);
+
+    /* a count of items or arguments, and one of pairs */
+    REFUSED("\x62\x10\x00", TWINE_LONG_LIST, 1);
+    REFUSED("\x61\x00", TWINE_LONG_LIST, 1);
+    REFUSED("\x6f\x01\x10\x00", TWINE_LONG_LIST, 2);
+    REFUSED("\xc0\x02\x10\x00", TWINE_LONG_LIST, 2);
+    REFUSED("\xcf\x00\x02\x10\x00", TWINE_LONG_LIST, 3);
+    REFUSED("\x71\x10\x00", TWINE_LONG_LIST, 1);
+    REFUSED("\x72\x10\x10\x10\x00", TWINE_LONG_LIST, 1);
+    ACCEPTED("\x71\x10\x10\x02", 1, 0, {0}, {1});
+    ACCEPTED("\xc0\x01\x10\x02", 1, 0, {0}, {1});
+    /* NESTED comes before it, the errors of the items after it */
+    REFUSED("\x61\x63\x00", TWINE_NESTED, 1);
+    REFUSED("\x63\x90\x90\x00", TWINE_LONG_LIST, 1);
+
+    /* a number, a float, and an item */
+    REFUSED("\x1f\x80\x00", TWINE_TRUNC, 0);
+    REFUSED("\x4f\x00", TWINE_TRUNC, 0);
+    REFUSED("\xc0\x00", TWINE_TRUNC, 0);
+    REFUSED("\x61\x1f\x00", TWINE_TRUNC, 1);
+    REFUSED("\x30\x01\x02\x03\x00", TWINE_TRUNC, 0);
+    REFUSED("\x61\x31\x01\x00", TWINE_TRUNC, 1);
+    REFUSED("\x62\x41\x61\x00", TWINE_TRUNC, 3);
+    REFUSED("\x80\x00", TWINE_TRUNC, 1);
+    REFUSED("\xb0\x00", TWINE_TRUNC, 1);
+}
+
+/* The hello sample, cut after each byte. */
+static void cuts(void) {
+    static const struct {
+        uint32_t error;
+        uint64_t place;
+    } want[] = {
+        {TWINE_EMPTY, 0},
+        {TWINE_BAD_ENTRY, 0},
+        /* in "hello" */
+        {TWINE_LONG_BODY, 1}, {TWINE_LONG_BODY, 1}, {TWINE_LONG_BODY, 1}, {TWINE_LONG_BODY, 1}, {TWINE_LONG_BODY, 1},
+        {TWINE_BAD_ENTRY, 6},
+        /* in the two arrays */
+        {TWINE_LONG_LIST, 7},
+        {TWINE_BAD_ENTRY, 8},
+        {TWINE_LONG_LIST, 9}, {TWINE_LONG_LIST, 9},
+        {TWINE_BAD_ENTRY, 11},
+        /* in the map: bytes for less than its items, inside its second key, and after that */
+        {TWINE_LONG_LIST, 12}, {TWINE_LONG_LIST, 12}, {TWINE_LONG_LIST, 12}, {TWINE_LONG_LIST, 12},
+        {TWINE_LONG_BODY, 16},
+        {TWINE_TRUNC, 17},
+    };
+    EXPECT(sizeof want / sizeof want[0], sizeof HELLO - 1);
+    for (size_t len = 0; len < sizeof want / sizeof want[0]; len++) {
+        check(__LINE__, (const uint8_t *)HELLO, len,
+              (struct checked){want[len].error, {want[len].place, 0}, 0, {0}, {0}});
+    }
 }
 
 /* Tables that are too short, and a file that is too long. */
@@ -175,6 +243,62 @@ static void queries(void) {
     ANSWER(twine_body(BYTES(HELLO), 0, out), TWINE_OK, 1, 5);
     ANSWER(twine_body(BYTES(HELLO), 7, out), TWINE_OK, 1, 5);
     ANSWER(twine_body(BYTES(HELLO), 14, out), TWINE_WRONG_KIND, 8, 0);
+}
+
+/* Queries on what goes past the region's end, in the value that is asked for, in its items, and in what is followed. */
+static void queries_at_ends(void) {
+    READ_ERROR("\x45\x61\x00", 0, TWINE_LONG_BODY, 1);
+    READ_ERROR("\x61\x45\x61\x00", 1, TWINE_LONG_BODY, 2);
+    READ_ERROR("\x63\x10\x00", 0, TWINE_LONG_LIST, 1);
+    READ_ERROR("\x72\x10\x10\x10\x00", 0, TWINE_LONG_LIST, 1);
+    READ_ERROR("\xcf\x00\x02\x10\x00", 0, TWINE_LONG_LIST, 3);
+    READ_ERROR("\x1f\x80\x00", 0, TWINE_TRUNC, 0);
+    READ_ERROR("\x30\x01\x02\x03\x00", 0, TWINE_TRUNC, 0);
+    /* items are not read, not even looked for */
+    READ("\x61\x45\x61\x00", 0, TWINE_KIND_ARRAY, 1, 1, 1);
+    READ("\x81\x00", 0, TWINE_KIND_TAG, 1, 1, 1);
+
+    ANSWER(twine_skip(BYTES("\x45\x61\x00"), 0, out), TWINE_LONG_BODY, 1, 0);
+    ANSWER(twine_skip(BYTES("\x61\x45\x61\x00"), 0, out), TWINE_LONG_BODY, 2, 0);
+    ANSWER(twine_skip(BYTES("\x63\x10\x00"), 0, out), TWINE_LONG_LIST, 1, 0);
+    ANSWER(twine_skip(BYTES("\x61\x1f\x00"), 0, out), TWINE_TRUNC, 1, 0);
+    ANSWER(twine_skip(BYTES("\x61\x31\x01\x00"), 0, out), TWINE_TRUNC, 1, 0);
+    ANSWER(twine_skip(BYTES("\x62\x41\x61\x00"), 0, out), TWINE_TRUNC, 3, 0);
+    ANSWER(twine_skip(BYTES("\x81\x00"), 0, out), TWINE_TRUNC, 1, 0);
+
+    /* the items before the one that is asked for are read; that one only starts in the region */
+    ANSWER(twine_item(BYTES("\x62\x45\x61\x00"), 0, 0, out), TWINE_OK, 1, 0);
+    ANSWER(twine_item(BYTES("\x62\x45\x61\x00"), 0, 1, out), TWINE_LONG_BODY, 2, 0);
+    ANSWER(twine_item(BYTES("\x45\x61\x00"), 0, 0, out), TWINE_LONG_BODY, 1, 0);
+    ANSWER(twine_item(BYTES("\x63\x10\x00"), 0, 0, out), TWINE_LONG_LIST, 1, 0);
+    ANSWER(twine_item(BYTES("\x63\x10\x00"), 0, 3, out), TWINE_LONG_LIST, 1, 0);
+    ANSWER(twine_item(BYTES("\x62\x1f\x80\x00"), 0, 1, out), TWINE_TRUNC, 1, 0);
+    ANSWER(twine_item(BYTES("\x62\x30\x01\x00"), 0, 1, out), TWINE_TRUNC, 1, 0);
+    ANSWER(twine_item(BYTES("\x62\x41\x61\x00"), 0, 1, out), TWINE_TRUNC, 3, 0);
+    ANSWER(twine_item(BYTES("\xb0\x00"), 0, 0, out), TWINE_TRUNC, 1, 0);
+
+    ANSWER(twine_follow(BYTES("\x45\xf0\x00"), 1, out), TWINE_LONG_BODY, 1, 0);
+    ANSWER(twine_follow(BYTES("\x63\xf0\x00"), 1, out), TWINE_LONG_LIST, 1, 0);
+    ANSWER(twine_follow(BYTES("\x31\xf0\x00"), 1, out), TWINE_TRUNC, 0, 0);
+    ANSWER(twine_follow(BYTES("\x00\xff\x00"), 1, out), TWINE_TRUNC, 1, 0);
+
+    /* the map; a key, itself and followed; a value that is passed over; the value that is the answer */
+    ANSWER(twine_lookup(BYTES("\x72\x10\x10\x10\x00"), 0, BYTES("a"), out), TWINE_LONG_LIST, 1, 0);
+    ANSWER(twine_lookup(BYTES("\x45\x61\x00"), 0, BYTES("a"), out), TWINE_LONG_BODY, 1, 0);
+    ANSWER(twine_lookup(BYTES("\x71\x45\x61\x00"), 0, BYTES("a"), out), TWINE_LONG_BODY, 2, 0);
+    ANSWER(twine_lookup(BYTES("\x45\x71\xf1\x10\x00"), 1, BYTES("a"), out), TWINE_LONG_BODY, 1, 0);
+    ANSWER(twine_lookup(BYTES("\x64\x71\xf1\x10\x00"), 1, BYTES("a"), out), TWINE_LONG_LIST, 1, 0);
+    ANSWER(twine_lookup(BYTES("\x72\x41\x62\x45\x61\x10\x00"), 0, BYTES("a"), out), TWINE_LONG_BODY, 4, 0);
+    ANSWER(twine_lookup(BYTES("\x72\x41\x62\x45\x61\x10\x00"), 0, BYTES("b"), out), TWINE_OK, 3, 0);
+    ANSWER(twine_lookup(BYTES("\x71\x30\x01\x00"), 0, BYTES("a"), out), TWINE_TRUNC, 1, 0);
+    ANSWER(twine_lookup(BYTES("\x71\x10\x1f\x00"), 0, BYTES("a"), out), TWINE_TRUNC, 2, 0);
+    ANSWER(twine_lookup(BYTES("\x71\x41\x61\x00"), 0, BYTES("a"), out), TWINE_TRUNC, 3, 0);
+
+    ANSWER(twine_body(BYTES("\x45\x61\x00"), 0, out), TWINE_LONG_BODY, 1, 0);
+    ANSWER(twine_body(BYTES("\x52\xf0\x00"), 1, out), TWINE_LONG_BODY, 1, 0);
+    ANSWER(twine_body(BYTES("\x63\xf0\x00"), 1, out), TWINE_LONG_LIST, 1, 0);
+    ANSWER(twine_body(BYTES("\x31\xf0\x00"), 1, out), TWINE_TRUNC, 0, 0);
+    ANSWER(twine_body(BYTES("\x4f\x80\x00"), 0, out), TWINE_TRUNC, 0, 0);
 }
 
 /* ---- writer */
@@ -457,14 +581,20 @@ static void names(void) {
         }
     }
     EXPECT(strcmp(twine_error_name(TWINE_BAD_TARGET), "BAD_TARGET"), 0);
+    EXPECT(strcmp(twine_error_name(19), "LONG_BODY"), 0);
+    EXPECT(strcmp(twine_error_name(20), "LONG_LIST"), 0);
+    EXPECT(strcmp(twine_error_name(TWINE_LONG_LIST + 1), ""), 0);
     EXPECT(strcmp(twine_error_name(255), ""), 0);
 }
 
 int main(void) {
     version();
     samples();
+    ends();
+    cuts();
     short_tables();
     queries();
+    queries_at_ends();
     hello();
     back();
     deltas();
