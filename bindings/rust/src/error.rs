@@ -10,7 +10,7 @@ pub enum ErrorKind {
     Empty = 1,
     /// The file has more than [`LIMIT`](crate::LIMIT) bytes.
     TooLong = 2,
-    /// The region ends inside a number or a body, or where an item is wanted; or a length or count exceeds the bytes left.
+    /// The region ends inside a number or a float, or where an item is wanted.
     Trunc = 3,
     /// A reserved kind or low nibble.
     Reserved = 4,
@@ -42,11 +42,16 @@ pub enum ErrorKind {
     Closed = 17,
     /// In the writer: a state that the output or the table does not fit. A [`Writer`](crate::Writer) never has one.
     BadState = 18,
+    /// The length of a text or byte string exceeds the bytes left in the region. The place is the offset just after the numbers.
+    LongBody = 19,
+    /// A count of items exceeds the bytes left in the region, or a count of pairs half of them. The place is the offset just after the
+    /// numbers.
+    LongList = 20,
 }
 
 impl ErrorKind {
     /// All of them, in the order of their numbers, from 1.
-    pub const ALL: [ErrorKind; 18] = [
+    pub const ALL: [ErrorKind; 20] = [
         ErrorKind::Empty,
         ErrorKind::TooLong,
         ErrorKind::Trunc,
@@ -65,6 +70,8 @@ impl ErrorKind {
         ErrorKind::Owed,
         ErrorKind::Closed,
         ErrorKind::BadState,
+        ErrorKind::LongBody,
+        ErrorKind::LongList,
     ];
 
     /// The number, from 1.
@@ -103,6 +110,8 @@ impl ErrorKind {
             ErrorKind::Owed => "OWED",
             ErrorKind::Closed => "CLOSED",
             ErrorKind::BadState => "BAD_STATE",
+            ErrorKind::LongBody => "LONG_BODY",
+            ErrorKind::LongList => "LONG_LIST",
         }
     }
 }
@@ -169,7 +178,7 @@ mod tests {
 
     #[test]
     fn display_tells_the_place() {
-        assert_eq!(Error { kind: ErrorKind::Trunc, place: Some(54) }.to_string(), "TRUNC at 54");
+        assert_eq!(Error { kind: ErrorKind::LongBody, place: Some(55) }.to_string(), "LONG_BODY at 55");
         assert_eq!(Error { kind: ErrorKind::NoRoom, place: None }.to_string(), "NO_ROOM");
     }
 }

@@ -38,6 +38,10 @@ impl<'a> File<'a> {
     /// // an array with a pointer to itself
     /// let error = File::check(&[0x61, 0xf0, 0x01]).unwrap_err();
     /// assert_eq!((error.kind, error.place), (ErrorKind::BadTarget, Some(1)));
+    ///
+    /// // a label of six letters, of which three are left
+    /// let error = File::check(&[0x46, b'f', b'r', b'a', 0x00]).unwrap_err();
+    /// assert_eq!((error.kind, error.place), (ErrorKind::LongBody, Some(1)));
     /// # Ok::<(), twine::Error>(())
     /// ```
     pub fn check(bytes: &'a [u8]) -> Result<File<'a>, Error> {

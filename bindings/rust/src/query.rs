@@ -109,12 +109,23 @@ pub struct Token {
 }
 
 /// Reads the value at `at`, but neither its items nor the bytes of a text.
+///
+/// LONG_BODY if a text or byte string has more bytes than are left in the region, LONG_LIST if an array, map or variant of many has more
+/// items; TRUNC if the region ends inside a number or a float.
+///
+/// ```
+/// use twine::{query, ErrorKind};
+///
+/// // an array of three items, with a byte for one
+/// let error = query::read(&[0x63, 0x10, 0x00], 0).unwrap_err();
+/// assert_eq!((error.kind, error.place), (ErrorKind::LongList, Some(1)));
+/// ```
 pub fn read(file: &[u8], at: usize) -> Result<Token, Error> {
     let [kind, number, first, count] = sys::read(file, at)?;
     Ok(Token { kind: Kind::from_number(kind), number, first: first as usize, count: count as usize })
 }
 
-/// The offset just after the value at `at`. Its items are read too.
+/// The offset just after the value at `at`. Its items are read too; TRUNC if the region ends where one is wanted.
 pub fn skip(file: &[u8], at: usize) -> Result<usize, Error> {
     Ok(sys::skip(file, at)?[0] as usize)
 }
