@@ -1,8 +1,9 @@
 //! Random lists of calls and random bytes: an answer or an error, never a panic.
 
-use twine::{query, Error, ErrorKind, File, Writer};
+use twine::query::{self, Kind};
+use twine::{Error, ErrorKind, File, Writer};
 
-use crate::{parts, Part};
+use crate::{error, parts, Part};
 
 /// Xorshift of 64 bits.
 struct Random(u64);
@@ -167,11 +168,66 @@ fn calls() {
     }
 }
 
+/// What a file is refused for if it is cut to `len` bytes, by its first token that goes past the region's end; none if all values that
+/// begin in the region end there.
+fn cut(file: &File<'_>, tokens: &[(usize, Part)], len: usize) -> Option<Error> {
+    let end = len - 1;
+    for at in tokens.iter().map(|(at, _)| *at) {
+        if at >= end {
+            return file.value_at(at).is_none().then(|| error(ErrorKind::Trunc, end));
+        }
+        let token = query::read(file.bytes(), at).unwrap();
+        if token.first > end {
+            return Some(error(ErrorKind::Trunc, at));
+        }
+        if token.count > end - token.first {
+            match token.kind {
+                Kind::Float => return Some(error(ErrorKind::Trunc, at)),
+                Kind::Text | Kind::Bytes => return Some(error(ErrorKind::LongBody, token.first)),
+                Kind::Array | Kind::Map | Kind::VariantN => return Some(error(ErrorKind::LongList, token.first)),
+                _ => {}
+            }
+        }
+    }
+    None
+}
+
+#[test]
+fn cuts() {
+    let mut random = Random(0xd1b5_4a32_d192_ed03);
+    let (mut truncated, mut long_bodies, mut long_lists) = (0, 0, 0);
+    for _ in 0..300 {
+        let calls = 1 + random.below(30);
+        let bytes = write_some(&mut random, Writer::new(), calls);
+        let Ok(file) = File::check(&bytes) else { continue };
+        let tokens = parts(&file);
+        for len in 1..bytes.len() {
+            let checked = File::check(&bytes[..len]);
+            match cut(&file, &tokens, len) {
+                Some(want) => {
+                    assert_eq!(checked.unwrap_err(), want, "{:x?}", &bytes[..len]);
+                    match want.kind {
+                        ErrorKind::Trunc => truncated += 1,
+                        ErrorKind::LongBody => long_bodies += 1,
+                        _ => long_lists += 1,
+                    }
+                }
+                // the last byte may name a value or not
+                None => assert!(checked.map_or_else(|refused| refused == error(ErrorKind::BadEntry, len - 1), |_| true)),
+            }
+        }
+    }
+    assert!(truncated > 500 && long_bodies > 500 && long_lists > 500, "{truncated}, {long_bodies}, {long_lists}");
+}
+
 /// Asks everything at an offset.
 fn ask(file: &[u8], at: usize, random: &mut Random) {
     let read = query::read(file, at);
     let skip = query::skip(file, at);
     assert!(read.is_ok() || skip.is_err());
+    if let Err(Error { kind: ErrorKind::LongBody | ErrorKind::LongList, place }) = read {
+        assert!(place.is_some_and(|place| at < place && place < file.len()));
+    }
     if let Ok(end) = skip {
         assert!(at < end && end < file.len());
     }

@@ -34,13 +34,51 @@ fn checked() {
     accepted("1f 1b e1 00", &[0, 2], 2, &[1, 2]);
     wrong("1f 80 00 02", Overlong, 0);
     wrong("61 61 00 02", Nested, 1);
-    wrong("7f f1 ff ff ff ff ff ff ff 7f 00", Trunc, 0);
+    wrong("7f f1 ff ff ff ff ff ff ff 7f 00", LongList, 10);
     accepted("2f f0 ff ff ff ff ff ff ff 7f 09", &[0], 0, &[1]);
     wrong("1f f1 ff ff ff ff ff ff ff 7f 09", Range, 0);
     wrong("42 c3 28 02", BadText, 0);
     wrong("41 61 41 61 00", BadEntry, 4);
     wrong("41 61 41 61 05", BadEntry, 4);
     wrong("90 00", Reserved, 0);
+}
+
+#[test]
+fn past_the_regions_end() {
+    // a length: just after the numbers, even if the region ends there; RANGE comes before it, BAD_TEXT after it
+    wrong("45 61 00", LongBody, 1);
+    wrong("52 61 00", LongBody, 1);
+    wrong("41 00", LongBody, 1);
+    wrong("61 45 61 00", LongBody, 2);
+    wrong("5f 01 61 00", LongBody, 2);
+    wrong("4f f1 ff ff ff ff ff ff ff ff 01 00", Range, 0);
+    wrong("4f f0 ff ff ff ff ff ff ff ff 01 00", LongBody, 11);
+    wrong("43 c3 28 00", LongBody, 1);
+    accepted("41 61 01", &[0], 0, &[1]);
+
+    // a count of items or arguments, and one of pairs; NESTED comes before it, the errors of the items after it
+    wrong("62 10 00", LongList, 1);
+    wrong("61 00", LongList, 1);
+    wrong("6f 01 10 00", LongList, 2);
+    wrong("c0 02 10 00", LongList, 2);
+    wrong("cf 00 02 10 00", LongList, 3);
+    wrong("71 10 00", LongList, 1);
+    wrong("72 10 10 10 00", LongList, 1);
+    wrong("61 63 00", Nested, 1);
+    wrong("63 90 90 00", LongList, 1);
+    accepted("71 10 10 02", &[0], 0, &[1]);
+    accepted("c0 01 10 02", &[0], 0, &[1]);
+
+    // a number, a float, and an item
+    wrong("1f 80 00", Trunc, 0);
+    wrong("4f 00", Trunc, 0);
+    wrong("c0 00", Trunc, 0);
+    wrong("61 1f 00", Trunc, 1);
+    wrong("30 01 02 03 00", Trunc, 0);
+    wrong("61 31 01 00", Trunc, 1);
+    wrong("62 41 61 00", Trunc, 3);
+    wrong("80 00", Trunc, 1);
+    wrong("b0 00", Trunc, 1);
 }
 
 #[test]
