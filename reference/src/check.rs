@@ -67,7 +67,7 @@ mod tests {
         accepted("1f 1b e1 00", 2, &[0, 2]);
         refused("1f 80 00 02", Overlong, 0);
         refused("61 61 00 02", Nested, 1);
-        refused("7f f1 ff ff ff ff ff ff ff 7f 00", Trunc, 0);
+        refused("7f f1 ff ff ff ff ff ff ff 7f 00", LongList, 10);
         accepted("2f f0 ff ff ff ff ff ff ff 7f 09", 0, &[0]);
         refused("1f f1 ff ff ff ff ff ff ff 7f 09", Range, 0);
         refused("42 c3 28 02", BadText, 0);
@@ -96,8 +96,9 @@ mod tests {
         refused(&format!("1f {} 00 0a", &ten[3..]), Overlong, 0);
         let most = "ff ff ff ff ff ff ff ff 01";
         refused(&format!("4f f1 {most} 00"), Range, 0);
-        refused(&format!("4f f0 {most} 00"), Trunc, 0);
+        refused(&format!("4f f0 {most} 00"), LongBody, 11);
         refused(&format!("6f f1 {most} 00"), Range, 0);
+        refused(&format!("6f f0 {most} 00"), LongList, 11);
         refused(&format!("ff f0 {most} 00"), BadTarget, 0);
         refused(&format!("ef f1 {most} 00"), Range, 0);
         accepted(&format!("8f f0 {most} 10 0b"), 0, &[0]);
@@ -113,7 +114,7 @@ mod tests {
         refused("cf f1 ff ff ff 0f 00", Range, 0);
         refused("cf f0 ff ff ff 0f 00", Trunc, 0);
         accepted("cf f0 ff ff ff 0f 00 06", 0, &[0]);
-        refused("c0 ff ff ff ff ff ff ff ff ff 01 00", Trunc, 0);
+        refused("c0 ff ff ff ff ff ff ff ff ff 01 00", LongList, 11);
         refused("c0 ff ff ff ff ff ff ff ff ff 02 00", Range, 0);
         refused("c0 80 00 00", Overlong, 0);
         refused("c3 00", Trunc, 0);
@@ -129,17 +130,29 @@ mod tests {
 
     #[test]
     fn counts_and_lengths() {
-        refused("63 90 90 00", Trunc, 0);
+        refused("63 90 90 00", LongList, 1);
         refused("62 90 90 00", Reserved, 1);
-        refused("61 45 61 00", Trunc, 1);
+        refused("61 45 61 00", LongBody, 2);
         accepted("71 10 11 12 03", 0, &[0, 3]);
-        refused("72 10 11 12 03", Trunc, 0);
-        refused("71 10 00", Trunc, 0);
-        refused("7f f1 ff ff ff ff ff ff ff 7f 10 11 0b", Trunc, 0);
-        refused("7f f2 ff ff ff ff ff ff ff 7f 10 11 0b", Trunc, 0);
-        refused("45 68 65 6c 6c 6f", Trunc, 0);
+        refused("72 10 11 12 03", LongList, 1);
+        refused("71 10 00", LongList, 1);
+        refused("7f f1 ff ff ff ff ff ff ff 7f 10 11 0b", LongList, 10);
+        refused("7f f2 ff ff ff ff ff ff ff 7f 10 11 0b", LongList, 10);
+        refused("45 68 65 6c 6c 6f", LongBody, 1);
         refused("30 00 00 00 00", Trunc, 0);
         accepted("30 00 00 00 00 04", 0, &[0]);
+    }
+
+    #[test]
+    fn a_length_or_count_comes_before_what_it_counts() {
+        refused("43 ff ff 00", LongBody, 1);
+        refused("61 42 ff 00", LongBody, 2);
+        refused("c0 03 90 90 00", LongList, 2);
+        refused("10 62 41 ff 43 61 61 00", BadText, 2);
+        refused("10 62 41 61 43 61 61 00", LongBody, 5);
+        refused("10 62 f5 43 61 61 00", BadTarget, 2);
+        assert_eq!(checked(0, &hex("45 61 00")), Err(refusal(Full, 0)));
+        assert_eq!(checked(1, &hex("10 65 00")), Err(refusal(Full, 1)));
     }
 
     #[test]

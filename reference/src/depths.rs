@@ -84,6 +84,8 @@ mod tests {
     fn refusals_of_check_come_first() {
         assert_eq!(depths_of([2, 0], "61 f0 01"), Err(refusal(BadTarget, 1)));
         assert_eq!(depths_of([2, 0], "41 61 41 61 00"), Err(refusal(BadEntry, 4)));
+        assert_eq!(depths_of([2, 0], "10 61 45 61 00"), Err(refusal(LongBody, 3)));
+        assert_eq!(depths_of([2, 0], "10 cf 00 03 10 00"), Err(refusal(LongList, 4)));
         assert_eq!(depths_of([1, 0], "10 11 00"), Err(refusal(Full, 1)));
         assert_eq!(depths_of([0, 0], ""), Err(refusal(Empty, 0)));
     }

@@ -2,7 +2,7 @@
 
 use std::fmt;
 
-/// Why a question or a call is refused. The numbers are those of the table "Numbers of refusal".
+/// Why a question or a call is refused. The numbers are those of the table "Numbers of refusal", and those that W-201 adds.
 #[derive(Clone, Copy, Debug, PartialEq, Eq, Hash)]
 #[repr(u8)]
 pub enum ErrorKind {
@@ -10,8 +10,7 @@ pub enum ErrorKind {
     Empty = 1,
     /// "L over 16,777,216".
     TooLong = 2,
-    /// "The region ends inside a header's number or fixed body; a length, item or argument count exceeds the bytes left; a
-    /// pair count exceeds half of them; an item is wanted at the region's end".
+    /// "A number or fixed body cut by the region's end", or "an item wanted there".
     Trunc = 3,
     /// "Reserved kind or low".
     Reserved = 4,
@@ -43,11 +42,15 @@ pub enum ErrorKind {
     Closed = 17,
     /// The writer's state does not fit the lent output and table.
     BadState = 18,
+    /// "A text or byte length exceeds the bytes left". The place is "the offset just after the numbers".
+    LongBody = 19,
+    /// "An item or argument count does, or a pair count exceeds half of them". The place is that of [`Self::LongBody`].
+    LongList = 20,
 }
 
 impl ErrorKind {
     /// All refusals in the order of their numbers.
-    pub const ALL: [Self; 18] = [
+    pub const ALL: [Self; 20] = [
         Self::Empty,
         Self::TooLong,
         Self::Trunc,
@@ -66,15 +69,17 @@ impl ErrorKind {
         Self::Owed,
         Self::Closed,
         Self::BadState,
+        Self::LongBody,
+        Self::LongList,
     ];
 
-    /// The number in the table.
+    /// The number in the papers.
     #[must_use]
     pub const fn number(self) -> u8 {
         self as u8
     }
 
-    /// The name in the table.
+    /// The name in the papers.
     #[must_use]
     pub const fn name(self) -> &'static str {
         match self {
@@ -96,6 +101,8 @@ impl ErrorKind {
             Self::Owed => "OWED",
             Self::Closed => "CLOSED",
             Self::BadState => "BAD_STATE",
+            Self::LongBody => "LONG_BODY",
+            Self::LongList => "LONG_LIST",
         }
     }
 
@@ -113,8 +120,8 @@ impl fmt::Display for ErrorKind {
 
 impl std::error::Error for ErrorKind {}
 
-/// A refusal with its place: "the offset of the header at fault (an item's own header for an item)", and the other places
-/// that document 01 lists.
+/// A refusal with its place: "the offset of the header at fault (an item's own header for an item)", "the offset just after
+/// the numbers" of a length or count at fault, and the other places that document 01 lists.
 #[derive(Clone, Copy, Debug, PartialEq, Eq, Hash)]
 pub struct Error {
     /// Why.
@@ -140,11 +147,14 @@ mod tests {
         for (index, kind) in ErrorKind::ALL.into_iter().enumerate() {
             assert_eq!(usize::from(kind.number()), index + 1);
         }
+        assert_eq!([ErrorKind::Trunc, ErrorKind::LongBody, ErrorKind::LongList].map(ErrorKind::number), [3, 19, 20]);
     }
 
     #[test]
     fn a_refusal_is_its_name_and_its_place() {
         assert_eq!(ErrorKind::BadEntry.at(4).to_string(), "BAD_ENTRY 4");
         assert_eq!(ErrorKind::NoRoom.to_string(), "NO_ROOM");
+        assert_eq!(ErrorKind::LongBody.at(2).to_string(), "LONG_BODY 2");
+        assert_eq!(ErrorKind::LongList.at(10).to_string(), "LONG_LIST 10");
     }
 }

@@ -348,8 +348,8 @@ mod tests {
     }
 
     #[test]
-    fn reading_holds_a_count_against_the_bytes_left() {
-        assert_eq!(read_at(0, "63 10 00"), Err(refusal(Trunc, 0)));
+    fn reading_compares_a_count_with_the_bytes_left() {
+        assert_eq!(read_at(0, "63 10 00"), Err(refusal(LongList, 1)));
         assert_eq!(read_at(0, "f0 00"), Err(refusal(BadTarget, 0)));
         assert_eq!(read_at(0, "03 00"), Err(refusal(Reserved, 0)));
     }
@@ -432,12 +432,68 @@ mod tests {
         assert_eq!(body_at(0, "41 ff 00"), Ok((1, 1)));
         assert_eq!(body_at(0, "40 00"), Ok((1, 0)));
         assert_eq!(body_at(3, "41 61 e1 f0 00"), Err(refusal(WrongKind, 2)));
-        assert_eq!(body_at(0, "42 61 00"), Err(refusal(Trunc, 0)));
+        assert_eq!(body_at(0, "42 61 00"), Err(refusal(LongBody, 1)));
     }
 
     #[test]
     fn the_body_is_a_part_of_the_file() {
         let file = hex(DOCUMENT_001);
         assert!(std::ptr::eq(body(&file, 0), &file[1..6]));
+    }
+    /// "Every caller that passes a refusal on passes the new ones", with their place.
+    #[test]
+    fn long_bodies_and_lists_are_passed_on() {
+        // At the asked value: a text, a byte string, an array, a map, and a variant of many.
+        for (file, kind, place) in [
+            ("10 44 61 61 00", LongBody, 2),
+            ("10 5f 80 01 61 00", LongBody, 4),
+            ("10 64 61 61 00", LongList, 2),
+            ("10 72 61 61 61 00", LongList, 2),
+            ("10 cf 00 80 01 10 00", LongList, 5),
+        ] {
+            let expected = refusal(kind, place);
+            assert_eq!(read_at(1, file), Err(expected), "{file}");
+            assert_eq!(skip_at(1, file), Err(expected), "{file}");
+            assert_eq!(follow_at(1, file), Err(expected), "{file}");
+            assert_eq!(body_at(1, file), Err(expected), "{file}");
+            // Before WRONG_KIND and before NO_ITEM.
+            assert_eq!(item_at(1, 0, file), Err(expected), "{file}");
+            assert_eq!(item_at(1, u64::MAX, file), Err(expected), "{file}");
+            assert_eq!(lookup_at(1, "61", file), Err(expected), "{file}");
+        }
+        // At the end of pointers.
+        for (file, kind, place) in [("4e f0 f0 f0 00", LongBody, 1), ("cf 00 0f f2 f0 f0 00", LongList, 3)] {
+            let last = hex(file).len() as u64 - 2;
+            let expected = refusal(kind, place);
+            assert_eq!(follow_at(last, file), Err(expected), "{file}");
+            assert_eq!(body_at(last, file), Err(expected), "{file}");
+            assert!(matches!(read_at(last, file), Ok(Value::Pointer { .. })), "{file}");
+            assert_eq!(skip_at(last, file), Ok(last as usize + 1), "{file}");
+        }
+        // In an item.
+        let file = "63 10 4f 00 61 10 00";
+        assert!(read_at(0, file).is_ok());
+        assert_eq!(skip_at(0, file), Err(refusal(LongBody, 4)));
+        assert_eq!(item_at(0, 0, file), Ok(1));
+        assert_eq!(item_at(0, 1, file), Ok(2), "not examined");
+        assert_eq!(item_at(0, 2, file), Err(refusal(LongBody, 4)));
+        assert_eq!(item_at(0, 3, file), Err(refusal(NoItem, 0)));
+        assert_eq!(skip_at(0, "81 52 00 00"), Err(refusal(LongBody, 2)));
+        assert_eq!(skip_at(0, "bf 00 52 00 00"), Err(refusal(LongBody, 3)));
+        assert_eq!(skip_at(0, "c0 01 52 00 00"), Err(refusal(LongBody, 3)));
+    }
+
+    #[test]
+    fn lookups_pass_long_bodies_and_lists_on() {
+        // The key, the value before the wanted key, and the wanted key's own value, which is not examined.
+        assert_eq!(lookup_at(0, "61", "71 45 61 10 00"), Err(refusal(LongBody, 2)));
+        let file = "72 41 61 45 41 62 10 ff";
+        assert_eq!(lookup_at(0, "61", file), Ok(3));
+        assert_eq!(lookup_at(0, "62", file), Err(refusal(LongBody, 4)));
+        // A key that is followed: to a text, to an array.
+        assert_eq!(lookup_at(1, "61", "45 71 f1 10 00"), Err(refusal(LongBody, 1)));
+        assert_eq!(lookup_at(1, "61", "65 71 f1 10 00"), Err(refusal(LongList, 1)));
+        // The same as a value, which is not followed.
+        assert_eq!(lookup_at(1, "61", "45 71 10 f2 00"), Err(refusal(NoItem, 1)));
     }
 }

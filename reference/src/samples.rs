@@ -160,8 +160,10 @@ mod tests {
     #[test]
     fn queries() {
         answered("tokens 611f1b", "0 6 1 1 1 1; 1 1 42 0 3 3; end");
-        answered("tokens 61", "TRUNC 0");
-        answered("read 0 6f006f", "TRUNC 0");
+        answered("tokens 61", "LONG_LIST 1");
+        answered("tokens 6f", "TRUNC 0");
+        answered("read 0 6f006f", "LONG_LIST 2");
+        answered("body 0 4261", "LONG_BODY 1");
         answered("read 0 7141611000", "map 1 2 1");
         answered("skip 18446744073709551616 1000", "OUTSIDE 18446744073709551615");
         answered("item 3 4 611f1b64f311121304", "NO_ITEM 3");

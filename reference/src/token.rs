@@ -51,6 +51,7 @@ impl Token {
 ///
 /// The faults come in the order "RESERVED, NESTED, number (TRUNC, then RANGE of the tenth byte, OVERLONG, RANGE of n), the
 /// second number of kind 12 likewise, TRUNC of the body", without `NESTED`, and "of a target only that it is not below 0".
+/// `LONG_BODY` and `LONG_LIST` are in the place of TRUNC of the body, which is left to floats: "Order stays".
 /// An `at` that is not in the region answers that an item is wanted there.
 pub(crate) fn read(region: &[u8], at: usize) -> Result<Token, Error> {
     parse(region, at, false)?.judge_target()
@@ -66,11 +67,17 @@ fn parse(region: &[u8], at: usize, item: bool) -> Result<Token, Error> {
     let Some(&header) = region.get(at) else {
         return Err(ErrorKind::Trunc.at(region.len()));
     };
-    decide(region, at, header, item).map_err(|kind| kind.at(at))
+    let mut after_numbers = at;
+    decide(region, at, header, item, &mut after_numbers).map_err(|kind| match kind {
+        // "The place for both becomes the offset just after the numbers."
+        ErrorKind::LongBody | ErrorKind::LongList => kind.at(after_numbers),
+        _ => kind.at(at),
+    })
 }
 
+/// Decides on a token without its place, and leaves where its numbers end, if they are without fault.
 #[inline(always)]
-fn decide(region: &[u8], at: usize, header: u8, item: bool) -> Result<Token, ErrorKind> {
+fn decide(region: &[u8], at: usize, header: u8, item: bool, after_numbers: &mut usize) -> Result<Token, ErrorKind> {
     let (high, low) = (header >> 4, header & 15);
     let kind = &KINDS[usize::from(high)];
     if low >= kind.reserved_from {
@@ -87,22 +94,23 @@ fn decide(region: &[u8], at: usize, header: u8, item: bool) -> Result<Token, Err
         }
         _ => (after, 0),
     };
+    *after_numbers = first;
     // The bytes left; a body of bytes or a count is compared with them before it is used.
     let left = (region.len() - first) as u64;
     let (bytes, items) = match kind.body {
         Body::None | Body::Target => (0, 0),
         Body::Float => (if low == 0 { 4 } else { 8 }, 0),
         Body::Bytes => (n, 0),
-        Body::Items if n > left => return Err(ErrorKind::Trunc),
+        Body::Items if n > left => return Err(ErrorKind::LongList),
         Body::Items => (0, n),
-        Body::Pairs if n > left / 2 => return Err(ErrorKind::Trunc),
+        Body::Pairs if n > left / 2 => return Err(ErrorKind::LongList),
         Body::Pairs => (0, 2 * n),
         Body::One => (0, 1),
-        Body::Arguments if second > left => return Err(ErrorKind::Trunc),
+        Body::Arguments if second > left => return Err(ErrorKind::LongList),
         Body::Arguments => (0, second),
     };
     if bytes > left {
-        return Err(ErrorKind::Trunc);
+        return Err(if kind.body == Body::Float { ErrorKind::Trunc } else { ErrorKind::LongBody });
     }
     Ok(Token { at, kind: high, n, items, first, end: first + bytes as usize })
 }
@@ -175,51 +183,148 @@ mod tests {
 
     #[test]
     fn counts_against_the_bytes_left() {
-        assert_eq!(fault(&[0x63, 0x90, 0x90]), Some(ErrorKind::Trunc.at(0)));
+        assert_eq!(fault(&[0x63, 0x90, 0x90]), Some(ErrorKind::LongList.at(1)));
         assert_eq!(fault(&[0x71, 0x10, 0x11, 0x12]), None);
-        assert_eq!(fault(&[0x72, 0x10, 0x11, 0x12]), Some(ErrorKind::Trunc.at(0)));
-        assert_eq!(fault(&[0xc1, 0x02, 0x10]), Some(ErrorKind::Trunc.at(0)));
-        assert_eq!(fault(&[0x61, 0x45, 0x61]), Some(ErrorKind::Trunc.at(1)));
+        assert_eq!(fault(&[0x72, 0x10, 0x11, 0x12]), Some(ErrorKind::LongList.at(1)));
+        assert_eq!(fault(&[0xc1, 0x02, 0x10]), Some(ErrorKind::LongList.at(2)));
+        assert_eq!(fault(&[0x61, 0x45, 0x61]), Some(ErrorKind::LongBody.at(2)));
+        assert_eq!(fault(&[0x52, 0x61]), Some(ErrorKind::LongBody.at(1)));
     }
 
     #[test]
-    fn a_map_of_two_to_the_63_pairs() {
-        let mut region = vec![0x7f, 0xf1];
-        region.extend([0xff; 7]);
-        region.push(0x7f);
-        assert_eq!(fault(&region), Some(ErrorKind::Trunc.at(0)));
+    fn cut_floats() {
+        for (header, size) in [(0x30, 4), (0x31, 8)] {
+            let mut region = vec![header];
+            for _ in 0..size {
+                assert_eq!(fault(&region), Some(ErrorKind::Trunc.at(0)));
+                region.push(0xff);
+            }
+            assert_eq!(fault(&region), None);
+        }
+        assert_eq!(fault(&[0x61, 0x31, 0, 0]), Some(ErrorKind::Trunc.at(1)));
+    }
+
+    /// A header with low 15 and its number, to which 15 is still to be added: n may be over 2^64-1.
+    fn long(kind: u8, rest: u64) -> Vec<u8> {
+        let mut bytes = vec![kind << 4 | 15];
+        append(&mut bytes, rest);
+        bytes
+    }
+
+    /// Appends a LEB128 number.
+    fn append(bytes: &mut Vec<u8>, number: u64) {
+        let from = bytes.len();
+        bytes.resize(from + leb128::size(number), 0);
+        leb128::write(&mut bytes[from..], number);
+    }
+
+    /// Each of these pair counts, doubled in 64 bits, is 0, a little over 0 or a little below 2^64.
+    #[test]
+    fn pair_counts_that_double_past_two_to_the_64() {
+        for pairs in [1 << 62, (1 << 62) + 1, (1 << 63) - 1, 1 << 63, (1 << 63) + 1, u64::MAX - 1, u64::MAX] {
+            let mut region = long(7, pairs - 15);
+            let first = region.len();
+            for left in 0..6 {
+                assert_eq!(fault(&region), Some(ErrorKind::LongList.at(first)), "{pairs} pairs, {left} bytes left");
+                region.push(0x10);
+            }
+        }
+    }
+
+    /// A length and a count of exactly the bytes left, of one more, and of the greatest numbers, after numbers of one to ten
+    /// bytes. The bytes left are small values, so that what is accepted ends with them.
+    #[test]
+    fn lengths_and_counts_after_long_numbers() {
+        for left in [0, 1, 2, 3, 15, 16, 17, 142, 143, 144, 150] {
+            let numbers = [left - 1, left, left + 1, left / 2, left / 2 + 1, 14, 15, 1 << 31, 1 << 32, u64::MAX as i128];
+            for n in numbers.into_iter().filter(|n| *n >= 0) {
+                for kind in [4, 5, 6, 7] {
+                    let mut region = if n < 15 { vec![kind << 4 | n as u8] } else { long(kind, n as u64 - 15) };
+                    let first = region.len();
+                    region.resize(first + left as usize, 0x10);
+                    let (error, is_long) = match kind {
+                        4 | 5 => (ErrorKind::LongBody, n > left),
+                        6 => (ErrorKind::LongList, n > left),
+                        _ => (ErrorKind::LongList, 2 * n > left),
+                    };
+                    let expected = is_long.then(|| error.at(first));
+                    assert_eq!(fault(&region), expected, "kind {kind}, number {n}, {left} bytes left");
+                }
+                for index in [0, 14, 15, 142, 143, u64::from(u32::MAX)] {
+                    let mut region = if index < 15 { vec![0xc0 | index as u8] } else { long(12, index - 15) };
+                    append(&mut region, n as u64);
+                    let first = region.len();
+                    region.resize(first + left as usize, 0x10);
+                    let expected = (n > left).then(|| ErrorKind::LongList.at(first));
+                    assert_eq!(fault(&region), expected, "variant {index}, {n} arguments, {left} bytes left");
+                }
+            }
+        }
+    }
+
+    #[test]
+    fn an_item_has_the_place_after_its_own_numbers() {
+        for (holder, before) in [(&[0x61][..], 1), (&[0x71], 1), (&[0x80], 1), (&[0xb0], 1), (&[0xc0, 0x01], 2)] {
+            for kind in [4, 5] {
+                let mut region = holder.to_vec();
+                region.extend(long(kind, 200));
+                let first = region.len();
+                assert_eq!(first, before + 3);
+                region.extend([0x61; 214]);
+                assert_eq!(fault(&region), Some(ErrorKind::LongBody.at(first)), "kind {kind} in {holder:x?}");
+                region.push(0x61);
+                // A map's value is still wanted.
+                let expected = (holder[0] == 0x71).then(|| ErrorKind::Trunc.at(first + 215));
+                assert_eq!(fault(&region), expected, "kind {kind} in {holder:x?}");
+            }
+        }
     }
 
     #[test]
     fn bounds_of_n() {
-        /// A header with low 15 and the number n - 15, which may be over 2^64-1 once 15 is added.
-        fn region(kind: u8, rest: u64) -> Vec<u8> {
-            let mut bytes = vec![0; 1 + leb128::size(rest)];
-            bytes[0] = kind << 4 | 15;
-            leb128::write(&mut bytes[1..], rest);
-            bytes
-        }
         let range = Some(ErrorKind::Range.at(0));
         for kind in [1, 2] {
-            assert_eq!(fault(&region(kind, (1 << 63) - 16)), None);
-            assert_eq!(fault(&region(kind, (1 << 63) - 15)), range);
+            assert_eq!(fault(&long(kind, (1 << 63) - 16)), None);
+            assert_eq!(fault(&long(kind, (1 << 63) - 15)), range);
         }
-        assert_eq!(fault(&region(10, (1 << 32) - 16)), None);
+        assert_eq!(fault(&long(10, (1 << 32) - 16)), None);
         for kind in [10, 11, 12] {
-            assert_eq!(fault(&region(kind, (1 << 32) - 15)), range);
+            assert_eq!(fault(&long(kind, (1 << 32) - 15)), range);
         }
-        for kind in [4, 5, 6, 7] {
-            assert_eq!(fault(&region(kind, u64::MAX - 15)), Some(ErrorKind::Trunc.at(0)));
-            assert_eq!(fault(&region(kind, u64::MAX - 14)), range);
+        for (kind, error) in
+            [(4, ErrorKind::LongBody), (5, ErrorKind::LongBody), (6, ErrorKind::LongList), (7, ErrorKind::LongList)]
+        {
+            assert_eq!(fault(&long(kind, u64::MAX - 15)), Some(error.at(11)));
+            assert_eq!(fault(&long(kind, u64::MAX - 14)), range);
+            assert_eq!(fault(&long(kind, u64::MAX)), range);
         }
         for kind in [14, 15] {
-            let below = region(kind, u64::MAX - 15);
+            let below = long(kind, u64::MAX - 15);
             assert_eq!(fault(&below), None);
             assert_eq!(read(&below, 0), Err(ErrorKind::BadTarget.at(0)));
-            assert_eq!(fault(&region(kind, u64::MAX - 14)), range);
+            assert_eq!(fault(&long(kind, u64::MAX - 14)), range);
         }
-        assert_eq!(fault(&region(8, u64::MAX - 15)), Some(ErrorKind::Trunc.at(11)));
-        assert_eq!(fault(&region(8, u64::MAX - 14)), range);
+        assert_eq!(fault(&long(8, u64::MAX - 15)), Some(ErrorKind::Trunc.at(11)));
+        assert_eq!(fault(&long(8, u64::MAX - 14)), range);
+    }
+
+    /// RANGE of the index, then the count's own faults, then the count against the bytes left.
+    #[test]
+    fn the_two_numbers_of_a_variant_of_many() {
+        let mut most = long(12, u64::from(u32::MAX) - 15);
+        assert_eq!(fault(&most), Some(ErrorKind::Trunc.at(0)), "the count is cut");
+        append(&mut most, u64::MAX);
+        assert_eq!(most.len(), 1 + 5 + 10);
+        assert_eq!(fault(&most), Some(ErrorKind::LongList.at(16)), "at the region's end");
+        let mut over = most.clone();
+        over[15] = 2;
+        assert_eq!(fault(&over), Some(ErrorKind::Range.at(0)), "the count's tenth byte");
+        for cut in 1..16 {
+            assert_eq!(fault(&most[..cut]), Some(ErrorKind::Trunc.at(0)), "{cut} bytes");
+        }
+        let mut over = long(12, u64::from(u32::MAX) - 14);
+        append(&mut over, u64::MAX);
+        assert_eq!(fault(&over), Some(ErrorKind::Range.at(0)), "the index");
     }
 
     #[test]

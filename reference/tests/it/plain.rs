@@ -41,7 +41,9 @@ fn number(region: &[u8], at: usize) -> Result<(u128, usize), ErrorKind> {
     }
 }
 
-fn head(region: &[u8], at: usize, is_item: bool) -> Result<Head, ErrorKind> {
+/// The head at an offset, or its first fault and the place.
+fn head(region: &[u8], at: usize, is_item: bool) -> Result<Head, Fault> {
+    let fault = |kind| (kind, at);
     let kind = region[at] / 16;
     let low = region[at] % 16;
     let reserved = match kind {
@@ -51,14 +53,14 @@ fn head(region: &[u8], at: usize, is_item: bool) -> Result<Head, ErrorKind> {
         _ => false,
     };
     if reserved {
-        return Err(Reserved);
+        return Err(fault(Reserved));
     }
     if is_item && matches!(kind, 6 | 7 | 8 | 11 | 12) {
-        return Err(Nested);
+        return Err(fault(Nested));
     }
     let (mut n, mut end) = (u128::from(low), at + 1);
     if low == 15 {
-        (n, end) = number(region, end)?;
+        (n, end) = number(region, end).map_err(fault)?;
         n += 15;
     }
     let most = match kind {
@@ -67,11 +69,11 @@ fn head(region: &[u8], at: usize, is_item: bool) -> Result<Head, ErrorKind> {
         _ => u128::from(u64::MAX),
     };
     if n > most {
-        return Err(Range);
+        return Err(fault(Range));
     }
     let mut count = 0;
     if kind == 12 {
-        (count, end) = number(region, end)?;
+        (count, end) = number(region, end).map_err(fault)?;
     }
     let left = (region.len() - end) as u128;
     let (bytes, items, least) = match kind {
@@ -84,11 +86,15 @@ fn head(region: &[u8], at: usize, is_item: bool) -> Result<Head, ErrorKind> {
         _ => (0, 0, 0),
     };
     if least > left {
-        return Err(Trunc);
+        return Err(match kind {
+            4 | 5 => (LongBody, end),
+            6 | 7 | 12 => (LongList, end),
+            _ => fault(Trunc),
+        });
     }
     let end = end + bytes as usize;
     if kind == 4 && !is_text(&region[end - n as usize..end]) {
-        return Err(BadText);
+        return Err(fault(BadText));
     }
     Ok(Head { kind, n, items, end })
 }
@@ -122,7 +128,7 @@ fn row(file: &[u8], words: usize) -> Result<(Vec<Plain>, usize), Fault> {
             if at == region.len() {
                 return Err((Trunc, at));
             }
-            let found = head(region, at, at > start).map_err(|kind| (kind, at))?;
+            let found = head(region, at, at > start)?;
             if found.kind >= 14 {
                 let target = row.iter().map(|value| value.start).find(|target| at as u128 == *target as u128 + found.n + 1);
                 targets.push(target.ok_or((BadTarget, at))?);
@@ -253,7 +259,7 @@ fn written_and_spoilt_files() {
             refused.extend(compare(&spoilt, words, more_words).err());
         }
     }
-    for kind in [Trunc, Reserved, Overlong, Range, Nested, BadText, BadTarget, Full, BadEntry] {
+    for kind in [Trunc, LongBody, LongList, Reserved, Overlong, Range, Nested, BadText, BadTarget, Full, BadEntry] {
         assert!(refused.contains(&kind), "{kind}");
     }
 }
