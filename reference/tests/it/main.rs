@@ -1,5 +1,6 @@
 //! Tests of the parts together, on made-up calls and files.
 
+mod ends;
 mod lines;
 mod model;
 mod plain;
