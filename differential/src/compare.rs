@@ -18,6 +18,50 @@ const JUNK_OUT: u64 = 0x5a5a_5a5a_a5a5_a5a5;
 /// The numbers of answers, OK among them.
 pub const ANSWERS: usize = 1 + ErrorKind::ALL.len();
 
+/// What is asked, for the counts of answers.
+#[derive(Clone, Copy, Debug, PartialEq, Eq)]
+pub enum Asked {
+    /// `twine_check`.
+    Check,
+    /// `twine_depths`.
+    Depths,
+    /// `twine_read`.
+    Read,
+    /// `twine_skip`.
+    Skip,
+    /// `twine_item`.
+    Item,
+    /// `twine_follow`.
+    Follow,
+    /// `twine_lookup`.
+    Lookup,
+    /// `twine_body`.
+    Body,
+    /// A call of the writer.
+    Call,
+}
+
+impl Asked {
+    /// What is asked of a file.
+    pub const OF_FILES: [Self; 8] =
+        [Self::Check, Self::Depths, Self::Read, Self::Skip, Self::Item, Self::Follow, Self::Lookup, Self::Body];
+
+    /// The name as it is printed.
+    pub const fn name(self) -> &'static str {
+        match self {
+            Self::Check => "check",
+            Self::Depths => "depths",
+            Self::Read => "read",
+            Self::Skip => "skip",
+            Self::Item => "item",
+            Self::Follow => "follow",
+            Self::Lookup => "lookup",
+            Self::Body => "body",
+            Self::Call => "call",
+        }
+    }
+}
+
 /// An answer's number and its out array.
 type Answer<const N: usize> = (u32, [u64; N]);
 
@@ -25,8 +69,8 @@ type Answer<const N: usize> = (u32, [u64; N]);
 #[derive(Debug)]
 pub struct Comparer<P> {
     product: P,
-    /// How often each answer was met.
-    pub met: [u64; ANSWERS],
+    /// How often each answer was met, by what was asked.
+    met: [[u64; ANSWERS]; Asked::Call as usize + 1],
     file: Guarded<u8>,
     /// A key, or the bytes of a writer's call.
     argument: Guarded<u8>,
@@ -42,7 +86,7 @@ impl<P: Product> Comparer<P> {
     pub fn new(product: P) -> Self {
         Self {
             product,
-            met: [0; ANSWERS],
+            met: [[0; ANSWERS]; Asked::Call as usize + 1],
             file: Guarded::new(0),
             argument: Guarded::new(0x41),
             starts: Guarded::new(0x0bad_cafe),
@@ -51,6 +95,16 @@ impl<P: Product> Comparer<P> {
             expected_starts: Vec::new(),
             expected_depths: Vec::new(),
         }
+    }
+
+    /// How often an answer was met when this was asked.
+    pub fn met_by(&self, asked: Asked, number: u32) -> u64 {
+        self.met[asked as usize][number as usize]
+    }
+
+    /// How often an answer was met.
+    pub fn met(&self, number: u32) -> u64 {
+        self.met.iter().map(|met| met[number as usize]).sum()
     }
 
     /// Asks something of a file, and then checks that it is as it was. `guard` is the byte around the file, which must not
@@ -86,7 +140,7 @@ impl<P: Product> Comparer<P> {
         let number = self.product.check(self.file.slice(), self.starts.slice_mut(), out);
         let expected = reference::check(self.file.slice(), &mut self.expected_starts);
         let question = || format!("check with {words} words");
-        self.compare(number, checked(expected), self.are_tables_same(), question)?;
+        self.compare(Asked::Check, number, checked(expected), self.are_tables_same(), question)?;
         Ok(expected.ok().map(|checked| checked.count))
     }
 
@@ -103,7 +157,7 @@ impl<P: Product> Comparer<P> {
         let (starts, depths) = (&mut self.expected_starts, &mut self.expected_depths);
         let expected = reference::depths(self.file.slice(), starts, depths);
         let question = || format!("depths with {words} and {words2} words");
-        self.compare(number, checked(expected), self.are_tables_same(), question)
+        self.compare(Asked::Depths, number, checked(expected), self.are_tables_same(), question)
     }
 
     /// `twine_read`. Returns the kind and the count of items of a value that can be read.
@@ -114,7 +168,7 @@ impl<P: Product> Comparer<P> {
         let file = self.file.slice();
         let expected = reference::read(file, at);
         let end = reference::skip(file, at);
-        self.compare(number, read(expected, at, end), true, || format!("read at {at}"))?;
+        self.compare(Asked::Read, number, read(expected, at, end), true, || format!("read at {at}"))?;
         Ok(expected.ok().map(Read::of))
     }
 
@@ -124,7 +178,7 @@ impl<P: Product> Comparer<P> {
         let out = array(self.out.slice_mut());
         let number = self.product.skip(self.file.slice(), at as usize, out);
         let expected = reference::skip(self.file.slice(), at);
-        self.compare(number, offset(expected), true, || format!("skip at {at}"))
+        self.compare(Asked::Skip, number, offset(expected), true, || format!("skip at {at}"))
     }
 
     /// `twine_item`.
@@ -133,7 +187,7 @@ impl<P: Product> Comparer<P> {
         let out = array(self.out.slice_mut());
         let number = self.product.item(self.file.slice(), at as usize, index as usize, out);
         let expected = reference::item(self.file.slice(), at, index);
-        self.compare(number, offset(expected), true, || format!("item {index} at {at}"))
+        self.compare(Asked::Item, number, offset(expected), true, || format!("item {index} at {at}"))
     }
 
     /// `twine_follow`.
@@ -143,7 +197,7 @@ impl<P: Product> Comparer<P> {
         let number = self.product.follow(self.file.slice(), at as usize, out);
         let expected = reference::follow(self.file.slice(), at);
         let answer = answer_of(expected, |Followed { offset, hops }| [offset as u64, hops]);
-        self.compare(number, answer, true, || format!("follow at {at}"))
+        self.compare(Asked::Follow, number, answer, true, || format!("follow at {at}"))
     }
 
     /// `twine_lookup`.
@@ -157,7 +211,7 @@ impl<P: Product> Comparer<P> {
         if self.argument.slice() != key || !self.argument.is_guarded() {
             return Err(self.touched("the key", question()));
         }
-        self.compare(number, offset(expected), true, question)
+        self.compare(Asked::Lookup, number, offset(expected), true, question)
     }
 
     /// `twine_body`. That the part of the file which it returns is the body follows from the two numbers.
@@ -167,7 +221,7 @@ impl<P: Product> Comparer<P> {
         let number = self.product.body(self.file.slice(), at as usize, out);
         let expected = reference::query::body_place(self.file.slice(), at);
         let answer = answer_of(expected, |Body { first, length }| [first as u64, length as u64]);
-        self.compare(number, answer, true, || format!("body at {at}"))
+        self.compare(Asked::Body, number, answer, true, || format!("body at {at}"))
     }
 
     /// `twine_spell_error`.
@@ -194,12 +248,13 @@ impl<P: Product> Comparer<P> {
     #[inline]
     fn compare<const N: usize>(
         &mut self,
+        asked: Asked,
         number: u32,
         (expected, out): Answer<N>,
         are_tables_same: bool,
         question: impl FnOnce() -> String,
     ) -> Result<(), Difference> {
-        self.met[expected as usize] += 1;
+        self.met[asked as usize][expected as usize] += 1;
         let is_same = number == expected && self.out.slice() == out && are_tables_same;
         if is_same && self.out.is_guarded() && self.file.is_guarded() {
             return Ok(());
@@ -286,7 +341,7 @@ impl<P: Product> Comparer<P> {
         };
         let number = memory.with_product(|state, out, starts| self.product.call(state, own, out, starts));
         let is_guarded = memory.is_guarded() && self.argument.is_guarded() && self.argument.slice() == bytes;
-        self.met[expected as usize] += 1;
+        self.met[Asked::Call as usize][expected as usize] += 1;
         if number == expected && *memory.state() == state && memory.is_same() && is_guarded {
             return Ok(number);
         }

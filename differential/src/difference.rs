@@ -70,7 +70,9 @@ mod tests {
     #[test]
     fn names() {
         let past = ErrorKind::ALL.len() as u32 + 1;
-        assert_eq!(["OK", "EMPTY", "BAD_TARGET", "no error's number"], [0, 1, 9, past].map(name));
+        assert_eq!(past, 21);
+        assert_eq!(["OK", "EMPTY", "BAD_TARGET", "LONG_BODY", "LONG_LIST"], [0, 1, 9, 19, 20].map(name));
+        assert_eq!(name(past), "no error's number");
     }
 
     #[test]

@@ -17,11 +17,15 @@ mod sections;
 use std::process::ExitCode;
 use std::time::Instant;
 
-use compare::Comparer;
+use compare::{Asked, Comparer};
 use options::{Options, Parsed};
 use product::{Archive, Product};
 use random::Random;
+use reference::ErrorKind;
 use sections::{Case, Section};
+
+/// The errors of a file that ends too early.
+const ENDS: [ErrorKind; 3] = [ErrorKind::Trunc, ErrorKind::LongBody, ErrorKind::LongList];
 
 fn main() -> ExitCode {
     let options = match Options::parse(std::env::args().skip(1)) {
@@ -69,9 +73,16 @@ fn run<P: Product>(product: P, options: &Options) -> Result<(), Failed> {
         };
         println!("{:8} {cases}{of} cases, {:.1} s", section.name, begin.elapsed().as_secs_f64());
     }
-    let met: Vec<String> =
-        (0..).zip(comparer.met).map(|(number, times)| format!("{} {times}", difference::name(number))).collect();
+    let answers = 0..compare::ANSWERS as u32;
+    let met: Vec<String> = answers.map(|number| format!("{} {}", difference::name(number), comparer.met(number))).collect();
     println!("answers: {}", met.join(", "));
+    // Which end was hit, by each call that has to pass it on.
+    for (kind, number) in ENDS.map(|kind| (kind, kind.number().into())) {
+        if comparer.met(number) > 0 {
+            let times = |asked: Asked| format!("{} {}", asked.name(), comparer.met_by(asked, number));
+            println!("{kind}: {}", Asked::OF_FILES.map(times).join(", "));
+        }
+    }
     Ok(())
 }
 
