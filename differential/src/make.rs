@@ -37,7 +37,7 @@ static BYTES: [u8; 400] = {
 };
 
 /// The greatest LEB128 numbers that matter: around the bounds of kinds, of 32 and of 64 bits.
-const BOUNDS: [u64; 14] = [
+const BOUNDS: [u64; 17] = [
     0,
     127,
     128,
@@ -45,10 +45,29 @@ const BOUNDS: [u64; 14] = [
     1 << 14,
     u32::MAX as u64 - 15,
     u32::MAX as u64 - 14,
+    (1 << 62) - 16,
+    (1 << 62) - 15,
+    1 << 62,
     (1 << 63) - 16,
     (1 << 63) - 15,
     (1 << 63) - 1,
     1 << 63,
+    u64::MAX - 15,
+    u64::MAX - 14,
+    u64::MAX,
+];
+
+/// Great lengths and counts: some are 0 or small when they are doubled, or when 15 is added, in 64 bits.
+const GREAT: [u64; 12] = [
+    1 << 16,
+    1 << 24,
+    1 << 31,
+    1 << 32,
+    1 << 62,
+    (1 << 62) + 1,
+    (1 << 63) - 1,
+    1 << 63,
+    (1 << 63) + 1,
     u64::MAX - 15,
     u64::MAX - 14,
     u64::MAX,
@@ -339,6 +358,108 @@ impl Builder<'_> {
     }
 }
 
+/// A well-formed file that is to be cut at each of its bytes: of at most 100 bytes, or with a list whose count takes two.
+pub fn cuttable(random: &mut Random) -> Vec<u8> {
+    match random.below(8) {
+        0 => {
+            let mut file = b"\x41k".to_vec();
+            let count = 128 + 15 + random.below(60);
+            let kind = random.pick(&[6, 7, 12]);
+            if kind == 12 {
+                let index = random.number() as u32;
+                head(&mut file, 12, index.into());
+                number(&mut file, count);
+            } else {
+                head(&mut file, kind, count);
+            }
+            let items = if kind == 7 { 2 * count } else { count };
+            for _ in 0..items {
+                file.extend(random.pick(&[&[0x10][..], &[0x10], &[0x01], &[0xa1], b"\x41k", &[0x1f, 0x1b]]));
+            }
+            // The delta leads to the value after the list.
+            file.extend([0x02, 0x00]);
+            file
+        }
+        1..=3 => {
+            let length = random.index(70);
+            let file = built(random, length, 0);
+            if file.len() <= 100 {
+                file
+            } else {
+                written(random, 90)
+            }
+        }
+        _ => {
+            let longest = 20 + random.index(75);
+            written(random, longest)
+        }
+    }
+}
+
+/// A file of fewer than 100 bytes in which a text, a byte string or a list has a length or count that is about, or far more
+/// than, what the bytes left allow. It is a value or, if it may be one, an item; pointers and keys after it lead to it.
+pub fn overstated(random: &mut Random) -> Vec<u8> {
+    let mut file = Vec::new();
+    for _ in 0..random.below(4) {
+        file.extend(random.pick(&[&[0x10][..], b"\x41k", &[0xa3], &[0x62, 0x11, 0x12], &[0x30, 1, 2, 3, 4]]));
+    }
+    let kind = random.pick(&[4, 5, 4, 5, 6, 7, 7, 12]);
+    let left: u64 = random.pick(&[0, 1, 2, 3, 4, 5, 9, 14, 15, 16, 17, 30, 31]);
+    // A list in a list is NESTED, whatever its count is.
+    if kind < 6 && random.one_in(2) {
+        let holder =
+            random.pick(&[&[0x61][..], &[0x63, 0x10, 0x11], &[0x71], &[0x71, 0x41, b'k'], &[0x80], &[0xb0], &[0xc0, 0x01]]);
+        file.extend(holder);
+    }
+    let at = file.len();
+    let most = if kind == 7 { left / 2 } else { left };
+    let n = match random.below(8) {
+        0 => most,
+        1 => most.saturating_sub(1),
+        2..=3 => most + 1,
+        4 => most + 1 + random.below(200),
+        _ => random.pick(&GREAT),
+    };
+    if kind == 12 {
+        let index = random.pick(&[0, 14, 15, 142, 143, 1 << 20, u32::MAX.into()]);
+        head(&mut file, 12, index);
+        number(&mut file, n);
+    } else if n > u64::MAX - 15 || random.one_in(8) {
+        // The number itself is so great, and 15 more may be too great.
+        file.push(kind << 4 | 15);
+        number(&mut file, n);
+    } else {
+        head(&mut file, kind, n);
+    }
+    let end = file.len() + left as usize;
+    while file.len() < end {
+        if random.one_in(4) {
+            file.push(0x71);
+        }
+        match random.below(4) {
+            0 => file.extend(b"\x41k"),
+            1 => file.push(0x02),
+            _ => {
+                let distance = file.len() - at - 1;
+                head(&mut file, 15, distance as u64);
+            }
+        }
+    }
+    file.truncate(end);
+    file.push(random.below(4) as u8);
+    file
+}
+
+/// Appends a header and its number.
+fn head(bytes: &mut Vec<u8>, kind: u8, n: u64) {
+    if n < 15 {
+        bytes.push(kind << 4 | n as u8);
+    } else {
+        bytes.push(kind << 4 | 15);
+        number(bytes, n - 15);
+    }
+}
+
 /// A file with a few damages.
 pub fn damaged(random: &mut Random, file: &[u8]) -> Vec<u8> {
     let mut file = file.to_vec();
@@ -425,5 +546,85 @@ mod tests {
             accepted[1] += u32::from(is_accepted(&built(&mut random, 60, 20)));
         }
         assert!(accepted.iter().all(|accepted| (20..1500).contains(accepted)), "{accepted:?}");
+    }
+
+    /// A header and its number that a file is refused for.
+    #[derive(Debug)]
+    struct Refused {
+        error: reference::Error,
+        /// Its own offset.
+        at: usize,
+        kind: u8,
+        is_item: bool,
+        /// The length of the region.
+        end: usize,
+    }
+
+    /// What check refuses a file for, if that is one of its tokens.
+    fn refused(file: &[u8]) -> Option<Refused> {
+        let (_, region) = file.split_last()?;
+        let (mut at, mut pending) = (0, 0);
+        for token in reference::tokens(region) {
+            match token {
+                Ok(token) => {
+                    pending = if pending == 0 { token.items } else { pending - 1 };
+                    at = token.end;
+                }
+                Err(error) => {
+                    let kind = region.get(at).copied().unwrap_or_default() >> 4;
+                    return Some(Refused { error, at, kind, is_item: pending > 0, end: region.len() });
+                }
+            }
+        }
+        None
+    }
+
+    #[test]
+    fn lengths_and_counts_are_overstated_in_every_kind() {
+        let refused: Vec<Refused> =
+            (0..4000).filter_map(|case| refused(&overstated(&mut Random::new(1, "make", case)))).collect();
+        let times = |error: ErrorKind, is_such: &dyn Fn(&Refused) -> bool| {
+            refused.iter().filter(|refused| refused.error.kind == error && is_such(refused)).count()
+        };
+        for is_item in [false, true] {
+            for kind in [4, 5] {
+                assert!(times(ErrorKind::LongBody, &|refused| (refused.kind, refused.is_item) == (kind, is_item)) > 100);
+            }
+            assert!(times(ErrorKind::Range, &|refused| refused.is_item == is_item) > 20);
+        }
+        for kind in [6, 7, 12] {
+            assert!(times(ErrorKind::LongList, &|refused| refused.kind == kind) > 100);
+        }
+        for error in [ErrorKind::LongBody, ErrorKind::LongList] {
+            let numbers = |refused: &Refused| refused.error.place as usize - refused.at;
+            for bytes in [1, 2, 3, 6, 10, 11] {
+                assert!(times(error, &|refused| numbers(refused) == bytes) > 10, "{error} after {bytes} bytes");
+            }
+            assert!(times(error, &|refused| refused.error.place as usize == refused.end) > 50, "{error} at the end");
+        }
+        for odd in [0, 1] {
+            let left = |refused: &Refused| refused.end - refused.error.place as usize;
+            assert!(times(ErrorKind::LongList, &|refused| refused.kind == 7 && left(refused) % 2 == odd) > 50);
+        }
+        assert!(times(ErrorKind::LongList, &|refused| refused.kind == 12 && refused.error.place as usize - refused.at > 11) > 10);
+    }
+
+    #[test]
+    fn files_that_are_cut_were_well_formed() {
+        let mut ends = [[0; 2]; 3];
+        for case in 0..200 {
+            let mut file = cuttable(&mut Random::new(1, "make", case));
+            assert!(is_accepted(&file), "{case}");
+            while file.pop().is_some() {
+                if let Some(Refused { error, is_item, .. }) = refused(&file) {
+                    let end = crate::ENDS.iter().position(|end| *end == error.kind);
+                    ends[end.expect("an end")][usize::from(is_item)] += 1;
+                }
+            }
+        }
+        // A list is not an item.
+        assert_eq!(ends[2][1], 0);
+        ends[2][1] = ends[2][0];
+        assert!(ends.as_flattened().iter().all(|times| *times > 100), "{ends:?}");
     }
 }

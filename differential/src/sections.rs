@@ -38,7 +38,7 @@ pub struct Case {
 const SHORT: u64 = 1 + (1 << 8) + (1 << 16) + (1 << 24);
 
 /// All sections in their order.
-pub fn all<P: Product>() -> [Section<P>; 9] {
+pub fn all<P: Product>() -> [Section<P>; 10] {
     let section = |name, share, run| Section { name, cases: None, share, stride: 1, run };
     [
         Section { cases: Some(40), ..section("names", 1, names) },
@@ -46,6 +46,7 @@ pub fn all<P: Product>() -> [Section<P>; 9] {
         section("written", 15, written),
         section("built", 15, built),
         section("damaged", 20, damaged),
+        section("ends", 15, ends),
         section("calls", 12, calls),
         section("states", 12, states),
         section("edge", 6, edge),
@@ -116,6 +117,21 @@ fn damaged<P: Product>(comparer: &mut Comparer<P>, mut case: Case) -> Result<(),
     };
     let file = make::damaged(random, &file);
     whole(comparer, random, &file)
+}
+
+/// Files that announce more than they have: well-formed ones cut at every byte, and lengths and counts that are too great.
+fn ends<P: Product>(comparer: &mut Comparer<P>, mut case: Case) -> Result<(), Difference> {
+    let random = &mut case.random;
+    if !case.number.is_multiple_of(16) {
+        let file = make::overstated(random);
+        return whole(comparer, random, &file);
+    }
+    let mut file = make::cuttable(random);
+    // The last byte that is left is the delta.
+    while file.pop().is_some() {
+        whole(comparer, random, &file)?;
+    }
+    Ok(())
 }
 
 /// A file, of a length for all queries most often.
@@ -246,7 +262,7 @@ fn long_file(random: &mut Random, length: usize) -> Vec<u8> {
         file.push(kind << 4 | 15);
         make::number(file, n as u64 - 15);
     };
-    match random.below(7) {
+    match random.below(8) {
         0 => {
             // Pointers one after the other.
             file.push(0x10);
@@ -283,8 +299,25 @@ fn long_file(random: &mut Random, length: usize) -> Vec<u8> {
                 file[place] ^= 0x80;
             }
         }
+        4 => {
+            // A length or count of about the bytes left, or half of them.
+            let kind = random.pick(&[4, 5, 6, 7, 12]);
+            let with = |n: usize| {
+                let mut numbers = Vec::new();
+                if kind == 12 {
+                    numbers.push(0xc3);
+                    make::number(&mut numbers, n as u64);
+                } else {
+                    head(&mut numbers, kind, n);
+                }
+                numbers
+            };
+            // What is left depends on how many bytes the number takes.
+            let most = (0..3).fold(part, |n, _| (length - 1 - with(n).len()) / if kind == 7 { 2 } else { 1 });
+            file = with(most + random.index(3) - 1);
+        }
         kind => {
-            let odd = if kind == 4 { 100_000 } else { 0 };
+            let odd = if kind == 5 { 100_000 } else { 0 };
             file = make::built(random, part - 1000, odd);
             file.pop();
         }
@@ -464,4 +497,24 @@ fn listed(random: &mut Random, length: usize, words: usize) -> Vec<u32> {
         _ => {}
     }
     starts
+}
+
+#[cfg(test)]
+mod tests {
+    use super::*;
+    use reference::ErrorKind;
+
+    #[test]
+    fn some_long_files_announce_more_than_they_have() {
+        let kinds = (0..300).filter_map(|case| {
+            let mut random = Random::new(1, "long", case);
+            let length = 70_000 + random.index(1 << 12);
+            let file = long_file(&mut random, length);
+            reference::check(&file, &mut vec![0; length]).err().map(|error| error.kind)
+        });
+        let kinds: Vec<ErrorKind> = kinds.collect();
+        for kind in [ErrorKind::LongBody, ErrorKind::LongList] {
+            assert!(kinds.iter().filter(|met| **met == kind).count() >= 3, "{kind}");
+        }
+    }
 }
