@@ -4,10 +4,13 @@ use std::time::Duration;
 
 use reference::Call;
 
+use crate::compare::{Asked, Comparer};
 use crate::ffi::{self, STATE};
 use crate::options::Options;
 use crate::product::{Archive, Product};
-use crate::{run, Failed};
+use crate::random::Random;
+use crate::sections::{self, Case};
+use crate::{run, Failed, ENDS};
 
 /// The archive with a fault.
 #[derive(Clone, Copy, Debug, PartialEq, Eq)]
@@ -34,6 +37,39 @@ enum Fault {
     Listed,
     /// The name of error 8 lacks its last letter.
     Name,
+    /// Check has the place of a long list at its header.
+    Header,
+    /// Reading has the place of a long list of arguments before their count.
+    Count,
+    /// Reading takes a map of 2^63 pairs for an empty one.
+    Doubled,
+    /// Item access reports a long list as a long body.
+    List,
+    /// Skipping reports a long body of an item as cut.
+    Skipped,
+    /// Looking up reports a long body in the map as cut.
+    LookedUp,
+    /// Following reports a long list at the end of pointers as cut.
+    Followed,
+    /// The body reports a long body as cut, at its header.
+    Body,
+    /// Depths has the place of a long body at the end of the region.
+    End,
+    /// Check reports a length of 2^64 or more as a long body.
+    Range,
+}
+
+const TRUNC: u32 = 3;
+const RANGE: u32 = 6;
+const LONG_BODY: u32 = 19;
+const LONG_LIST: u32 = 20;
+
+/// The header and the number of a map of 2^63 pairs.
+const PAIRS: [u8; 10] = [0x7f, 0xf1, 0xff, 0xff, 0xff, 0xff, 0xff, 0xff, 0xff, 0x7f];
+
+/// The kind of the value at an offset.
+fn kind(file: &[u8], at: usize) -> Option<u8> {
+    file.get(at).map(|header| header >> 4)
 }
 
 impl Product for Fault {
@@ -58,14 +94,34 @@ impl Product for Fault {
                 }
                 number
             }
+            Self::Header if number == LONG_LIST => {
+                out[0] -= 1;
+                number
+            }
+            Self::Range if number == RANGE && matches!(kind(file, out[0] as usize), Some(4 | 5)) => LONG_BODY,
             _ => number,
         }
     }
 
     fn depths(&self, file: &[u8], starts: &mut [u32], depths: &mut [u32], out: &mut [u64; 2]) -> u32 {
         let number = ffi::depths(file, starts, depths, out);
-        if *self == Self::Depth && number == 0 {
-            depths[out[0] as usize - 1] += 1;
+        match self {
+            Self::Depth if number == 0 => depths[out[0] as usize - 1] += 1,
+            Self::End if number == LONG_BODY => out[0] = file.len() as u64 - 1,
+            _ => {}
+        }
+        number
+    }
+
+    fn read(&self, file: &[u8], at: usize, out: &mut [u64; 4]) -> u32 {
+        let number = ffi::read(file, at, out);
+        match self {
+            Self::Count if number == LONG_LIST && kind(file, at) == Some(12) => out[0] -= 1,
+            Self::Doubled if number == LONG_LIST && file[at..].starts_with(&PAIRS) => {
+                *out = [7, 1 << 63, out[0], 0];
+                return 0;
+            }
+            _ => {}
         }
         number
     }
@@ -73,15 +129,29 @@ impl Product for Fault {
     fn skip(&self, file: &[u8], at: usize, out: &mut [u64; 2]) -> u32 {
         let before = out[1];
         let number = ffi::skip(file, at, out);
-        if *self == Self::Out && number > 0 {
-            out[1] = before;
+        match self {
+            Self::Out if number > 0 => out[1] = before,
+            Self::Skipped if number == LONG_BODY && !matches!(kind(file, at), Some(4 | 5)) => return TRUNC,
+            _ => {}
         }
         number
     }
 
     fn item(&self, file: &[u8], at: usize, index: usize, out: &mut [u64; 2]) -> u32 {
         let index = if *self == Self::Index { index as u32 as usize } else { index };
-        ffi::item(file, at, index, out)
+        let number = ffi::item(file, at, index, out);
+        if *self == Self::List && number == LONG_LIST {
+            return LONG_BODY;
+        }
+        number
+    }
+
+    fn follow(&self, file: &[u8], at: usize, out: &mut [u64; 2]) -> u32 {
+        let number = ffi::follow(file, at, out);
+        if *self == Self::Followed && number == LONG_LIST && kind(file, at) == Some(15) {
+            return TRUNC;
+        }
+        number
     }
 
     fn lookup(&self, file: &[u8], at: usize, key: &[u8], out: &mut [u64; 2]) -> u32 {
@@ -89,7 +159,20 @@ impl Product for Fault {
             Some((_, shorter)) if *self == Self::Key => shorter,
             _ => key,
         };
-        ffi::lookup(file, at, key, out)
+        let number = ffi::lookup(file, at, key, out);
+        if *self == Self::LookedUp && number == LONG_BODY && kind(file, at) == Some(7) {
+            return TRUNC;
+        }
+        number
+    }
+
+    fn body(&self, file: &[u8], at: usize, out: &mut [u64; 2]) -> u32 {
+        let number = ffi::body(file, at, out);
+        if *self == Self::Body && number == LONG_BODY {
+            out[0] -= 1;
+            return TRUNC;
+        }
+        number
     }
 
     fn call(&self, state: &mut [u64; STATE], call: Call<'_>, out: &mut [u8], starts: &mut [u32]) -> u32 {
@@ -133,6 +216,26 @@ fn every_fault_is_found_and_found_again() {
         (Fault::Byte, "calls"),
         (Fault::Listed, "states"),
         (Fault::Name, "names"),
+        (Fault::Header, "short"),
+        (Fault::Header, "ends"),
+        (Fault::Count, "built"),
+        (Fault::Count, "ends"),
+        (Fault::Doubled, "damaged"),
+        (Fault::Doubled, "ends"),
+        (Fault::List, "damaged"),
+        (Fault::List, "ends"),
+        (Fault::Skipped, "damaged"),
+        (Fault::Skipped, "ends"),
+        (Fault::LookedUp, "damaged"),
+        (Fault::LookedUp, "ends"),
+        (Fault::Followed, "damaged"),
+        (Fault::Followed, "ends"),
+        (Fault::Body, "short"),
+        (Fault::Body, "ends"),
+        (Fault::End, "built"),
+        (Fault::End, "ends"),
+        (Fault::Range, "built"),
+        (Fault::Range, "ends"),
     ];
     for (fault, section) in faults {
         let Err(Failed { case }) = run_only(fault, section, 30, None) else {
@@ -144,7 +247,24 @@ fn every_fault_is_found_and_found_again() {
 
 #[test]
 fn the_archive_has_no_fault() {
-    for section in ["names", "written", "built", "damaged", "calls", "states"] {
+    for section in ["names", "written", "built", "damaged", "ends", "calls", "states"] {
         assert_eq!(run_only(Archive, section, 1, None), Ok(()), "{section}");
+    }
+}
+
+/// "Every caller that passes a refusal on passes the new ones": each of them meets each end, and often.
+#[test]
+fn every_call_meets_every_end() {
+    let mut comparer = Comparer::new(Archive);
+    let section = sections::all().into_iter().find(|section| section.name == "ends").expect("the section");
+    for number in 0..200 {
+        let case = Case { number, random: Random::new(1, section.name, number) };
+        assert_eq!((section.run)(&mut comparer, case), Ok(()), "case {number}");
+    }
+    for kind in ENDS {
+        for asked in Asked::OF_FILES {
+            let met = comparer.met_by(asked, kind.number().into());
+            assert!(met > 100, "{kind} of {} {met} times", asked.name());
+        }
     }
 }
