@@ -294,9 +294,9 @@ fn immediates_cut_at_every_byte() {
     layout.targeting(14, immediates.len());
     layout.targeting(14, 0);
     let met = assert_cuts(&layout);
-    // Each byte of a body but its last is a cut within it, and so is the end of the numbers before it.
+    // A body of that many bytes is cut after its numbers, and after each of its bytes but the last.
     assert_eq!(count(&met, LongBody), 1 + 14 + 15 + 143 + 3 + 142 + 300);
-    // Numbers: each byte of theirs, where the header is all that is left the first time; then floats.
+    // A number or float of that many bytes is cut after the header, and after each of its bytes but the last.
     assert_eq!(count(&met, Trunc), 9 + 3 + 4 + 8 + 1 + 2 + 1 + 2 + 5 + 2 + 2);
     assert_eq!(count(&met, LongList), 0);
 }
@@ -343,7 +343,7 @@ fn lists_of_short_items_are_long_at_every_cut() {
     }
 }
 
-/// A map of one pair in which the key is one of the immediates, then the value: looked up at every cut.
+/// A map of two pairs, the first of them with each immediate as its key and each as its value: looked up at every cut.
 #[test]
 fn lookups_at_every_cut() {
     let immediates = immediates();
