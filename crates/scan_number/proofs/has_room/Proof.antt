@@ -35,12 +35,16 @@ module _ (r : Rule) (n left : ℕ) where
   room-need : leb need left ≡ leb (size r n + r .each * n) left
   room-need = rw need-is
 
-  -- if n counts anything, it is at most `left`
-  need-lt : Row r → n ≤ r .most → left < 2 ^ 63 → ltb 0 unit && ltb left n ≡ false → r .fixed + unit * n < 2 ^ 64
-  need-lt row h l e =
+  -- if n counts anything, it is at most `left`, and no factor up to the unit wraps
+  need-lt : (u : ℕ) → u ≤ unit → Row r → n ≤ r .most → left < 2 ^ 63 → ltb 0 unit && ltb left n ≡ false → r .fixed + u * n < 2 ^ 64
+  need-lt u most row h l e =
       and-false (ltb 0 unit) (ltb left n) e
-      (λ none. let z : unit ≡ 0 = omega facts in rw z (omega (arith, zero-mul n, row .need)))
-      (λ some. let m : n ≤ min (r .most) (2 ^ 63 - 1) = omega facts in omega (arith, mul-le-mul-left unit m, row .need))
+      (λ none. let z : u ≡ 0 = omega facts in rw z (omega (arith, zero-mul n, row .need)))
+      (λ some. let m : n ≤ min (r .most) (2 ^ 63 - 1) = omega facts in omega (arith, mul-le-mul-left unit m, mul-le-mul-right n most, row .need))
+
+-- what the code multiplies n with
+abbrev factor : Rule → ℕ
+factor r = r .scale + r .each
 
 pub has-room-spec : {M : Type 1} → statement M
 has-room-spec =
@@ -48,6 +52,6 @@ has-room-spec =
     (tie.spec
     (λ c. search needs)
     (λ c. room-count (c .before .before .args .rule) _ _ (c .if1 .taken))
-    (λ c. let a = c .before .before in omega (arith, need-lt (a .args .rule) _ _ (a .pre .0) (a .pre .1) (a .pre .2) (c .if1 .left)))
-    (λ c. let a = c .before .before .before in omega (arith, need-lt (a .args .rule) _ _ (a .pre .0) (a .pre .1) (a .pre .2) (c .before .if1 .left)))
+    (λ c. let a = c .before .before in omega (arith, need-lt (a .args .rule) _ _ (factor (a .args .rule)) (omega arith) (a .pre .0) (a .pre .1) (a .pre .2) (c .if1 .left)))
+    (λ c. let a = c .before .before .before in omega (arith, need-lt (a .args .rule) _ _ (factor (a .args .rule)) (omega arith) (a .pre .0) (a .pre .1) (a .pre .2) (c .before .if1 .left)))
     (λ c. room-need (c .before .before .before .args .rule) _ _))
