@@ -44,7 +44,8 @@ pub fn has_room(rule: Rule, n: u64, left: u64) -> bool
     requires { ⌜ (Row rule) × (n ≤ rule .most) × (left < 2 ^ 63) ⌝ }
     ensures { λ r. ⌜ r ≡ leb (size rule n + rule .each * n) left ⌝ }
 {
-    let unit = rule.scale + rule.each;
+    let scale = rule.scale;
+    let unit = scale + rule.each;
     if (0 < unit) & (left < n) {
         return false;
     }
