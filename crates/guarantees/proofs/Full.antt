@@ -16,6 +16,7 @@ use lib.Seq.{take-at, take-append-le}
 use Rattle.prelude.specs.Pick.{pick}
 use Rattle.prelude.specs.Answer.{Answer, ok, error, bind}
 use Rattle.prelude.specs.Bytes.{Bytes}
+use Rattle.prelude.specs.Search.{among}
 use Rattle.prelude.specs.Loop.{Turn, go, stop, follow, run, from}
 use Rattle.prelude.proofs.Tests.{split}
 use Rattle.prelude.proofs.Searches.{rising-ge}
@@ -50,12 +51,13 @@ full-by {X} file cap p e k = by-failed (failed file cap (fault FULL p) (answer-e
 
 overfull : (file : List ℕ) (cap p : ℕ) → Bytes file → (w : Whole file) → error (fault FULL p) ≡ startsFrom (w .region) cap (between 0 [])
     → Overfull file cap p
+unfolding among
 overfull file cap p b w e =
     let s = w .region in
     let r = subst (Ends s cap (WalkedValues s)) (sym e) (walked-ends s cap (bytes-whole file w b)) in
     let (between, none) = refused-full (r .refused) refl in
     let v = walked-between s (r .walk) between (r .holds) in
-    let here : p ≡ r .walk .at = placed-at (refused-placed (r .refused)) (omega arith) in
+    let here : p ≡ r .walk .at = placed-at (refused-placed (r .refused)) refl in
     let place : length (region (v .values)) ≡ p = sym (here ∙ v .at) in
     let front : file ≡ region (v .values) ++ (v .rest ++ (w .delta ∷ [])) =
     w .same ∙ rw (← append-assoc) (ap (λ x. x ++ (w .delta ∷ [])) (v .same)) in

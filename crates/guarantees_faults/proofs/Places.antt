@@ -2,10 +2,10 @@
 --
 -- In order: of a token, by its head, the number (`head-known`) and the place (`head-placed`); the same in check's walk (`refused-known`,
 -- `refused-placed`), where FULL is of a value that has no word (`refused-full`).
-use mathlib.Core.Path.{_≡_, refl}
+use mathlib.Core.Path.{_≡_, refl, sym, _∙_}
 use mathlib.Core.Bool.{Bool, true, false, not, false≢true}
 use mathlib.Core.List.{List, [], _∷_, _++_}
-use Prim.Native.Nat.{ℕ, _≤_, _<_}
+use Prim.Native.Nat.{ℕ, _≤_}
 use native.Mathlib.Omega.{arith}
 use lib.Dec.{ltb, eqb}
 use lib.ListN.{length}
@@ -16,7 +16,7 @@ use Rattle.prelude.proofs.Tests.{and-l, and-r}
 use Rattle.prelude.proofs.Tables.{every}
 use Rattle.values.proofs.Members.{each-among, each-every}
 use Rattle.guarantees_faults.specs.Faults as faults
-use Rattle.guarantees_faults.specs.Faults.{BadNumber, Exceeds, RefusedHead, Placed, RefusedToken}
+use Rattle.guarantees_faults.specs.Faults.{longErrors, BadNumber, Exceeds, RefusedHead, Placed, RefusedToken}
 
 -- ---- by the head
 
@@ -53,19 +53,20 @@ module _ {s : List ℕ} {inner : Bool} {q : ℕ} where
   head-known (faults.long c x) = exceeds-each (λ e. among e (tokenErrors inner) ≡ true) refl refl x
 
   pub head-placed : {f : Fault} → RefusedHead s inner q f → Placed s inner q f
-  head-placed (faults.ended l) = faults.header (omega arith) refl
-  head-placed (faults.reserved x low) = faults.header (omega arith) refl
-  head-placed (faults.nested x low item deep) = faults.header (omega arith) refl
-  head-placed (faults.number u low x) = faults.header (number-each (λ e. e < LONG_BODY) (omega arith) (omega arith) (omega arith) x) refl
-  head-placed (faults.over u v high) = faults.header (omega arith) refl
-  head-placed (faults.second r two x) = faults.header (number-each (λ e. e < LONG_BODY) (omega arith) (omega arith) (omega arith) x) refl
-  head-placed (faults.float c three l) = faults.header (omega arith) refl
-  head-placed (faults.long c x) = faults.numbers c (exceeds-each (λ e. LONG_BODY ≤ e) (omega arith) (omega arith) x) refl
+  unfolding among
+  head-placed (faults.ended l) = faults.header refl refl
+  head-placed (faults.reserved x low) = faults.header refl refl
+  head-placed (faults.nested x low item deep) = faults.header refl refl
+  head-placed (faults.number u low x) = faults.header (number-each (λ e. among e longErrors ≡ false) refl refl refl x) refl
+  head-placed (faults.over u v high) = faults.header refl refl
+  head-placed (faults.second r two x) = faults.header (number-each (λ e. among e longErrors ≡ false) refl refl refl x) refl
+  head-placed (faults.float c three l) = faults.header refl refl
+  head-placed (faults.long c x) = faults.numbers c (exceeds-each (λ e. among e longErrors ≡ true) refl refl x) refl
 
 -- the header's offset, for all errors but two
-pub placed-at : {s : List ℕ} {inner : Bool} {q : ℕ} {f : Fault} → Placed s inner q f → f .number < LONG_BODY → f .place ≡ q
-placed-at (faults.header l e) low = e
-placed-at (faults.numbers c l e) low = absurd (omega arith)
+pub placed-at : {s : List ℕ} {inner : Bool} {q : ℕ} {f : Fault} → Placed s inner q f → among (f .number) longErrors ≡ false → f .place ≡ q
+placed-at (faults.header l e) other = e
+placed-at (faults.numbers c l e) other = absurd (false≢true (sym other ∙ l))
 
 -- ---- in check's walk
 
@@ -95,10 +96,11 @@ module _ {s : List ℕ} {cap : ℕ} {done : List ℕ} {pending q : ℕ} where
   refused-known (faults.target w x text ref wrong) = refl
 
   pub refused-placed : {f : Fault} → RefusedToken s cap done pending q f → Placed s (ltb 0 pending) q f
-  refused-placed (faults.full z c) = faults.header (omega arith) refl
+  unfolding among
+  refused-placed (faults.full z c) = faults.header refl refl
   refused-placed (faults.head w x) = head-placed x
-  refused-placed (faults.text w x four wrong) = faults.header (omega arith) refl
-  refused-placed (faults.target w x text ref wrong) = faults.header (omega arith) refl
+  refused-placed (faults.text w x four wrong) = faults.header refl refl
+  refused-placed (faults.target w x text ref wrong) = faults.header refl refl
 
   pub refused-full : {f : Fault} → RefusedToken s cap done pending q f → f .number ≡ FULL → (pending ≡ 0) × (cap ≤ length done)
   refused-full (faults.full z c) e = (z, c)

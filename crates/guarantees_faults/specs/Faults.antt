@@ -9,6 +9,7 @@
 --   Number s n rest      the bytes s are the number n in its shortest form, and then `rest`
 --   BadNumber s e        s begins with no number, for the reason e
 --   NumberIf w s n rest  the same as `Number` if w is true; else there is none, and n is 0
+--   longErrors           LONG_BODY and LONG_LIST
 --   Exceeds k n a left e the length or count that a token of kind k announces, by n or by the argument count a, exceeds the `left` bytes after its numbers,
 --                        or half of them if it counts pairs; the error is e
 --
@@ -20,7 +21,7 @@
 --   Counted h n a m      .. and a is its second number, or 0 if its kind has none
 --   Whole h n b          .. and its body b is in the region, and a byte for each item that it counts
 --   RefusedHead f        the token is refused with f, number and place, for what its header, numbers and counts say
---   Placed f             the place of f is the header's offset; of LONG_BODY and LONG_LIST, and of no other, it is the offset just after the numbers
+--   Placed f             the place of f is q, the header's offset; if f is one of `longErrors`, it is the offset just after the numbers
 --
 -- In check's walk `done` are the starts of the values before it, `cap` is how many words the table has, and `pending` how many items are pending in the
 -- open value, or 0 if there is none and a new value is wanted.
@@ -64,6 +65,9 @@ pub data NumberIf : Bool → List ℕ → ℕ → List ℕ → Type 0 where
   some : {s : List ℕ} {n : ℕ} {rest : List ℕ} → Number s n rest → NumberIf true s n rest
 
 -- ---- lengths and counts
+
+abbrev pub longErrors : List ℕ
+longErrors = LONG_BODY ∷ LONG_LIST ∷ []
 
 pub data Exceeds (k n a left : ℕ) : ℕ → Type 0 where
   -- the length of a text, and of a byte string
@@ -127,8 +131,8 @@ module _ (s : List ℕ) (inner : Bool) (q : ℕ) where
     long : {h n a e : ℕ} {m : List ℕ} → Counted h n a m → Exceeds (h / 16) n a (length m) e → RefusedHead (fault e (length s - length m))
 
   pub data Placed (f : Fault) : Type 0 where
-    header : f .number < LONG_BODY → f .place ≡ q → Placed f
-    numbers : {h n a : ℕ} {m : List ℕ} → Counted h n a m → LONG_BODY ≤ f .number → f .place ≡ length s - length m → Placed f
+    header : among (f .number) longErrors ≡ false → f .place ≡ q → Placed f
+    numbers : {h n a : ℕ} {m : List ℕ} → Counted h n a m → among (f .number) longErrors ≡ true → f .place ≡ length s - length m → Placed f
 
 -- ---- a token in check's walk
 
