@@ -33,7 +33,7 @@ use Rattle.guarantees.proofs.Files.{Whole, whole, length-whole, bytes-w
 use Rattle.guarantees.proofs.Files.{answer-error, found-ok, Failed, early, walking, last, failed}
 use Rattle.guarantees.proofs.Accepts.{walks-prefix}
 use Rattle.guarantees.proofs.WalkValues.{WalkedValues, walked-between}
-use Rattle.guarantees.proofs.Ends.{Ends, walk-ends}
+use Rattle.guarantees.proofs.Ends.{Ends, Stuck, walk-ends}
 use Rattle.guarantees.proofs.Accepted.{walked-ends}
 
 -- ---- when FULL is the answer
@@ -49,14 +49,11 @@ full-by {X} file cap p e k = by-failed (failed file cap (fault FULL p) (answer-e
     by-failed (walking w q) = k w q
     by-failed (last w done walked q none) = absurd (omega (arith, ap (λ (x : Fault). x .number) q))
 
-overfull : (file : List ℕ) (cap p : ℕ) → Bytes file → (w : Whole file) → error (fault FULL p) ≡ startsFrom (w .region) cap (between 0 [])
-    → Overfull file cap p
+overfull-at : (file : List ℕ) (cap p : ℕ) (w : Whole file) → Stuck (w .region) cap (WalkedValues (w .region)) (fault FULL p) → Overfull file cap p
 unfolding among
-overfull file cap p b w e =
-    let s = w .region in
-    let r = subst (Ends s cap (WalkedValues s)) (sym e) (walked-ends s cap (bytes-whole file w b)) in
+overfull-at file cap p w r =
     let (between, none) = refused-full (r .refused) refl in
-    let v = walked-between s (r .walk) between (r .holds) in
+    let v = walked-between (w .region) (r .walk) between (r .holds) in
     let here : p ≡ r .walk .at = placed-at (refused-placed (r .refused)) refl in
     let place : length (region (v .values)) ≡ p = sym (here ∙ v .at) in
     let front : file ≡ region (v .values) ++ (v .rest ++ (w .delta ∷ [])) =
@@ -70,6 +67,12 @@ overfull file cap p b w e =
       place = place;
       more = omega (arith, r .inside between, here, length-whole file w);
     }
+
+overfull : (file : List ℕ) (cap p : ℕ) → Bytes file → (w : Whole file) → error (fault FULL p) ≡ startsFrom (w .region) cap (between 0 [])
+    → Overfull file cap p
+overfull file cap p b w e =
+    let s = w .region in
+    overfull-at file cap p w (subst (Ends s cap (WalkedValues s)) (sym e) (walked-ends s cap (bytes-whole file w b)))
 
 -- the walk goes through the values, and has no word for the next
 overfull-full : (file : List ℕ) (cap p : ℕ) → Overfull file cap p → (w : Whole file)
