@@ -1,8 +1,9 @@
 -- Depths of a well-formed file: what `depths` returns is the depth as paths define it.
 --
 -- In order: where a value ends; the greatest depth that the tokens of a value reach; the depths from left to right;
--- `depth-exact`.
+-- `depth-exact`; what depths refuses (`depths-zero`, `depths-errors`, `depths-refused-exactly`).
 use mathlib.Core.Path.{_≡_, refl, sym, ap, _∙_}
+use mathlib.Core.Logic.{_↔_}
 use Prim.Native.Nat.{ℕ, suc, _+_, _-_, _≤_, _<_, max}
 use mathlib.Core.Bool.{Bool, true, false, _&&_}
 use mathlib.Core.List.{List, [], _∷_, _++_, append-assoc, append-nil, map}
@@ -15,7 +16,8 @@ use lib.Seq.{take-at}
 use Rattle.prelude.specs.Pick.{pick}
 use Rattle.prelude.specs.Answer.{Answer, ok, error}
 use Rattle.prelude.specs.Search.{rank}
-use Rattle.prelude.proofs.Tests.{pick-elim}
+use Rattle.prelude.specs.Bytes.{Bytes}
+use Rattle.prelude.proofs.Tests.{pick-elim, split}
 use Rattle.error.specs.Error.{Fault, fault, FULL}
 use Rattle.token.specs.Token.{Token, emit, Fits}
 use Rattle.token.proofs.Laws.{emit-pos}
@@ -32,7 +34,11 @@ use Rattle.depths_value.specs.Depth.{targetDepth, depthState, deepestFrom, dept
 use Rattle.depths_value.proofs.Laws.{deepest-end, deepest-token}
 use Rattle.depths.specs.Depths.{Deepened, deepened, deepen, depthsOf}
 use Rattle.guarantees.proofs.Files.{answer-error}
+use Rattle.guarantees.specs.Refused as refused
+use Rattle.guarantees.specs.Refused.{RefusedDepths}
 use Rattle.guarantees.proofs.Accepts.{finds}
+use Rattle.guarantees.proofs.Accepted.{accepted}
+use Rattle.guarantees.proofs.Refused.{fault-exactly}
 
 -- ---- where a value ends
 
@@ -216,3 +222,30 @@ depths-zero file cap room f e = by-cases (checkIn file cap) e
 pub depths-errors : (file : List ℕ) (cap room : ℕ) (f : Fault) → checkOf file cap .answer ≡ error f → depthsOf file cap room .answer ≡ error f
 unfolding depthsOf checkOf
 depths-errors file cap room f e = rw (← answer-error cap f (checkIn file cap) e)
+
+-- ---- what depths refuses, both ways
+
+refused-depths : (file : List ℕ) (cap room : ℕ) {f : Fault} → Bytes file → RefusedDepths file cap room f → depthsOf file cap room .answer ≡ error f
+refused-depths file cap room {f} b (refused.check x) = depths-errors file cap room f (fault-exactly file cap f b .1 x)
+refused-depths file cap room b (refused.full vs entry w words few) = ap (λ (d : Deepened). d .answer) (depths-full file vs entry cap room w words few)
+
+pub depths-refused-exactly : (file : List ℕ) (cap room : ℕ) (f : Fault) → Bytes file
+    → (depthsOf file cap room .answer ≡ error f) ↔ RefusedDepths file cap room f
+depths-refused-exactly file cap room f b = (by-check (checkOf file cap .answer) refl, refused-depths file cap room b)
+  where
+    by-check : (a : Answer Fault (ℕ × ℕ)) → checkOf file cap .answer ≡ a → depthsOf file cap room .answer ≡ error f → RefusedDepths file cap room f
+    by-check (error g) c e =
+        let same : error g ≡ error f = sym (depths-errors file cap room g c) ∙ e in
+        refused.check (fault-exactly file cap f b .0 (c ∙ same))
+    by-check (ok (count, entry)) c e =
+        let a = accepted file cap count entry b c in
+        let vs = a .values in
+        split room (length vs)
+        (λ few. let same : error f ≡ error (fault FULL (getD (starts 0 vs) room 0)) =
+        sym e ∙ ap (λ (d : Deepened). d .answer) (depths-full file vs entry cap room (a .wellFormed) (a .room) few) in
+        let is : f ≡ fault FULL (getD (starts 0 vs) room 0) = cc in
+        rw is (refused.full vs entry (a .wellFormed) (a .room) few))
+        (λ enough. let no : ok (length vs, entry) ≡ error f =
+        sym (ap (λ (d : Deepened). d .answer) (depths-accept file vs entry cap room (a .wellFormed) (a .room) enough)) ∙ e in
+        let z : _≡_ {A = ℕ} 0 1 = cc in
+        absurd (omega arith))

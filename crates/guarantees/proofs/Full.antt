@@ -27,7 +27,7 @@ use Rattle.values.proofs.Laws.{length-starts}
 use Rattle.checker_value.specs.Walk.{Walk, between, nextToken, walkTurned, walkTurn, startsFrom}
 use Rattle.checker.specs.Check.{checkIn, listed, checkOf}
 use Rattle.checker_value.proofs.Walks.{WalkInvariant, walk-error, come}
-use Rattle.guarantees_faults.proofs.Places.{placed-at, refused-placed, refused-full}
+use Rattle.guarantees_faults.proofs.Places.{place-at, refused-place, refused-full}
 use Rattle.guarantees.specs.Accepts.{Overfull}
 use Rattle.guarantees.proofs.Files.{Whole, whole, length-whole, bytes-whole, checkIn-whole, empty, long, at-once, Shape, refused, read, shape}
 use Rattle.guarantees.proofs.Files.{answer-error, found-ok, Failed, early, walking, last, failed}
@@ -54,7 +54,7 @@ unfolding among
 overfull-at file cap p w r =
     let (between, none) = refused-full (r .refused) refl in
     let v = walked-between (w .region) (r .walk) between (r .holds) in
-    let here : p ≡ r .walk .at = placed-at (refused-placed (r .refused)) refl in
+    let here : p ≡ r .walk .at = place-at (refused-place (r .refused)) refl in
     let place : length (region (v .values)) ≡ p = sym (here ∙ v .at) in
     let front : file ≡ region (v .values) ++ (v .rest ++ (w .delta ∷ [])) =
     w .same ∙ rw (← append-assoc) (ap (λ x. x ++ (w .delta ∷ [])) (v .same)) in

@@ -37,13 +37,14 @@ use Rattle.reader_body.specs.Body.{bodyPlaceOf}
 use Rattle.reader_lookup.specs.Lookup.{lookupOf}
 use Rattle.checker_value.specs.Walk.{nextToken}
 use Rattle.checker.specs.Check.{checkOf}
+use Rattle.depths.specs.Depths.{depthsOf}
 use Rattle.writer_refusal.specs.declared.State.{State}
 use Rattle.writer.specs.Call.{Call}
 use Rattle.writer.specs.Step.{puts, moveOf, fresh, opens, step}
 use Rattle.writer.specs.Runs.{runs}
 use Rattle.writer.proofs.Refused as writer
 use Rattle.abi_writer.specs.Calls.{writerOf, wordsOf, numberC, runsC}
-use Rattle.guarantees_faults.specs.Faults.{Exceeds, Counted, RefusedHead, Placed, RefusedToken}
+use Rattle.guarantees_faults.specs.Faults.{Exceeds, Counted, RefusedHead, HasPlace, RefusedToken}
 use Rattle.guarantees_faults.specs.Queries.{AnsweredQuery, Read, headOf, Skips, HasItem, Reaches, HasBody, Finds}
 use Rattle.guarantees_faults.specs.Queries.{RefusedQuery, RefusedRead, RefusedSkip, RefusedItem, RefusedFollow, RefusedBody, RefusedLookup}
 use Rattle.guarantees_faults.proofs.Shortages as shortages
@@ -53,9 +54,9 @@ use Rattle.guarantees_faults.proofs.Places as places
 use Rattle.guarantees_faults.proofs.Queries as queries
 use Rattle.guarantees_faults.proofs.Lookups as lookup-queries
 use Rattle.guarantees.specs.Accepts.{Overfull}
-use Rattle.guarantees.specs.Refused.{Unnamed, Faulty}
+use Rattle.guarantees.specs.Refused.{Unnamed, Faulty, RefusedCheck, RefusedDepths}
 use Rattle.guarantees.specs.Lookup.{Found, Missing}
-use Rattle.guarantees.specs.Samples.{Query, SampleAnswer, sampleAnswer, samples}
+use Rattle.guarantees.specs.Samples.{Query, SampleAnswer, sampleAnswer, samples, endSamples}
 use Rattle.guarantees_writer.specs.Model.{requestOf, formsOf, deltaOf, Model, emptyModel}
 use Rattle.guarantees_writer.specs.RefusedCall.{NoRoom, RefusedCall}
 use Rattle.guarantees_writer.specs.History.{modelRun, Agree, Follows, Alike}
@@ -119,12 +120,15 @@ demand-3 = record { list = demands.after-calls; values = call-values.value-of-ca
 pub one-reading : (file : List ℕ) (vs ws : List Value) (e f : ℕ) → WellFormed file vs e → WellFormed file ws f → (vs ≡ ws) × (e ≡ f)
 one-reading = unique.one-reading
 
-pub fault-exactly : (file : List ℕ) (cap : ℕ) (f : Fault) → Bytes file → (f .number ≡ EMPTY → ⊥) → (f .number ≡ TOO_LONG → ⊥) → (f .number ≡ BAD_ENTRY → ⊥)
-    → (checkOf file cap .answer ≡ error f) ↔ ((p : ℕ) × Faulty file cap p f)
+pub fault-exactly : (file : List ℕ) (cap : ℕ) (f : Fault) → Bytes file → (checkOf file cap .answer ≡ error f) ↔ RefusedCheck file cap f
 fault-exactly = refused.fault-exactly
 
-pub fault-placed : (file : List ℕ) (cap p : ℕ) (f : Fault) (x : Faulty file cap p f) → Placed (take (length file - 1) file) (ltb 0 (x .missing)) p f
-fault-placed = refused.fault-placed
+pub fault-place : {file : List ℕ} {cap p : ℕ} {f : Fault} (x : Faulty file cap p f) → HasPlace (take (length file - 1) file) (ltb 0 (x .missing)) p f
+fault-place = refused.fault-place
+
+pub depths-refused-exactly : (file : List ℕ) (cap room : ℕ) (f : Fault) → Bytes file
+    → (depthsOf file cap room .answer ≡ error f) ↔ RefusedDepths file cap room f
+depths-refused-exactly = depths.depths-refused-exactly
 
 pub refused-exactly : (s : List ℕ) (cap : ℕ) (done : List ℕ) (pending q : ℕ) (f : Fault)
     → (nextToken s cap done pending q ≡ error f) ↔ RefusedToken s cap done pending q f
@@ -133,13 +137,13 @@ refused-exactly = faults.refused-exactly
 pub head-refused-exactly : (s : List ℕ) (inner : Bool) (q : ℕ) (f : Fault) → (scanAt inner s q ≡ error f) ↔ RefusedHead s inner q f
 head-refused-exactly = heads.head-refused-exactly
 
-pub head-placed : {s : List ℕ} {inner : Bool} {q : ℕ} {f : Fault} → RefusedHead s inner q f → Placed s inner q f
-head-placed = places.head-placed
+pub head-place : {s : List ℕ} {inner : Bool} {q : ℕ} {f : Fault} → RefusedHead s inner q f → HasPlace s inner q f
+head-place = places.head-place
 
-pub short-exactly : {s : List ℕ} {inner : Bool} {q h n a : ℕ} {m : List ℕ} → Counted s inner q h n a m
+pub shortage-exactly : {s : List ℕ} {inner : Bool} {q h n a : ℕ} {m : List ℕ} → Counted s inner q h n a m
     → (length m < size (rule (h / 16)) n + counted (rule (h / 16)) n a)
     ↔ (((h / 16 ≡ 3) × (length m < 4 + 4 * n)) ⊎ ((e : ℕ) × Exceeds (h / 16) n a (length m) e))
-short-exactly = shortages.short-exactly
+shortage-exactly = shortages.shortage-exactly
 
 pub full-exactly : (file : List ℕ) (cap p : ℕ) → Bytes file → (checkOf file cap .answer ≡ error (fault FULL p)) ↔ Overfull file cap p
 full-exactly = full.full-exactly
@@ -303,6 +307,10 @@ emit-scan = token.emit-scan
 pub the-samples : map (λ (x : (List ℕ) × Query × SampleAnswer). sampleAnswer (x .0) (x .1)) samples
     ≡ map (λ (x : (List ℕ) × Query × SampleAnswer). x .2) samples
 the-samples = sampled.the-samples
+
+pub the-ends : map (λ (x : (List ℕ) × Query × SampleAnswer). sampleAnswer (x .0) (x .1)) endSamples
+    ≡ map (λ (x : (List ℕ) × Query × SampleAnswer). x .2) endSamples
+the-ends = sampled.the-ends
 
 pub the-written : map writes written ≡ map expects written
 the-written = lists.the-written

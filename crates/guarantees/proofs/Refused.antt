@@ -1,9 +1,8 @@
 -- What a refusal of check says, for each error.
 --
 -- In order: a file that is refused at once (`empty-exactly`, `too-long-exactly`); one whose entry is not the start of a
--- value (`bad-entry-exactly`); every other refusal: all before its place is well formed, and the token that is wanted
--- there is refused (`first-fault`); such a fault is the answer (`fault-first`); so both ways (`fault-exactly`), with the place that `Placed` says
--- (`fault-placed`).
+-- value (`bad-entry-exactly`); every other refusal: all before some offset is well formed, and the token that is wanted there is refused (`faulty`); such
+-- a fault is the answer (`fault-first`); all errors, both ways (`fault-exactly`); the place of a token's fault (`fault-place`).
 use mathlib.Core.Path.{_≡_, refl, sym, ap, _∙_, subst}
 use mathlib.Core.Logic.{_↔_}
 use Prim.Native.Nat.{ℕ, zero, suc, _+_, _-_, _≤_, _<_}
@@ -26,10 +25,11 @@ use Rattle.values.proofs.Laws.{length-starts}
 use Rattle.checker_value.specs.Walk.{Walk, between, nextToken, startsFrom}
 use Rattle.checker.specs.Check.{checkIn, checkOf}
 use Rattle.checker_value.proofs.Walks.{WalkInvariant, walk-error}
-use Rattle.guarantees_faults.specs.Faults.{Placed, RefusedToken}
+use Rattle.guarantees_faults.specs.Faults.{HasPlace, RefusedToken}
 use Rattle.guarantees_faults.proofs.Refused.{error-of-refused}
-use Rattle.guarantees_faults.proofs.Places.{walkErrors, refused-known, refused-placed}
-use Rattle.guarantees.specs.Refused.{Unnamed, Begun, Open, Faulty}
+use Rattle.guarantees_faults.proofs.Places.{walkErrors, refused-known, refused-place}
+use Rattle.guarantees.specs.Refused as check
+use Rattle.guarantees.specs.Refused.{Unnamed, Begun, Open, Faulty, RefusedCheck}
 use Rattle.guarantees.proofs.Files.{Whole, whole, length-whole, region-whole, bytes-whole, checkIn-whole, entered, entered-none}
 use Rattle.guarantees.proofs.Files.{empty, long, at-once, answer-error, Failed, early, walking, last, failed}
 use Rattle.guarantees.proofs.WalkTokens.{settled}
@@ -173,16 +173,6 @@ module _ (file : List ℕ) (cap : ℕ) (f : Fault) (w : Whole file) where
       let r = subst (Ends s cap (WalkedValues s)) (sym e) (walked-ends s cap (bytes-whole file w b)) in
       (r .walk .at, faulty-walk (r .walk) (r .holds) (r .going) (r .inside) (r .refused))
 
-pub first-fault : (file : List ℕ) (cap : ℕ) (f : Fault) → Bytes file → checkOf file cap .answer ≡ error f
-    → (f .number ≡ EMPTY → ⊥) → (f .number ≡ TOO_LONG → ⊥) → (f .number ≡ BAD_ENTRY → ⊥) → (p : ℕ) × Faulty file cap p f
-first-fault file cap f b e none much entry = by-failed (fails file cap f e)
-  where
-    by-failed : Failed file cap f → (p : ℕ) × Faulty file cap p f
-    by-failed (early (empty z q)) = absurd (none (numbers q))
-    by-failed (early (long l q)) = absurd (much (numbers q))
-    by-failed (walking w q) = faulty file cap f w b q
-    by-failed (last w done walked q unnamed) = absurd (entry (numbers q))
-
 -- ---- and such a fault is the answer
 
 module _ (s : List ℕ) (cap : ℕ) (f : Fault) (vs : List Value) (rest : List ℕ) where
@@ -227,12 +217,22 @@ fault-first file cap p f x =
     let w = whole file (x .some) (x .short) in
     answers file cap f (bind-error _ (faulty-fails file cap p f x w) ∙ sym (checkIn-whole file w cap))
 
-pub fault-exactly : (file : List ℕ) (cap : ℕ) (f : Fault) → Bytes file → (f .number ≡ EMPTY → ⊥) → (f .number ≡ TOO_LONG → ⊥) → (f .number ≡ BAD_ENTRY → ⊥)
-    → (checkOf file cap .answer ≡ error f) ↔ ((p : ℕ) × Faulty file cap p f)
-fault-exactly file cap f b none much entry = (
-  λ e. first-fault file cap f b e none much entry,
-  λ x. fault-first file cap (x .0) f (x .1),
-)
+-- ---- all of check's errors
 
-pub fault-placed : (file : List ℕ) (cap p : ℕ) (f : Fault) (x : Faulty file cap p f) → Placed (take (length file - 1) file) (ltb 0 (x .missing)) p f
-fault-placed file cap p f x = refused-placed (x .refused)
+refused-check : (file : List ℕ) (cap : ℕ) {f : Fault} → RefusedCheck file cap f → checkOf file cap .answer ≡ error f
+refused-check file cap (check.empty z) = empty-exactly file cap 0 .1 (z, refl)
+refused-check file cap (check.long l) = too-long-exactly file cap 0 .1 (l, refl)
+refused-check file cap (check.walk {p} {f} x) = fault-first file cap p f x
+refused-check file cap (check.entry {p} u) = answers file cap (fault BAD_ENTRY p) (unnamed-fails file cap p u)
+
+pub fault-exactly : (file : List ℕ) (cap : ℕ) (f : Fault) → Bytes file → (checkOf file cap .answer ≡ error f) ↔ RefusedCheck file cap f
+fault-exactly file cap f b = (λ e. by-failed (fails file cap f e) e, refused-check file cap)
+  where
+    by-failed : Failed file cap f → checkOf file cap .answer ≡ error f → RefusedCheck file cap f
+    by-failed (early (empty z q)) e = rw q (check.empty z)
+    by-failed (early (long l q)) e = rw q (check.long l)
+    by-failed (walking w q) e = check.walk (faulty file cap f w b q .1)
+    by-failed (last w done walked q unnamed) e = rw q (check.entry (bad-entry-exactly file cap (length (w .region)) b .0 (e ∙ ap error q)))
+
+pub fault-place : {file : List ℕ} {cap p : ℕ} {f : Fault} (x : Faulty file cap p f) → HasPlace (take (length file - 1) file) (ltb 0 (x .missing)) p f
+fault-place x = refused-place (x .refused)

@@ -1,4 +1,4 @@
--- The twelve marked samples of document 01, by computation of the definitions that the contracts cite.
+-- The twelve marked samples of document 01, and samples of W-201, by computation of the definitions that the contracts cite.
 use mathlib.Core.Path.{_≡_, refl}
 use mathlib.Core.List.{List, map}
 use Prim.Native.Nat.{ℕ}
@@ -17,7 +17,7 @@ use Rattle.checker_value.specs.Walk as walks
 use Rattle.checker.specs.Check as check
 use Rattle.depths_value.specs.Depth as deep
 use Rattle.depths.specs.Depths.{depthsOf}
-use Rattle.guarantees.specs.Samples.{Query, SampleAnswer, sampleAnswer, samples}
+use Rattle.guarantees.specs.Samples.{Query, SampleAnswer, sampleAnswer, samples, endSamples}
 
 pub the-samples : map (λ (x : (List ℕ) × Query × SampleAnswer). sampleAnswer (x .0) (x .1)) samples
     ≡ map (λ (x : (List ℕ) × Query × SampleAnswer). x .2) samples
@@ -26,3 +26,11 @@ unfolding sampleAnswer bind guard then orError _>>_ _>>=_ run from among rank ge
     walks.hasTarget walks.tokenFault walks.nextToken walks.walkAfter walks.walkTurn walks.startsFrom check.entryAt
     check.checkIn check.checkOf deep.depthTurn deep.deepestFrom deep.depthAt deep.depthsTo depthsOf
 the-samples = refl
+
+pub the-ends : map (λ (x : (List ℕ) × Query × SampleAnswer). sampleAnswer (x .0) (x .1)) endSamples
+    ≡ map (λ (x : (List ℕ) × Query × SampleAnswer). x .2) endSamples
+unfolding sampleAnswer bind guard then orError _>>_ _>>=_ run from among rank get rule getIf number body scanKind scan
+    headOf scanAt lead next textFrom regionLen inRegion peekIn skipItems valueOn readIn startsIn itemOn itemIn
+    walks.hasTarget walks.tokenFault walks.nextToken walks.walkAfter walks.walkTurn walks.startsFrom check.entryAt
+    check.checkIn check.checkOf deep.depthTurn deep.deepestFrom deep.depthAt deep.depthsTo depthsOf
+the-ends = refl

@@ -1,4 +1,4 @@
--- What check's refusals mean (document 01, "Numbers of refusal"); FULL also has a statement of its own, `Overfull`.
+-- What the refusals of check and depths mean (document 01, "Numbers of refusal"; document 02, W-201); FULL also has a statement of its own, `Overfull`.
 --
 --   Unnamed file cap p   BAD_ENTRY: all else is well formed, but the delta byte, at p, does not name the start of a value
 --   Begun cap len vs t is k
@@ -7,17 +7,21 @@
 --   Open cap len vs ts k
 --                        the tokens ts after the values vs are such an open value; or there are none, and no item is missing
 --   Faulty file cap p f  a fault of the walk: all before p is well formed, finished values and an open one as far as it
---                        got; the token that is wanted at p is refused with f, whose place `Placed` says: p for all errors but LONG_BODY and LONG_LIST
+--                        got; the token that is wanted at p is refused with f
+--   RefusedCheck file cap f
+--                        check refuses the file with f, number and place, with a table of cap words
+--   RefusedDepths file cap room f
+--                        so does depths, with a second table of room words
 use Prim.Native.Nat.{ℕ, _+_, _-_, _≤_, _<_}
 use mathlib.Core.Path.{_≡_}
 use mathlib.Core.Bool.{false}
 use mathlib.Core.List.{List, [], _∷_, _++_}
-use lib.ListN.{length, take}
+use lib.ListN.{length, take, getD}
 use Rattle.prelude.specs.Search.{among}
-use Rattle.error.specs.Error.{Fault, LIMIT}
+use Rattle.error.specs.Error.{Fault, fault, LIMIT, EMPTY, TOO_LONG, BAD_ENTRY, FULL}
 use Rattle.kind.specs.Kind.{rule, counted, pending}
 use Rattle.token.specs.Token.{Token, emit}
-use Rattle.values.specs.Values.{Value, bytes, region, starts, Each, Sound, Item, HasTargets, Values}
+use Rattle.values.specs.Values.{Value, bytes, region, starts, Each, Sound, Item, HasTargets, Values, WellFormed}
 use Rattle.guarantees_faults.specs.Faults.{RefusedToken}
 
 pub record Unnamed (file : List ℕ) (cap p : ℕ) : Type 0 where
@@ -59,3 +63,15 @@ pub record Faulty (file : List ℕ) (cap p : ℕ) (f : Fault) : Type 0 where
   pub inside : p ≤ length file - 1
   pub more : missing ≡ 0 → p < length file - 1
   pub refused : RefusedToken (take (length file - 1) file) cap (starts 0 values) missing p f
+
+pub data RefusedCheck (file : List ℕ) (cap : ℕ) : Fault → Type 0 where
+  empty : length file ≡ 0 → RefusedCheck file cap (fault EMPTY 0)
+  long : LIMIT < length file → RefusedCheck file cap (fault TOO_LONG 0)
+  walk : {p : ℕ} {f : Fault} → Faulty file cap p f → RefusedCheck file cap f
+  entry : {p : ℕ} → Unnamed file cap p → RefusedCheck file cap (fault BAD_ENTRY p)
+
+pub data RefusedDepths (file : List ℕ) (cap room : ℕ) : Fault → Type 0 where
+  check : {f : Fault} → RefusedCheck file cap f → RefusedDepths file cap room f
+  -- a value has no word in the second table; the place is the start of the first such one
+  full : (vs : List Value) (entry : ℕ) → WellFormed file vs entry → length vs ≤ cap → room < length vs
+      → RefusedDepths file cap room (fault FULL (getD (starts 0 vs) room 0))

@@ -7,12 +7,15 @@
 --                    the answer by the definitions that the contracts cite
 --   refused f place  check's error f at `place`, which leaves zeros
 --   samples          the list
+--   endSamples       W-201: what goes past the region's end, or just reaches it, by the readings of docs/READINGS.md. In order: lengths, the item's among
+--                    them, and before BAD_TEXT (D1, D3, A10); counts of items, pairs and arguments, and one pair that fits (A8, A9, D1); a number, a float
+--                    and the one item of a tag (A10, D2, A5); the greatest n of each kind with a length or count, and one more (A3); queries (B3)
 use Prim.Native.Nat.{ℕ, _-_, _^_}
 use mathlib.Core.List.{List, [], _∷_, _++_}
 use lib.IntN.{negsuc}
 use lib.ListN.{replicate}
 use Rattle.prelude.specs.Answer.{Answer, ok, error}
-use Rattle.error.specs.Error.{Fault, fault, EMPTY, OVERLONG, RANGE, NESTED, BAD_TARGET, BAD_ENTRY, NO_ITEM, LONG_LIST}
+use Rattle.error.specs.Error.{Fault, fault, EMPTY, TRUNC, OVERLONG, RANGE, NESTED, BAD_TARGET, BAD_ENTRY, NO_ITEM, LONG_BODY, LONG_LIST}
 use Rattle.reader_value.specs.Value.{readOf}
 use Rattle.reader_value.specs.declared.Value.{Value}
 use Rattle.reader_value.specs.declared.Value.the-variants.{Integer}
@@ -59,4 +62,36 @@ samples =
     ∷ (0x2f ∷ 0xf0 ∷ (replicate 7 0xff ++ (0x7f ∷ 0x09 ∷ [])), check, table (checked (ok (1, 0)) (0 ∷ 0 ∷ 0 ∷ 0 ∷ [])) (1 ∷ 0 ∷ 0 ∷ 0 ∷ []))
     ∷ (0x2f ∷ 0xf0 ∷ (replicate 7 0xff ++ (0x7f ∷ 0x09 ∷ [])), read 0, value (ok (Integer (negsuc (2 ^ 63 - 1)))))
     ∷ (0x1f ∷ 0xf1 ∷ (replicate 7 0xff ++ (0x7f ∷ 0x09 ∷ [])), check, refused RANGE 0)
+    ∷ []
+
+-- the number 2 ^ 64 - 16 after a header h, if `last` is 0xf0, and then nothing: n is 2 ^ 64 - 1; one more for 0xf1
+abbrev greatest : ℕ → ℕ → List ℕ
+greatest h last = h ∷ last ∷ (replicate 8 0xff ++ (0x01 ∷ 0x00 ∷ []))
+
+abbrev pub endSamples : List ((List ℕ) × Query × SampleAnswer)
+endSamples =
+    (0x55 ∷ 0x61 ∷ 0x00 ∷ [], check, refused LONG_BODY 1)
+    ∷ (0x61 ∷ 0x45 ∷ 0x61 ∷ 0x00 ∷ [], check, refused LONG_BODY 2)
+    ∷ (0x43 ∷ 0xc3 ∷ 0x28 ∷ 0x00 ∷ [], check, refused LONG_BODY 1)
+    ∷ (0x5f ∷ 0x01 ∷ 0x61 ∷ 0x00 ∷ [], check, refused LONG_BODY 2)
+    ∷ (0x63 ∷ 0x90 ∷ 0x90 ∷ 0x00 ∷ [], check, refused LONG_LIST 1)
+    ∷ (0x72 ∷ 0x10 ∷ 0x10 ∷ 0x10 ∷ 0x00 ∷ [], check, refused LONG_LIST 1)
+    ∷ (0x71 ∷ 0x10 ∷ 0x10 ∷ 0x10 ∷ 0x00 ∷ [], check, table (checked (ok (2, 3)) (0 ∷ 3 ∷ 0 ∷ 0 ∷ [])) (1 ∷ 1 ∷ 0 ∷ 0 ∷ []))
+    ∷ (0xc0 ∷ 0x05 ∷ 0x10 ∷ 0x00 ∷ [], check, refused LONG_LIST 2)
+    ∷ (0xcf ∷ 0x00 ∷ 0x85 ∷ 0x01 ∷ 0x10 ∷ 0x00 ∷ [], check, refused LONG_LIST 4)
+    ∷ (0x61 ∷ 0x1f ∷ 0x00 ∷ [], check, refused TRUNC 1)
+    ∷ (0x30 ∷ 0x10 ∷ 0x10 ∷ 0x10 ∷ 0x00 ∷ [], check, refused TRUNC 0)
+    ∷ (0x80 ∷ 0x00 ∷ [], check, refused TRUNC 1)
+    ∷ (greatest 0x4f 0xf0, check, refused LONG_BODY 11)
+    ∷ (greatest 0x4f 0xf1, check, refused RANGE 0)
+    ∷ (greatest 0x5f 0xf0, check, refused LONG_BODY 11)
+    ∷ (greatest 0x5f 0xf1, check, refused RANGE 0)
+    ∷ (greatest 0x6f 0xf0, check, refused LONG_LIST 11)
+    ∷ (greatest 0x6f 0xf1, check, refused RANGE 0)
+    ∷ (greatest 0x7f 0xf0, check, refused LONG_LIST 11)
+    ∷ (greatest 0x7f 0xf1, check, refused RANGE 0)
+    ∷ (0xcf ∷ 0xf0 ∷ 0xff ∷ 0xff ∷ 0xff ∷ 0x0f ∷ 0x05 ∷ 0x00 ∷ [], check, refused LONG_LIST 7)
+    ∷ (0xcf ∷ 0xf1 ∷ 0xff ∷ 0xff ∷ 0xff ∷ 0x0f ∷ 0x05 ∷ 0x00 ∷ [], check, refused RANGE 0)
+    ∷ (0x63 ∷ 0x10 ∷ 0x00 ∷ [], read 0, value (error (fault LONG_LIST 1)))
+    ∷ (0x62 ∷ 0x45 ∷ 0x61 ∷ 0x00 ∷ [], item 0 1, offset (error (fault LONG_BODY 2)))
     ∷ []

@@ -81,6 +81,9 @@ module _ (s : List ℕ) (inner : Bool) (q : ℕ) where
       let header : EndOf (drop q s) (c .numbered .after) = record { front = h ∷ []; same = c .numbered .usable .header } in
       end-trans all (end-trans header (end-trans (number-end (c .numbered .number)) (number-end (c .count))))
 
+  counted-le : {h n a : ℕ} {m : List ℕ} → Counted s inner q h n a m → length m ≤ length s
+  counted-le {m = m} c = let end = counted-end c in omega (arith, ap length (end .same), length-append (end .front) m)
+
   -- the body is where the head says
   body-on : (h n a : ℕ) (m : List ℕ) → size (rule (h / 16)) n ≤ length m → EndOf s m → bodyOn s (headOn h n a m) ≡ take (size (rule (h / 16)) n) m
   body-on h n a m room end =
@@ -94,12 +97,6 @@ module _ (s : List ℕ) (inner : Bool) (q : ℕ) where
       rw (size, first) (ap (λ x. take z (drop (length p) x)) (end .same) ∙ rw (drop-append-seam p m))
 
   module _ {h n : ℕ} {b : List ℕ} (w : Whole s inner q h n b) where
-    after-le : length (w .after) ≤ length s
-    after-le =
-        let end = counted-end (w .numbers) in
-        let long : length s ≡ length (end .front) + length (w .after) = ap length (end .same) ∙ length-append (end .front) (w .after) in
-        omega arith
-
     taken : length (take (size (rule (h / 16)) n) (w .after)) ≡ size (rule (h / 16)) n
     taken = length-take-le (size (rule (h / 16)) n) (w .after) (omega (arith, w .room))
 
@@ -108,10 +105,10 @@ module _ (s : List ℕ) (inner : Bool) (q : ℕ) where
 
     -- the head's offsets: the one after the numbers, and the one after the body
     pub whole-first : headOfWhole w .first ≡ length s - length (w .after)
-    whole-first = omega (arith, w .room, after-le, taken, length-drop (size (rule (h / 16)) n) (w .after))
+    whole-first = omega (arith, w .room, counted-le (w .numbers), taken, length-drop (size (rule (h / 16)) n) (w .after))
 
     pub whole-end : headOfWhole w .end ≡ length s - length (w .after) + size (rule (h / 16)) n
-    whole-end = omega (arith, w .room, after-le, length-drop (size (rule (h / 16)) n) (w .after))
+    whole-end = omega (arith, w .room, counted-le (w .numbers), length-drop (size (rule (h / 16)) n) (w .after))
 
     pub whole-size : length b ≡ size (rule (h / 16)) n
     whole-size = ap length (w .body) ∙ taken
@@ -137,7 +134,9 @@ module _ (s : List ℕ) (inner : Bool) (q : ℕ) where
   scanned-bad (faults.second r two x) = numbered-on r (bind-fails _ _ _ (number-fails q two x))
   scanned-bad (faults.float {h} {n} {a} {m} c three l) =
       counted-on c (rw (lt-leb _ _ (float-need n a three l), float-shortage q (length s - length m) three))
-  scanned-bad (faults.long c x) = counted-on c (rw (lt-leb _ _ (exceeds-need x), exceeds-shortage _ _ x))
+  scanned-bad (faults.exceeds {p = p} {m} c x at) =
+      let here : p ≡ length s - length m = omega arith in
+      counted-on c (rw (lt-leb _ _ (exceeds-need x), exceeds-shortage q (length s - length m) x, here))
 
   pub error-of-head : {f : Fault} → RefusedHead s inner q f → scanAt inner s q ≡ error f
   unfolding scanAt headOf
@@ -174,7 +173,7 @@ module _ (s : List ℕ) (inner : Bool) (q : ℕ) where
       let c : Counted s inner q h (h % 16 + v) a m₂ = record { after = m₁; numbered = r; count = second } in
       guard-elim ScansTo _ _ _
       (λ e. shortage-by _ _ a (length m₂) (number-none second) (RefusedHead s inner q) q (length s - length m₂) (omega facts)
-      (λ three l. faults.float c three l) (λ e x. faults.long c x)) (λ room.
+      (λ three l. faults.float c three l) (λ e x. faults.exceeds c x (omega (arith, counted-le c)))) (λ room.
       let w : Whole s inner q h (h % 16 + v) (take (size (rule (h / 16)) (h % 16 + v)) m₂) = record {
         args = a;
         after = m₂;

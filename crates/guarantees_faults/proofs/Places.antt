@@ -1,7 +1,7 @@
 -- The place and the number of a refusal.
 --
--- In order: of a token, by its head, the number (`head-known`) and the place (`head-placed`); the same in check's walk (`refused-known`,
--- `refused-placed`), where FULL is of a value that has no word (`refused-full`).
+-- In order: of a token, by its head, the number (`head-known`) and the place (`head-place`); the same in check's walk (`refused-known`,
+-- `refused-place`), where FULL is of a value that has no word (`refused-full`).
 use mathlib.Core.Path.{_≡_, refl, sym, _∙_}
 use mathlib.Core.Bool.{Bool, true, false, not, false≢true}
 use mathlib.Core.List.{List, [], _∷_, _++_}
@@ -16,7 +16,7 @@ use Rattle.prelude.proofs.Tests.{and-l, and-r}
 use Rattle.prelude.proofs.Tables.{every}
 use Rattle.values.proofs.Members.{each-among, each-every}
 use Rattle.guarantees_faults.specs.Faults as faults
-use Rattle.guarantees_faults.specs.Faults.{longErrors, BadNumber, Exceeds, RefusedHead, Placed, RefusedToken}
+use Rattle.guarantees_faults.specs.Faults.{longErrors, BadNumber, Exceeds, RefusedHead, HasPlace, RefusedToken}
 
 -- ---- by the head
 
@@ -50,23 +50,23 @@ module _ {s : List ℕ} {inner : Bool} {q : ℕ} where
   head-known (faults.over u v high) = refl
   head-known (faults.second r two x) = number-each (λ e. among e (tokenErrors inner) ≡ true) refl refl refl x
   head-known (faults.float c three l) = refl
-  head-known (faults.long c x) = exceeds-each (λ e. among e (tokenErrors inner) ≡ true) refl refl x
+  head-known (faults.exceeds c x at) = exceeds-each (λ e. among e (tokenErrors inner) ≡ true) refl refl x
 
-  pub head-placed : {f : Fault} → RefusedHead s inner q f → Placed s inner q f
+  pub head-place : {f : Fault} → RefusedHead s inner q f → HasPlace s inner q f
   unfolding among
-  head-placed (faults.ended l) = faults.header refl refl
-  head-placed (faults.reserved x low) = faults.header refl refl
-  head-placed (faults.nested x low item deep) = faults.header refl refl
-  head-placed (faults.number u low x) = faults.header (number-each (λ e. among e longErrors ≡ false) refl refl refl x) refl
-  head-placed (faults.over u v high) = faults.header refl refl
-  head-placed (faults.second r two x) = faults.header (number-each (λ e. among e longErrors ≡ false) refl refl refl x) refl
-  head-placed (faults.float c three l) = faults.header refl refl
-  head-placed (faults.long c x) = faults.numbers c (exceeds-each (λ e. among e longErrors ≡ true) refl refl x) refl
+  head-place (faults.ended l) = faults.wanted refl refl
+  head-place (faults.reserved x low) = faults.wanted refl refl
+  head-place (faults.nested x low item deep) = faults.wanted refl refl
+  head-place (faults.number u low x) = faults.wanted (number-each (λ e. among e longErrors ≡ false) refl refl refl x) refl
+  head-place (faults.over u v high) = faults.wanted refl refl
+  head-place (faults.second r two x) = faults.wanted (number-each (λ e. among e longErrors ≡ false) refl refl refl x) refl
+  head-place (faults.float c three l) = faults.wanted refl refl
+  head-place (faults.exceeds c x at) = faults.numbers c (exceeds-each (λ e. among e longErrors ≡ true) refl refl x) at
 
 -- the header's offset, for all errors but two
-pub placed-at : {s : List ℕ} {inner : Bool} {q : ℕ} {f : Fault} → Placed s inner q f → among (f .number) longErrors ≡ false → f .place ≡ q
-placed-at (faults.header l e) other = e
-placed-at (faults.numbers c l e) other = absurd (false≢true (sym other ∙ l))
+pub place-at : {s : List ℕ} {inner : Bool} {q : ℕ} {f : Fault} → HasPlace s inner q f → among (f .number) longErrors ≡ false → f .place ≡ q
+place-at (faults.wanted l e) other = e
+place-at (faults.numbers c l e) other = absurd (false≢true (sym other ∙ l))
 
 -- ---- in check's walk
 
@@ -95,12 +95,12 @@ module _ {s : List ℕ} {cap : ℕ} {done : List ℕ} {pending q : ℕ} where
   refused-known (faults.text w x four wrong) = refl
   refused-known (faults.target w x text ref wrong) = refl
 
-  pub refused-placed : {f : Fault} → RefusedToken s cap done pending q f → Placed s (ltb 0 pending) q f
+  pub refused-place : {f : Fault} → RefusedToken s cap done pending q f → HasPlace s (ltb 0 pending) q f
   unfolding among
-  refused-placed (faults.full z c) = faults.header refl refl
-  refused-placed (faults.head w x) = head-placed x
-  refused-placed (faults.text w x four wrong) = faults.header refl refl
-  refused-placed (faults.target w x text ref wrong) = faults.header refl refl
+  refused-place (faults.full z c) = faults.wanted refl refl
+  refused-place (faults.head w x) = head-place x
+  refused-place (faults.text w x four wrong) = faults.wanted refl refl
+  refused-place (faults.target w x text ref wrong) = faults.wanted refl refl
 
   pub refused-full : {f : Fault} → RefusedToken s cap done pending q f → f .number ≡ FULL → (pending ≡ 0) × (cap ≤ length done)
   refused-full (faults.full z c) e = (z, c)

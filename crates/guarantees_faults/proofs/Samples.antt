@@ -92,12 +92,12 @@ cut-float = faults.float (bare 0x30 _ (lit< tt) refl (lit≤ tt) refl) refl (lit
 -- A8: three items in two bytes, which are reserved
 count-first : RefusedHead (0x63 ∷ 0x90 ∷ 0x90 ∷ []) false 0 (fault LONG_LIST 1)
 unfolding rule
-count-first = faults.long (bare 0x63 _ (lit< tt) refl (lit≤ tt) refl) (faults.items refl (lit< tt))
+count-first = faults.exceeds (bare 0x63 _ (lit< tt) refl (lit≤ tt) refl) (faults.items refl (lit< tt)) refl
 
 -- A9: two pairs in three bytes; one fits
 two-pairs : RefusedHead (0x72 ∷ 0x10 ∷ 0x11 ∷ 0x12 ∷ []) false 0 (fault LONG_LIST 1)
 unfolding rule
-two-pairs = faults.long (bare 0x72 _ (lit< tt) refl (lit≤ tt) refl) (faults.pairs refl (lit< tt))
+two-pairs = faults.exceeds (bare 0x72 _ (lit< tt) refl (lit≤ tt) refl) (faults.pairs refl (lit< tt)) refl
 
 one-pair : Whole (0x71 ∷ 0x10 ∷ 0x11 ∷ 0x12 ∷ []) false 0 0x71 1 []
 unfolding rule
@@ -108,11 +108,11 @@ item-length : RefusedHead (0x61 ∷ 0x45 ∷ 0x61 ∷ []) true 1 (fault LONG_BOD
 unfolding rule
 item-length =
     let u : Usable (0x61 ∷ 0x45 ∷ 0x61 ∷ []) true 1 0x45 (0x61 ∷ []) = record { header = refl; used = lit< tt; flat = λ l. refl } in
-    faults.long (plain _ _ _ _ _ u refl (lit≤ tt) refl) (faults.text refl (lit< tt))
+    faults.exceeds (plain _ _ _ _ _ u refl (lit≤ tt) refl) (faults.text refl (lit< tt)) refl
 
 length-at-the-end : RefusedHead (0x45 ∷ []) false 0 (fault LONG_BODY 1)
 unfolding rule
-length-at-the-end = faults.long (bare 0x45 [] (lit< tt) refl (lit≤ tt) refl) (faults.text refl (lit< tt))
+length-at-the-end = faults.exceeds (bare 0x45 [] (lit< tt) refl (lit≤ tt) refl) (faults.text refl (lit< tt)) refl
 
 -- W-201: "01's `7f` sample becomes LONG_LIST, 10"
 pairs-of-2^63 : RefusedHead (0x7f ∷ 0xf1 ∷ (replicate 7 0xff ++ (0x7f ∷ []))) false 0 (fault LONG_LIST 10)
@@ -126,7 +126,7 @@ pairs-of-2^63 =
       numbered = record { after = m; usable = used 0x7f m (lit< tt); more = 2 ^ 63 - 15; number = faults.some nine; sum = refl; most = lit≤ tt };
       count = faults.none;
     } in
-    faults.long c (faults.pairs refl (lit< tt))
+    faults.exceeds c (faults.pairs refl (lit< tt)) refl
 
 -- D1: the argument count 133 after a variant index of 15, at the offset after the second number
 arguments-after-both : RefusedHead (0xcf ∷ 0x00 ∷ 0x85 ∷ 0x01 ∷ 0x10 ∷ []) false 0 (fault LONG_LIST 4)
@@ -142,7 +142,7 @@ arguments-after-both =
       numbered = record { after = m; usable = used 0xcf m (lit< tt); more = 0; number = faults.some index; sum = refl; most = lit≤ tt };
       count = faults.some count;
     } in
-    faults.long c (faults.arguments refl (lit< tt))
+    faults.exceeds c (faults.arguments refl (lit< tt)) refl
 
 -- "lets `61 f0` point at its own array"
 own-array : RefusedToken (0x61 ∷ 0xf0 ∷ []) 1 [] 1 1 (fault BAD_TARGET 1)

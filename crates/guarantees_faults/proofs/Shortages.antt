@@ -2,7 +2,7 @@
 --
 -- In order: the kinds whose rows pass a test (`kind-by`); what a token that announces more than the bytes left is refused with (`shortage-by`); each
 -- float that is cut, and each length or count that exceeds them, is such a token (`..-need`), with its fault (`..-shortage`); so both ways
--- (`short-exactly`).
+-- (`shortage-exactly`).
 use mathlib.Core.Path.{_≡_, refl, sym, _∙_}
 use mathlib.Core.Logic.{_⊎_, inl, inr, _↔_}
 use mathlib.Core.Bool.{Bool, true, false, not, _&&_, false≢true, or-comm}
@@ -113,10 +113,10 @@ exceeds-shortage at first (faults.pairs is l) = rw is
 exceeds-shortage at first (faults.arguments is l) = rw is
 
 -- so a body or count that exceeds the bytes left is a float that is cut, or a length or count of `Exceeds`, and nothing else
-pub short-exactly : {s : List ℕ} {inner : Bool} {q h n a : ℕ} {m : List ℕ} → Counted s inner q h n a m
+pub shortage-exactly : {s : List ℕ} {inner : Bool} {q h n a : ℕ} {m : List ℕ} → Counted s inner q h n a m
     → (length m < size (rule (h / 16)) n + counted (rule (h / 16)) n a)
     ↔ (((h / 16 ≡ 3) × (length m < 4 + 4 * n)) ⊎ ((e : ℕ) × Exceeds (h / 16) n a (length m) e))
-short-exactly {h = h} {n} {a} {m} c = (
+shortage-exactly {h = h} {n} {a} {m} c = (
   λ l. shortage-by (h / 16) n a (length m) (number-none (c .count)) (λ f. Sum) 0 0 l (λ is cut. inl (is, cut)) (λ e x. inr (e, x)),
   by-row,
 )

@@ -1,9 +1,10 @@
 -- What a token is refused for (document 01, "Numbers of refusal", and document 02, W-201), by the bytes and the kind table alone; nothing here reads.
+-- Which kinds have a length or a count, and of which size, is said by their numbers, and not by the table.
 --
 -- The rows of `RefusedToken`, and in them those of `RefusedHead`, are in the paper's order: "the first fault wins. Within a value: FULL, RESERVED,
 -- NESTED, number (TRUNC, then RANGE of the tenth byte, OVERLONG, RANGE of n), the second number of kind 12 likewise, TRUNC of the body, BAD_TEXT,
--- BAD_TARGET". Of a length or count, TRUNC of the body has become LONG_BODY or LONG_LIST, at the same place in this order. A row says its own fault, and
--- that no row above it applies: `HasWord`, `Header`, `Usable`, `Numbered`, `Counted` and `Whole` gather, step by step, what was not refused.
+-- BAD_TARGET". Of a length or count, LONG_BODY or LONG_LIST stands for TRUNC of the body in this order, with a place of its own. A row says its own fault,
+-- and that no row above it applies: `HasWord`, `Header`, `Usable`, `Numbered`, `Counted` and `Whole` gather, step by step, what was not refused.
 --
 --   GoesOn b             b is a continuation byte
 --   Number s n rest      the bytes s are the number n in its shortest form, and then `rest`
@@ -21,7 +22,7 @@
 --   Counted h n a m      .. and a is its second number, or 0 if its kind has none
 --   Whole h n b          .. and its body b is in the region, and a byte for each item that it counts
 --   RefusedHead f        the token is refused with f, number and place, for what its header, numbers and counts say
---   Placed f             the place of f is q, the header's offset; if f is one of `longErrors`, it is the offset just after the numbers
+--   HasPlace f           the place of f is q, where the token is wanted; if f is one of `longErrors`, it is the offset just after the numbers
 --
 -- In check's walk `done` are the starts of the values before it, `cap` is how many words the table has, and `pending` how many items are pending in the
 -- open value, or 0 if there is none and a new value is wanted.
@@ -127,12 +128,12 @@ module _ (s : List ℕ) (inner : Bool) (q : ℕ) where
     second : {h n : ℕ} {m : List ℕ} {e : ℕ} → Numbered h n m → rule (h / 16) .args ≡ true → BadNumber m e → RefusedHead (fault e q)
     -- the region ends inside a float's body, of 4 bytes or of 8
     float : {h n a : ℕ} {m : List ℕ} → Counted h n a m → h / 16 ≡ 3 → length m < 4 + 4 * n → RefusedHead (fault TRUNC q)
-    -- a length or count exceeds the bytes left; the place is just after the numbers
-    long : {h n a e : ℕ} {m : List ℕ} → Counted h n a m → Exceeds (h / 16) n a (length m) e → RefusedHead (fault e (length s - length m))
+    -- a length or count exceeds the bytes left; the bytes after the numbers begin at its place p
+    exceeds : {h n a e p : ℕ} {m : List ℕ} → Counted h n a m → Exceeds (h / 16) n a (length m) e → p + length m ≡ length s → RefusedHead (fault e p)
 
-  pub data Placed (f : Fault) : Type 0 where
-    header : among (f .number) longErrors ≡ false → f .place ≡ q → Placed f
-    numbers : {h n a : ℕ} {m : List ℕ} → Counted h n a m → among (f .number) longErrors ≡ true → f .place ≡ length s - length m → Placed f
+  pub data HasPlace (f : Fault) : Type 0 where
+    wanted : among (f .number) longErrors ≡ false → f .place ≡ q → HasPlace f
+    numbers : {h n a : ℕ} {m : List ℕ} → Counted h n a m → among (f .number) longErrors ≡ true → f .place + length m ≡ length s → HasPlace f
 
 -- ---- a token in check's walk
 

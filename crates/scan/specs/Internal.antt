@@ -1,6 +1,6 @@
 -- What remains to be read of a token, stage by stage. No public contract cites this file.
 --
---   fitted .. left       after its numbers, with `left` bytes left: the head, or what it lacks
+--   fitted .. left       after its numbers, with `left` bytes left: the head, or the token's shortage
 --   andThen at f a       f applied to a number and the bytes left, or the number's error, placed at `at`
 --   ranged .. n left     after n, with `left` bytes left: the second number, and so on
 use Prim.Native.Nat.{ℕ, _+_, _-_}

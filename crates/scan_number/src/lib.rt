@@ -1,4 +1,4 @@
-// The number n of a header, the room for what it counts, and the error if there is none.
+// The number n of a header, whether there is room for what it counts, and the error if there is not.
 use error::Error;
 use error::ErrorKind;
 use kind::Rule;

@@ -2,11 +2,12 @@
 --
 --   getIf w s            a number at the front of s if w is true, else 0 of no bytes
 --   number at w          the same, with its fault placed at the header's offset
---   shortage at first r  the fault of a token of rule r whose body, or the items that it counts, exceed the bytes left: TRUNC of a fixed body, placed at
---                        the header's offset `at`; LONG_BODY of a body that n measures, and LONG_LIST of items, placed at `first`, just after the
---                        numbers
---   body at end k r n a  the token, its body at the front of the bytes that end at the offset `end`; else its shortage
---   scanKind ..          after a header of kind k, rule r and low nibble `low`: RESERVED, NESTED for an item, the
+--   shortage at first r  the fault of a token of rule r whose body, or the items that it counts, exceed the bytes left: TRUNC if its body has fixed bytes,
+--                        a float's, placed at the header's offset `at`; else LONG_BODY of a body and LONG_LIST of items, placed at `first`, just after
+--                        the numbers
+--   body at end k r n a  the token, if the bytes left, which end at the offset `end`, begin with its body and have room for the items that it counts; else
+--                        its shortage
+--   scanKind ..          after a header of kind k, rule r and low nibble `low`, of bytes that end at `end`: RESERVED, NESTED for an item, the
 --                        number (TRUNC, RANGE of the tenth byte, OVERLONG), RANGE of n, the second number likewise,
 --                        the shortage of the body or of the counted items
 --   scan inner at s      the token at the front of s, whose header has the offset `at`, and the bytes after it; TRUNC if s is empty
