@@ -1,7 +1,8 @@
 -- Check accepts every well-formed file for which there are enough words.
 --
 -- In order: the walk over items of a value (`walks-items`), its head and items so far (`walks-open`), a value
--- (`walks-value`), values before any bytes (`walks-prefix`), and values alone (`walks-all`); the file (`finds`, `accepts`).
+-- (`walks-value`), values before any bytes (`walks-prefix`), for a property of the walk that goes backward; what it yields over values alone
+-- (`walks-all`); the file (`finds`, `accepts`).
 use mathlib.Core.Path.{_≡_, sym, _∙_}
 use Prim.Native.Nat.{ℕ, suc, _+_, _≤_, _<_}
 use mathlib.Core.Bool.{false}
@@ -19,21 +20,21 @@ use Rattle.token.specs.Token.{Token, emit, Fits}
 use Rattle.utf8.specs.Text.{Text}
 use Rattle.values.specs.Values.{Value, tokens, bytes, region, starts, Each, Item, Formed, HasTargets, TargetsEarlier, Values, WellFormed}
 use Rattle.values.proofs.Laws.{length-starts, fits-item, fits-head}
-use Rattle.checker_value.specs.Walk.{between, startsFrom}
+use Rattle.checker_value.specs.Walk.{Walk, between, startsFrom}
 use Rattle.checker.specs.Check.{checkIn, checked, filled, checkOf}
 use Rattle.checker_value.proofs.Walks.{walk-end}
 use Rattle.guarantees.proofs.Files.{Whole, entered, checkIn-whole, entered-named}
-use Rattle.guarantees.proofs.WalkTokens.{TakenToken, settled, due-suc, walk-taken}
+use Rattle.guarantees.proofs.WalkTokens.{TakenToken, settled, due-suc, Backward, starts-backward, walk-taken}
 
 -- ---- values
 
-module _ (s : List ℕ) (cap : ℕ) (done : List ℕ) where
+module _ (s : List ℕ) (cap : ℕ) (P : Walk → Type 0) (back : Backward s cap P) where
   -- the items `is`, with k more pending after them
-  walks-items : (start at k : ℕ) (is : List Token) (rest : List ℕ) → drop at s ≡ bytes is ++ rest → Each Item is → HasTargets done at is
-      → startsFrom s cap (settled start done at (length is + k)) ≡ startsFrom s cap (settled start done (at + length (bytes is)) k)
+  walks-items : (done : List ℕ) (start at k : ℕ) (is : List Token) (rest : List ℕ) → drop at s ≡ bytes is ++ rest → Each Item is → HasTargets done at is
+      → P (settled start done (at + length (bytes is)) k) → P (settled start done at (length is + k))
   unfolding bytes
-  walks-items start at k [] rest same f a = rw (add-zero, zero-add)
-  walks-items start at k (i ∷ is) rest same f a =
+  walks-items done start at k [] rest same f a p = rw zero-add (rw add-zero at p)
+  walks-items done start at k (i ∷ is) rest same f a p =
       let here = same ∙ append-assoc (emit i) (bytes is) rest in
       let left : length (i ∷ is) + k ≡ suc (length is + k) = omega arith in
       let st : TakenToken s cap (settled start done at (suc (length is + k))) i (bytes is ++ rest) = record {
@@ -43,17 +44,16 @@ module _ (s : List ℕ) (cap : ℕ) (done : List ℕ) where
         target = a .0;
         word = λ e. absurd (omega arith);
       } in
-      rw left (walk-taken s cap _ i (bytes is ++ rest) (length is + k) st (due-suc (length is + k) _)
-      ∙ walks-items start (at + length (emit i)) k is rest (drop-past s at (emit i) _ here) (f .1) (a .1)
-      ∙ rw (length-past at (emit i) (bytes is)))
+      rw left (walk-taken s cap P back _ i (bytes is ++ rest) (length is + k) st (due-suc (length is + k) _)
+      (walks-items done start (at + length (emit i)) k is rest (drop-past s at (emit i) _ here) (f .1) (a .1)
+      (rw (length-past at (emit i) (bytes is)) at p)))
 
   -- a head and the items `is`, with k more pending after them
-  pub walks-open : (at k : ℕ) (t : Token) (is : List Token) (rest : List ℕ) → drop at s ≡ bytes (t ∷ is) ++ rest → Fits false t (bytes is ++ rest)
-      → (t .kind ≡ 4 → Text (t .body)) → Each Item is → length is + k ≡ pending (rule (t .kind)) (t .n) (t .args) → HasTargets done at (t ∷ is)
-      → length done < cap
-      → startsFrom s cap (between at done) ≡ startsFrom s cap (settled at done (at + length (bytes (t ∷ is))) k)
+  pub walks-open : (done : List ℕ) (at k : ℕ) (t : Token) (is : List Token) (rest : List ℕ) → drop at s ≡ bytes (t ∷ is) ++ rest
+      → Fits false t (bytes is ++ rest) → (t .kind ≡ 4 → Text (t .body)) → Each Item is → length is + k ≡ pending (rule (t .kind)) (t .n) (t .args)
+      → HasTargets done at (t ∷ is) → length done < cap → P (settled at done (at + length (bytes (t ∷ is))) k) → P (between at done)
   unfolding bytes
-  walks-open at k t is rest same fits text items count a room =
+  walks-open done at k t is rest same fits text items count a room p =
       let here = same ∙ append-assoc (emit t) (bytes is) rest in
       let st : TakenToken s cap (between at done) t (bytes is ++ rest) = record {
         same = here;
@@ -62,35 +62,32 @@ module _ (s : List ℕ) (cap : ℕ) (done : List ℕ) where
         target = a .0;
         word = λ e. room;
       } in
-      walk-taken s cap _ t (bytes is ++ rest) (length is + k) st (sym count)
-      ∙ walks-items at (at + length (emit t)) k is rest (drop-past s at (emit t) _ here) items (a .1)
-      ∙ rw (length-past at (emit t) (bytes is))
+      walk-taken s cap P back _ t (bytes is ++ rest) (length is + k) st (sym count)
+      (walks-items done at (at + length (emit t)) k is rest (drop-past s at (emit t) _ here) items (a .1)
+      (rw (length-past at (emit t) (bytes is)) at p))
 
-  walks-value : (at : ℕ) (v : Value) (rest : List ℕ) → drop at s ≡ bytes (tokens v) ++ rest → Formed v → HasTargets done at (tokens v)
-      → length done < cap
-      → startsFrom s cap (between at done) ≡ startsFrom s cap (between (at + length (bytes (tokens v))) (done ++ (at ∷ [])))
-  walks-value at v rest same f a room =
-      walks-open at 0 (v .head) (v .items) rest same (fits-head v f rest) (f .head .text) (f .items) (rw add-zero (f .count)) a room
+  walks-value : (done : List ℕ) (at : ℕ) (v : Value) (rest : List ℕ) → drop at s ≡ bytes (tokens v) ++ rest → Formed v → HasTargets done at (tokens v)
+      → length done < cap → P (between (at + length (bytes (tokens v))) (done ++ (at ∷ []))) → P (between at done)
+  walks-value done at v rest same f a room p =
+      walks-open done at 0 (v .head) (v .items) rest same (fits-head v f rest) (f .head .text) (f .items) (rw add-zero (f .count)) a room p
 
--- values from `at` on, after those whose starts are `done`, and before any bytes
-pub walks-prefix : (s : List ℕ) (cap : ℕ) (done : List ℕ) (at : ℕ) (vs : List Value) (rest : List ℕ) → drop at s ≡ region vs ++ rest
-    → Each Formed vs → TargetsEarlier done at vs → length done + length vs ≤ cap
-    → startsFrom s cap (between at done) ≡ startsFrom s cap (between (at + length (region vs)) (done ++ starts at vs))
-unfolding region starts
-walks-prefix s cap done at [] rest same f b room = rw (add-zero, append-nil)
-walks-prefix s cap done at (v ∷ vs) rest same f b room =
-    let own = bytes (tokens v) in
-    let here = same ∙ append-assoc own (region vs) rest in
-    walks-value s cap done at v (region vs ++ rest) here (f .0) (b .0) (omega arith)
-    ∙ walks-prefix s cap (done ++ (at ∷ [])) (at + length own) vs rest (drop-past s at own _ here) (f .1) (b .1)
-    (omega (arith, length-append done (at ∷ [])))
-    ∙ rw (length-past at own (region vs), append-snoc)
+  -- values from `at` on, after those whose starts are `done`, and before any bytes
+  pub walks-prefix : (done : List ℕ) (at : ℕ) (vs : List Value) (rest : List ℕ) → drop at s ≡ region vs ++ rest → Each Formed vs
+      → TargetsEarlier done at vs → length done + length vs ≤ cap → P (between (at + length (region vs)) (done ++ starts at vs)) → P (between at done)
+  unfolding region starts
+  walks-prefix done at [] rest same f b room p = rw (add-zero, append-nil) at p
+  walks-prefix done at (v ∷ vs) rest same f b room p =
+      let own = bytes (tokens v) in
+      let here = same ∙ append-assoc own (region vs) rest in
+      walks-value done at v (region vs ++ rest) here (f .0) (b .0) (omega arith)
+      (walks-prefix (done ++ (at ∷ [])) (at + length own) vs rest (drop-past s at own _ here) (f .1) (b .1) (omega (arith, length-append done (at ∷ [])))
+      (rw append-snoc (rw (length-past at own (region vs)) at p)))
 
 pub walks-all : (vs : List Value) (cap : ℕ) → Values vs → length vs ≤ cap → ok (starts 0 vs) ≡ startsFrom (region vs) cap (between 0 [])
 walks-all vs cap v room =
     let s = region vs in
     let end : ok (starts 0 vs) ≡ startsFrom s cap (between (0 + length s) (starts 0 vs)) = walk-end s cap _ (le-leb (length s) (0 + length s) (omega arith)) in
-    end ∙ sym (walks-prefix s cap [] 0 vs [] (sym (append-nil s)) (v .formed) (v .targets) (omega arith))
+    walks-prefix s cap _ (starts-backward s cap _) [] 0 vs [] (sym (append-nil s)) (v .formed) (v .targets) (omega arith) end
 
 -- ---- the file
 

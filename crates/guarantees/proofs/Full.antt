@@ -32,6 +32,7 @@ use Rattle.guarantees.specs.Accepts.{Overfull}
 use Rattle.guarantees.proofs.Files.{Whole, whole, length-whole, bytes-whole, checkIn-whole, empty, long, at-once, Shape, refused, read, shape}
 use Rattle.guarantees.proofs.Files.{answer-error, found-ok, Failed, early, walking, last, failed}
 use Rattle.guarantees.proofs.Accepts.{walks-prefix}
+use Rattle.guarantees.proofs.WalkTokens.{starts-backward}
 use Rattle.guarantees.proofs.WalkValues.{WalkedValues, walked-between}
 use Rattle.guarantees.proofs.Ends.{Ends, Stuck, walk-ends}
 use Rattle.guarantees.proofs.Accepted.{walked-ends}
@@ -84,11 +85,10 @@ overfull-full file cap p o w =
     let inside : p < length s = omega (arith, o .more, length-whole file w) in
     let front : take p s ≡ region vs = sym (take-append-le p s (w .delta ∷ []) (omega arith)) ∙ ap (take p) (sym (w .same)) ∙ o .same in
     let same : s ≡ region vs ++ drop p s = sym (take-append-drop p s) ∙ ap (λ x. x ++ drop p s) front in
-    let walked = walks-prefix s cap [] 0 vs (drop p s) same (o .formed .formed) (o .formed .targets) (omega (arith, o .count)) in
     let full = le-leb cap (length (starts 0 vs)) (omega (arith, o .count, length-starts 0 vs)) in
     let at : p ≡ 0 + length (region vs) = omega (arith, o .place) in
-    walk-error s cap (between p (starts 0 vs)) (lt-leb (length s) p inside) (fault FULL p) (rw full)
-    ∙ ap (λ q. startsFrom s cap (between q (starts 0 vs))) at ∙ sym walked
+    walks-prefix s cap _ (starts-backward s cap _) [] 0 vs (drop p s) same (o .formed .formed) (o .formed .targets) (omega (arith, o .count))
+    (rw (← at) (walk-error s cap (between p (starts 0 vs)) (lt-leb (length s) p inside) (fault FULL p) (rw full)))
 
 pub full-exactly : (file : List ℕ) (cap p : ℕ) → Bytes file → (checkOf file cap .answer ≡ error (fault FULL p)) ↔ Overfull file cap p
 unfolding checkOf

@@ -126,6 +126,9 @@ fault-exactly = refused.fault-exactly
 pub fault-place : {file : List ℕ} {cap p : ℕ} {f : Fault} (x : Faulty file cap p f) → HasPlace (take (length file - 1) file) (ltb 0 (x .missing)) p f
 fault-place = refused.fault-place
 
+pub fault-once : (file : List ℕ) (cap p q : ℕ) (f g : Fault) → Faulty file cap p f → Faulty file cap q g → (p ≡ q) × (f ≡ g)
+fault-once = refused.fault-once
+
 pub depths-refused-exactly : (file : List ℕ) (cap room : ℕ) (f : Fault) → Bytes file
     → (depthsOf file cap room .answer ≡ error f) ↔ RefusedDepths file cap room f
 depths-refused-exactly = depths.depths-refused-exactly

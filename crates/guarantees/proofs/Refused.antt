@@ -2,19 +2,20 @@
 --
 -- In order: a file that is refused at once (`empty-exactly`, `too-long-exactly`); one whose entry is not the start of a
 -- value (`bad-entry-exactly`); every other refusal: all before some offset is well formed, and the token that is wanted there is refused (`faulty`); such
--- a fault is the answer (`fault-first`); all errors, both ways (`fault-exactly`); the place of a token's fault (`fault-place`).
+-- a fault is the answer (`fault-first`); all errors, both ways (`fault-exactly`); the place of a token's fault (`fault-place`); a file has one such fault,
+-- at one offset (`fault-once`).
 use mathlib.Core.Path.{_≡_, refl, sym, ap, _∙_, subst}
 use mathlib.Core.Logic.{_↔_}
 use Prim.Native.Nat.{ℕ, zero, suc, _+_, _-_, _≤_, _<_}
-use mathlib.Core.Bool.{true, false, false≢true}
+use mathlib.Core.Bool.{true, false, _&&_, false≢true}
 use mathlib.Core.List.{List, [], _∷_, _++_, append-assoc, append-nil}
 use native.Mathlib.Nat.{add-zero, zero-add, suc-ne-zero}
 use native.Mathlib.Omega.{arith}
 use borrow.Author.Tests.{lt-leb, ne-eqb}
-use lib.Dec.{ltb}
+use lib.Dec.{eqb, leb, ltb}
 use lib.ListN.{length, take, drop, length-append, take-append-drop}
 use lib.Seq.{take-at, take-append-le, drop-append-seam}
-use Rattle.prelude.specs.Answer.{error}
+use Rattle.prelude.specs.Answer.{ok, error}
 use Rattle.prelude.specs.Bytes.{Bytes}
 use Rattle.prelude.specs.Search.{among}
 use Rattle.prelude.proofs.Readers.{bind-ok, bind-error}
@@ -22,7 +23,8 @@ use Rattle.error.specs.Error.{Fault, fault, LIMIT, EMPTY, TOO_LONG, BAD_ENTRY}
 use Rattle.token.specs.Token.{Token, emit, Fits}
 use Rattle.values.specs.Values.{Value, bytes, region, starts, Values}
 use Rattle.values.proofs.Laws.{length-starts}
-use Rattle.checker_value.specs.Walk.{Walk, between, nextToken, startsFrom}
+use Rattle.scan.specs.declared.Head.{Head}
+use Rattle.checker_value.specs.Walk.{Walk, between, nextToken, walkAfter, startsFrom}
 use Rattle.checker.specs.Check.{checkIn, checkOf}
 use Rattle.checker_value.proofs.Walks.{WalkInvariant, walk-error}
 use Rattle.guarantees_faults.specs.Faults.{HasPlace, RefusedToken}
@@ -32,7 +34,7 @@ use Rattle.guarantees.specs.Refused as check
 use Rattle.guarantees.specs.Refused.{Unnamed, Begun, Open, Faulty, RefusedCheck}
 use Rattle.guarantees.proofs.Files.{Whole, whole, length-whole, region-whole, bytes-whole, checkIn-whole, entered, entered-none}
 use Rattle.guarantees.proofs.Files.{empty, long, at-once, answer-error, Failed, early, walking, last, failed}
-use Rattle.guarantees.proofs.WalkTokens.{settled}
+use Rattle.guarantees.proofs.WalkTokens.{settled, Backward, starts-backward}
 use Rattle.guarantees.proofs.WalkValues.{WalkedValues, idle, busy}
 use Rattle.guarantees.proofs.Ends.{Ends, walk-ends}
 use Rattle.guarantees.proofs.Accepts.{walks-open, walks-prefix, walks-all}
@@ -175,29 +177,38 @@ module _ (file : List ℕ) (cap : ℕ) (f : Fault) (w : Whole file) where
 
 -- ---- and such a fault is the answer
 
-module _ (s : List ℕ) (cap : ℕ) (f : Fault) (vs : List Value) (rest : List ℕ) where
+-- the walk is at p, and refuses the token there with f
+pub record Stops (s : List ℕ) (cap p : ℕ) (f : Fault) (w : Walk) : Type 0 where
+  pub here : w .at ≡ p
+  pub going : (eqb (w .pending) 0 && leb (length s) (w .at)) ≡ false
+  pub refuses : error f ≡ nextToken s cap (w .done) (w .pending) (w .at)
+
+module _ (s : List ℕ) (cap : ℕ) (f : Fault) (P : Walk → Type 0) (back : Backward s cap P) (vs : List Value) (rest : List ℕ) where
   abbrev at : ℕ
   at = length (region vs)
 
   -- the walk after the values reaches the fault
   open-fails : (ts : List Token) (k : ℕ) → Open cap (length s) vs ts k → s ≡ region vs ++ (bytes ts ++ rest)
       → (k ≡ 0 → at + length (bytes ts) < length s) → error f ≡ nextToken s cap (starts 0 vs) k (at + length (bytes ts))
-      → error f ≡ startsFrom s cap (between at (starts 0 vs))
+      → ((w : Walk) → Stops s cap (at + length (bytes ts)) f w → P w) → P (between at (starts 0 vs))
   unfolding bytes
-  open-fails [] k z same more reported =
+  open-fails [] k z same more reported stops =
       let here : error f ≡ nextToken s cap (starts 0 vs) 0 at = rw (z, add-zero) at reported in
-      walk-error s cap (between at (starts 0 vs)) (lt-leb (length s) at (omega (arith, more z))) f here
-  open-fails (t ∷ is) zero (pos, b) same more reported = absurd (omega arith)
-  open-fails (t ∷ is) (suc k) (pos, b) same more reported =
+      stops (between at (starts 0 vs)) (record { here = sym (add-zero at); going = lt-leb (length s) at (omega (arith, more z)); refuses = here })
+  open-fails (t ∷ is) zero (pos, b) same more reported stops = absurd (omega arith)
+  open-fails (t ∷ is) (suc k) (pos, b) same more reported stops =
       let behind : drop at s ≡ bytes (t ∷ is) ++ rest = rw same (drop-append-seam (region vs) (bytes (t ∷ is) ++ rest)) in
       let long : length s ≡ at + length (emit t) + length (bytes is ++ rest) = ap length same ∙ simp length-append (omega arith) in
       let fits : Fits false t (bytes is ++ rest) = record { allowed = b .head .allowed; flat = refl; room = omega (arith, b .room) } in
       let word : length (starts 0 vs) < cap = omega (arith, b .word, length-starts 0 vs) in
-      walk-error s cap (settled at (starts 0 vs) (at + length (bytes (t ∷ is))) (suc k)) (rw (ne-eqb (suc k) 0 (suc-ne-zero k))) f reported
-      ∙ sym (walks-open s cap (starts 0 vs) at (suc k) t is rest behind fits (b .head .text) (b .items) (b .count) (b .targets) word)
+      walks-open s cap P back (starts 0 vs) at (suc k) t is rest behind fits (b .head .text) (b .items) (b .count) (b .targets) word
+      (stops (settled at (starts 0 vs) (at + length (bytes (t ∷ is))) (suc k))
+      (record { here = refl; going = rw (ne-eqb (suc k) 0 (suc-ne-zero k)); refuses = reported }))
 
-faulty-fails : (file : List ℕ) (cap p : ℕ) (f : Fault) → Faulty file cap p f → (w : Whole file) → error f ≡ startsFrom (w .region) cap (between 0 [])
-faulty-fails file cap p f x w =
+-- the walk from the start reaches it: so what holds there, and goes backward, holds at the start
+faulty-reached : (file : List ℕ) (cap p : ℕ) (f : Fault) → Faulty file cap p f → (w : Whole file) (P : Walk → Type 0) → Backward (w .region) cap P
+    → ((v : Walk) → Stops (w .region) cap p f v → P v) → P (between 0 [])
+faulty-reached file cap p f x w P back stops =
     let s = w .region in
     let vs = x .values in
     let ts = x .tokens in
@@ -207,10 +218,15 @@ faulty-fails file cap p f x w =
     let same : s ≡ region vs ++ (bytes ts ++ drop p s) =
     sym (take-append-drop p s) ∙ ap (λ y. y ++ drop p s) front ∙ append-assoc (region vs) (bytes ts) (drop p s) in
     let at : p ≡ length (region vs) + length (bytes ts) = sym (x .place) ∙ length-append (region vs) (bytes ts) in
-    let walked = walks-prefix s cap [] 0 vs (bytes ts ++ drop p s) same (x .formed .formed) (x .formed .targets) (omega (arith, x .room)) in
     let reported : error f ≡ nextToken s cap (starts 0 vs) (x .missing) p = rw (region-whole file w) at (sym (error-of-refused _ _ _ _ _ (x .refused))) in
-    open-fails s cap f vs (drop p s) ts (x .missing) (rw len at (x .begun)) same (rw (len, at) at (x .more)) (rw at at reported)
-    ∙ ap (λ q. startsFrom s cap (between q (starts 0 vs))) (sym (zero-add (length (region vs)))) ∙ sym walked
+    walks-prefix s cap P back [] 0 vs (bytes ts ++ drop p s) same (x .formed .formed) (x .formed .targets) (omega (arith, x .room))
+    (rw zero-add (open-fails s cap f P back vs (drop p s) ts (x .missing) (rw len at (x .begun)) same (rw (len, at) at (x .more)) (rw at at reported)
+    (rw at at stops)))
+
+faulty-fails : (file : List ℕ) (cap p : ℕ) (f : Fault) → Faulty file cap p f → (w : Whole file) → error f ≡ startsFrom (w .region) cap (between 0 [])
+faulty-fails file cap p f x w =
+    let s = w .region in
+    faulty-reached file cap p f x w (λ v. error f ≡ startsFrom s cap v) (starts-backward s cap (error f)) (λ v h. walk-error s cap v (h .going) f (h .refuses))
 
 pub fault-first : (file : List ℕ) (cap p : ℕ) (f : Fault) → Faulty file cap p f → checkOf file cap .answer ≡ error f
 fault-first file cap p f x =
@@ -236,3 +252,25 @@ fault-exactly file cap f b = (λ e. by-failed (fails file cap f e) e, refused-ch
 
 pub fault-place : {file : List ℕ} {cap p : ℕ} {f : Fault} (x : Faulty file cap p f) → HasPlace (take (length file - 1) file) (ltb 0 (x .missing)) p f
 fault-place x = refused-place (x .refused)
+
+-- ---- one offset, one fault
+
+-- the walk from w stops at p, refusing with f
+data Halts (s : List ℕ) (cap p : ℕ) (f : Fault) : Walk → Type 0 where
+  stop : {w : Walk} → Stops s cap p f w → Halts s cap p f w
+  on : {w : Walk} (h : Head) → ok h ≡ nextToken s cap (w .done) (w .pending) (w .at) → Halts s cap p f (walkAfter w h) → Halts s cap p f w
+
+module _ {s : List ℕ} {cap p q : ℕ} {f g : Fault} where
+  halts-once : {w : Walk} → Halts s cap p f w → Halts s cap q g w → (p ≡ q) × (f ≡ g)
+  halts-once (stop x) (stop y) = let same : error f ≡ error g = x .refuses ∙ sym (y .refuses) in (sym (x .here) ∙ y .here, cc)
+  halts-once (stop x) (on h e y) = let z : error f ≡ ok h = x .refuses ∙ sym e in let no : _≡_ {A = ℕ} 0 1 = cc in absurd (omega arith)
+  halts-once (on h e x) (stop y) = let z : error g ≡ ok h = y .refuses ∙ sym e in let no : _≡_ {A = ℕ} 0 1 = cc in absurd (omega arith)
+  halts-once (on h e x) (on k d y) = let same : ok h ≡ ok k = e ∙ sym d in let is : k ≡ h = cc in halts-once x (rw is at y)
+
+faulty-halts : (file : List ℕ) (cap p : ℕ) (f : Fault) → Faulty file cap p f → (w : Whole file) → Halts (w .region) cap p f (between 0 [])
+faulty-halts file cap p f x w = faulty-reached file cap p f x w (Halts (w .region) cap p f) (λ v t h e r. on h e r) (λ v r. stop r)
+
+pub fault-once : (file : List ℕ) (cap p q : ℕ) (f g : Fault) → Faulty file cap p f → Faulty file cap q g → (p ≡ q) × (f ≡ g)
+fault-once file cap p q f g x y =
+    let w = whole file (x .some) (x .short) in
+    halts-once (faulty-halts file cap p f x w) (faulty-halts file cap q g y w)

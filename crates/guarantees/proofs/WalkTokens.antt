@@ -3,7 +3,7 @@
 -- In order: what is emitted at an offset is read there; what holds for a token that the walk takes (`TakenToken`): the
 -- walk takes it (`next-taken`), and what it takes is such a token (`taken-next`); the walk after a token, by the items
 -- pending there (`settled`, `walk-taken`).
-use mathlib.Core.Path.{_≡_, refl, sym, ap, _∙_}
+use mathlib.Core.Path.{_≡_, refl, sym, ap, _∙_, subst}
 use Prim.Native.Nat.{ℕ, zero, suc, _+_, _<_}
 use mathlib.Core.Bool.{Bool, true, false, _&&_, and-comm}
 use mathlib.Core.List.{List, [], _∷_, _++_}
@@ -13,11 +13,12 @@ use borrow.Author.Tests.{eqb-true, eq-eqb, ne-eqb, leb-true, le-leb, ltb-true, l
 use lib.Dec.{eqb, ltb, leb}
 use lib.ListN.{length, take, drop, length-drop, length-append, take-append-drop}
 use lib.Seq.{length-take-le}
-use Rattle.prelude.specs.Answer.{ok, bind}
+use Rattle.prelude.specs.Answer.{Answer, ok, bind}
 use Rattle.prelude.specs.Bytes.{Bytes}
 use Rattle.prelude.proofs.Tests.{and-l, and-r, unless, unless-by}
 use Rattle.utf8.specs.Text.{Text, isText}
 use Rattle.utf8.proofs.Laws.{text-isText, isText-text}
+use Rattle.error.specs.Error.{Fault}
 use Rattle.kind.specs.Kind.{due}
 use Rattle.token.specs.Token.{Token, emit, Fits}
 use Rattle.token.proofs.Laws.{emit-pos}
@@ -107,10 +108,18 @@ after-settled w h (suc k) e = rw (e, ne-eqb (suc k) 0 (suc-ne-zero k))
 pub due-suc : (k items : ℕ) → due (suc k) items ≡ k
 due-suc k items = rw (ne-eqb (suc k) 0 (suc-ne-zero k)) (omega arith)
 
-pub walk-taken : (s : List ℕ) (cap : ℕ) (w : Walk) (t : Token) (rest : List ℕ) (k : ℕ) → TakenToken s cap w t rest
-    → due (w .pending) (headAt (w .at) t .items) ≡ k
-    → startsFrom s cap w ≡ startsFrom s cap (settled (w .start) (w .done) (w .at + length (emit t)) k)
-walk-taken s cap w t rest k st left =
+-- what holds after a token that the walk takes holds before it
+abbrev pub Backward : List ℕ → ℕ → (Walk → Type 0) → Type 0
+Backward s cap P = (w : Walk) → (eqb (w .pending) 0 && leb (length s) (w .at)) ≡ false → (h : Head)
+    → ok h ≡ nextToken s cap (w .done) (w .pending) (w .at) → P (walkAfter w h) → P w
+
+-- so does what the walk yields
+pub starts-backward : (s : List ℕ) (cap : ℕ) (a : Answer Fault (List ℕ)) → Backward s cap (λ w. a ≡ startsFrom s cap w)
+starts-backward s cap a w t h e yields = yields ∙ walk-token s cap w t h e
+
+pub walk-taken : (s : List ℕ) (cap : ℕ) (P : Walk → Type 0) → Backward s cap P → (w : Walk) (t : Token) (rest : List ℕ) (k : ℕ)
+    → TakenToken s cap w t rest → due (w .pending) (headAt (w .at) t .items) ≡ k → P (settled (w .start) (w .done) (w .at + length (emit t)) k) → P w
+walk-taken s cap P back w t rest k st left p =
     let more : leb (length s) (w .at) ≡ false = lt-leb (length s) (w .at) (omega (arith, emit-pos t, length-at s (w .at) t rest (st .same))) in
-    sym (walk-token s cap w (rw (more, and-comm (eqb (w .pending) 0) false)) (headAt (w .at) t) (next-taken s cap w t rest st))
-    ∙ ap (startsFrom s cap) (after-settled w (headAt (w .at) t) k left)
+    back w (rw (more, and-comm (eqb (w .pending) 0) false)) (headAt (w .at) t) (next-taken s cap w t rest st)
+    (subst P (sym (after-settled w (headAt (w .at) t) k left)) p)
