@@ -217,7 +217,8 @@ check-errors file cap f e = by-failed (fails file cap f e)
     by-failed (early (empty z q)) = rw q
     by-failed (early (long l q)) = rw q
     by-failed (walking w q) =
-        each-among (λ n. among n checkErrors ≡ true) (f .number) walkErrors (each-every (λ n. among n checkErrors) walkErrors refl) (walk-known (w .region) cap f q)
+        each-among (λ n. among n checkErrors ≡ true) (f .number) walkErrors (each-every (λ n. among n checkErrors) walkErrors refl)
+        (walk-known (w .region) cap f q)
     by-failed (last w done walked q none) = rw q
 
 pub depths-errors-known : (file : List ℕ) (cap room : ℕ) (f : Fault) → depthsOf file cap room .answer ≡ error f → among (f .number) checkErrors ≡ true

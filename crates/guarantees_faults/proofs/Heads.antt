@@ -32,7 +32,8 @@ module _ (s : List ℕ) (inner : Bool) (q : ℕ) where
   abbrev fromNumber : ℕ → List ℕ → Res Fault Token
   fromNumber h =
       number q (leb 15 (h % 16)) >>= (λ v.
-      need (leb (h % 16 + v) (rule (h / 16) .most)) (fault RANGE q) >> (number q (rule (h / 16) .args) >>= body q (length s) (h / 16) (rule (h / 16)) (h % 16 + v)))
+      need (leb (h % 16 + v) (rule (h / 16) .most)) (fault RANGE q)
+      >> (number q (rule (h / 16) .args) >>= body q (length s) (h / 16) (rule (h / 16)) (h % 16 + v)))
 
   abbrev fromCount : ℕ → ℕ → List ℕ → Res Fault Token
   fromCount h n = number q (rule (h / 16) .args) >>= body q (length s) (h / 16) (rule (h / 16)) n
@@ -49,7 +50,8 @@ module _ (s : List ℕ) (inner : Bool) (q : ℕ) where
     usable-on : {m : List ℕ} → Usable s inner q h m → fromNumber h m ≡ x → scanned ≡ x
     unfolding scan scanKind
     usable-on u e =
-        rw (u .header, header-end (u .header)) (need-on _ _ _ (lt-ltb _ _ (u .used)) (need-on _ _ _ (ap not (unless inner (immediate (rule (h / 16))) (u .flat))) e))
+        rw (u .header, header-end (u .header))
+        (need-on _ _ _ (lt-ltb _ _ (u .used)) (need-on _ _ _ (ap not (unless inner (immediate (rule (h / 16))) (u .flat))) e))
 
     numbered-on : {n : ℕ} {m : List ℕ} → Numbered s inner q h n m → fromCount h n m ≡ x → scanned ≡ x
     numbered-on r e =

@@ -46,12 +46,17 @@ module _ (r : Rule) (n left : ℕ) where
 abbrev factor : Rule → ℕ
 factor r = r .scale + r .each
 
+no-wrap : (c : tie.Else1) → let a = c .before .before .args in a .rule .fixed + factor (a .rule) * a .n < 2 ^ 64
+no-wrap c =
+    let b = c .before .before in
+    need-lt (b .args .rule) _ _ (factor (b .args .rule)) (omega arith) (b .pre .0) (b .pre .1) (b .pre .2) (c .if1 .left)
+
 pub has-room-spec : {M : Type 1} → statement M
 has-room-spec =
     tie.close
     (tie.spec
     (λ c. search needs)
     (λ c. room-count (c .before .before .args .rule) _ _ (c .if1 .taken))
-    (λ c. let a = c .before .before in omega (arith, need-lt (a .args .rule) _ _ (factor (a .args .rule)) (omega arith) (a .pre .0) (a .pre .1) (a .pre .2) (c .if1 .left)))
-    (λ c. let a = c .before .before .before in omega (arith, need-lt (a .args .rule) _ _ (factor (a .args .rule)) (omega arith) (a .pre .0) (a .pre .1) (a .pre .2) (c .before .if1 .left)))
+    (λ c. omega (arith, no-wrap c))
+    (λ c. omega (arith, no-wrap (c .before)))
     (λ c. room-need (c .before .before .before .args .rule) _ _))
