@@ -31,11 +31,11 @@
 extern "C" {
 #endif
 
-/* The version of this interface: raised by 1 with each change of what a caller hands over or gets, such as a parameter
-   or the words of a state, but not with a new function or a new error number: take every answer but TWINE_OK for an
-   error. The archive has a function that is named after its version, and whatever includes this header refers to it:
-   compiled against another version, it does not link. gcc and clang keep the reference, also with --gc-sections (before
-   gcc 11 and clang 13 only without); another compiler may drop it. */
+/* The version of this interface: raised by 1 if a parameter, the words of a state or the layout of an answer changes. A
+   new function or error number does not raise it: take every answer but TWINE_OK for an error. The archive has a
+   function that is named after its version, and whatever includes this header refers to it: compiled against another
+   version, it does not link. gcc and clang keep the reference, also with --gc-sections (before gcc 11 and clang 13 only
+   without); another compiler may drop it. */
 #define TWINE_ABI 1
 
 #define TWINE_ABI_PASTE(version) twine_abi_##version
@@ -69,7 +69,8 @@ TWINE_ABI_KEEP static uint32_t (*const twine_abi_reference)(void) = TWINE_ABI_NA
 #define TWINE_NAME 11
 
 /* What a call answers. In brackets the place, the offset that is returned with the number; the writer's errors have
-   none. */
+   none. twine_check of a file that was cut gives TRUNC, LONG_BODY or LONG_LIST, BAD_ENTRY if the cut is between two
+   values, EMPTY if nothing is left, or OK by chance; damaged files give these too. */
 enum twine_error {
     TWINE_OK = 0,
     /* the file has no bytes [0] */
@@ -109,10 +110,10 @@ enum twine_error {
     TWINE_CLOSED = 17,
     /* writer: a state that output or table do not fit, or whose open value is not among the bytes written */
     TWINE_BAD_STATE = 18,
-    /* the length of a text or byte string exceeds the bytes left in the region [the offset just after the numbers] */
+    /* the length of a text or byte string exceeds the bytes left in the region [the offset at which its body starts] */
     TWINE_LONG_BODY = 19,
-    /* a count of items exceeds the bytes left in the region, or a count of pairs half of them [the offset just after the
-       numbers] */
+    /* a count of items exceeds the bytes left in the region, or a count of pairs half of them [the offset at which the
+       first item would start] */
     TWINE_LONG_LIST = 20
 };
 
@@ -170,9 +171,9 @@ uint32_t twine_depths(const uint8_t *file, size_t len,
    offset 0: it may be any lower offset. */
 
 /* Reads the value at an offset, but neither its items nor the bytes of a text. out = {kind, number, first, count};
-   first is the offset just after the header's numbers, at which the body or the first item starts. The body is in the
-   region, else TWINE_LONG_BODY, or TWINE_TRUNC for a float; the items of an array, map or VARIANTN are no more than the
-   bytes left there, else TWINE_LONG_LIST.
+   first is the offset just after the header's numbers, at which the body or the first item starts. TWINE_LONG_BODY if a
+   text or byte string goes past the region's end, TWINE_LONG_LIST if an array, map or VARIANTN has more items than
+   bytes are left, TWINE_TRUNC if the region ends inside a number or a float.
 
      kind                  number                              count
      SCALAR                0 false, 1 true, 2 null             0
@@ -193,8 +194,9 @@ uint32_t twine_skip(const uint8_t *file, size_t len, size_t at, uint64_t out[2])
 
 /* An item of the value at an offset; neither is followed. For a map keys and values alternate.
    out = {offset of the item, 0}. TWINE_WRONG_KIND for a kind without items, TWINE_NO_ITEM for an index at or past the
-   count. Its time grows with the items before it: for a value that twine_skip accepts, as in a checked file, a loop over
-   items takes item 0, and then what twine_skip returns for each. */
+   count; the errors of the items before it; TWINE_TRUNC if it would start at the region's end. Its time grows with the
+   items before it: for a value that twine_skip accepts, as in a checked file, a loop over items takes item 0, and then
+   what twine_skip returns for each. */
 uint32_t twine_item(const uint8_t *file, size_t len, size_t at, size_t index, uint64_t out[2]);
 
 /* Follows pointers, but not references, from the value at an offset to one that is not a pointer.
@@ -203,7 +205,8 @@ uint32_t twine_follow(const uint8_t *file, size_t len, size_t at, uint64_t out[2
 
 /* The value that the map at an offset has for a key: that of the first pair whose key, followed, is a text of these
    bytes; a key that is, or points at, a reference is no such key. Neither the map nor the value is followed.
-   out = {offset of the value, 0}. TWINE_WRONG_KIND for another kind, TWINE_NO_ITEM if there is no such key. */
+   out = {offset of the value, 0}. TWINE_WRONG_KIND for another kind; the errors of the pairs before it and of its key;
+   TWINE_TRUNC if the value would start at the region's end; TWINE_NO_ITEM if there is no such key. */
 uint32_t twine_lookup(const uint8_t *file, size_t len, size_t at,
                       const uint8_t *key, size_t key_len, uint64_t out[2]);
 

@@ -2,7 +2,7 @@
 
 use std::fmt;
 
-/// What is wrong. The numbers and names are those of document 01.
+/// What is wrong, with the papers' numbers and names. The region is all bytes of the file but the last.
 #[derive(Clone, Copy, Debug, PartialEq, Eq, Hash, PartialOrd, Ord)]
 #[repr(u32)]
 pub enum ErrorKind {
@@ -10,7 +10,7 @@ pub enum ErrorKind {
     Empty = 1,
     /// The file has more than [`LIMIT`](crate::LIMIT) bytes.
     TooLong = 2,
-    /// The region ends inside a number or a float, or where an item is wanted.
+    /// The region ends inside a number or a float, and the place is the header; or an item is wanted at its end, and the place is that end.
     Trunc = 3,
     /// A reserved kind or low nibble.
     Reserved = 4,
@@ -42,10 +42,10 @@ pub enum ErrorKind {
     Closed = 17,
     /// In the writer: a state that the output or the table does not fit. A [`Writer`](crate::Writer) never has one.
     BadState = 18,
-    /// The length of a text or byte string exceeds the bytes left in the region. The place is the offset just after the numbers.
+    /// The length of a text or byte string exceeds the bytes left in the region. The place is where its body starts.
     LongBody = 19,
-    /// A count of items exceeds the bytes left in the region, or a count of pairs half of them. The place is the offset just after the
-    /// numbers.
+    /// A count of items exceeds the bytes left in the region, or a count of pairs half of them. The place is where the first item would
+    /// start.
     LongList = 20,
 }
 
@@ -85,7 +85,7 @@ impl ErrorKind {
         Self::ALL.get(index as usize).copied()
     }
 
-    /// The name as document 01 spells it.
+    /// The name as the papers spell it.
     ///
     /// ```
     /// assert_eq!(twine::ErrorKind::BadTarget.name(), "BAD_TARGET");

@@ -24,8 +24,8 @@
 //! ```
 //!
 //! What the library answers is proved for every input. The crate itself is not: it hands slices over and names the answers. No bytes,
-//! offsets or calls make it panic; only an archive that breaks its contract does, or a newer one with an error that [`ErrorKind`] does not
-//! have, and one of another version does not link. Offsets that the archive returns are bounds-checked before they are used.
+//! offsets or calls make it panic; only an archive that breaks its contract, or a newer one that returns an error which [`ErrorKind`] does
+//! not have. An archive of another version does not link. Offsets that the archive returns are bounds-checked before they are used.
 
 #[cfg(not(target_pointer_width = "64"))]
 compile_error!("libtwine.a is for 64-bit targets");

@@ -116,7 +116,7 @@ pub struct Token {
 /// ```
 /// use twine::{query, ErrorKind};
 ///
-/// // an array of three items, with a byte for one
+/// // an array of three items, with one byte left for them
 /// let error = query::read(&[0x63, 0x10, 0x00], 0).unwrap_err();
 /// assert_eq!((error.kind, error.place), (ErrorKind::LongList, Some(1)));
 /// ```
@@ -125,14 +125,15 @@ pub fn read(file: &[u8], at: usize) -> Result<Token, Error> {
     Ok(Token { kind: Kind::from_number(kind), number, first: first as usize, count: count as usize })
 }
 
-/// The offset just after the value at `at`. Its items are read too; TRUNC if the region ends where one is wanted.
+/// The offset just after the value at `at`. Its items are read too, with their errors; TRUNC if the region ends where one is wanted.
 pub fn skip(file: &[u8], at: usize) -> Result<usize, Error> {
     Ok(sys::skip(file, at)?[0] as usize)
 }
 
 /// The offset of an item of the value at `at`, which is not followed; for a map keys and values alternate.
 ///
-/// NO_ITEM for an index at or past the count, WRONG_KIND for a kind without items. Its time grows with the items before it.
+/// NO_ITEM for an index at or past the count, WRONG_KIND for a kind without items; the errors of the items before it; TRUNC if it would
+/// start at the region's end. Its time grows with the items before it.
 pub fn item(file: &[u8], at: usize, index: usize) -> Result<usize, Error> {
     Ok(sys::item(file, at, index)?[0] as usize)
 }
@@ -148,7 +149,8 @@ pub fn follow(file: &[u8], at: usize) -> Result<(usize, usize), Error> {
 /// The offset of a key's value in the map at `at`, which is not followed: that of the first pair whose key, followed, is a text of these
 /// bytes.
 ///
-/// NO_ITEM if there is no such key, WRONG_KIND for another kind than a map.
+/// NO_ITEM if there is no such key, WRONG_KIND for another kind than a map; the errors of the pairs before it and of its key; TRUNC if the
+/// value would start at the region's end.
 pub fn lookup(file: &[u8], at: usize, key: impl AsRef<[u8]>) -> Result<usize, Error> {
     Ok(sys::lookup(file, at, key.as_ref())?[0] as usize)
 }
