@@ -34,7 +34,7 @@ use Rattle.depths_value.specs.Depth.{targetDepth, depthState, deepestFrom, dept
 use Rattle.depths_value.proofs.Laws.{deepest-end, deepest-token}
 use Rattle.depths.specs.Depths.{Deepened, deepened, deepen, depthsOf}
 use Rattle.guarantees.proofs.Files.{answer-error}
-use Rattle.guarantees.specs.Refused as refused
+use Rattle.guarantees.specs.Refused as rows
 use Rattle.guarantees.specs.Refused.{RefusedDepths}
 use Rattle.guarantees.proofs.Accepts.{finds}
 use Rattle.guarantees.proofs.Accepted.{accepted}
@@ -225,9 +225,12 @@ depths-errors file cap room f e = rw (← answer-error cap f (checkIn file cap) 
 
 -- ---- what depths refuses, both ways
 
+answers : {d e : Deepened} → d ≡ e → d .answer ≡ e .answer
+answers same = ap (λ (d : Deepened). d .answer) same
+
 refused-depths : (file : List ℕ) (cap room : ℕ) {f : Fault} → Bytes file → RefusedDepths file cap room f → depthsOf file cap room .answer ≡ error f
-refused-depths file cap room {f} b (refused.check x) = depths-errors file cap room f (fault-exactly file cap f b .1 x)
-refused-depths file cap room b (refused.full vs entry w words few) = ap (λ (d : Deepened). d .answer) (depths-full file vs entry cap room w words few)
+refused-depths file cap room {f} b (rows.check x) = depths-errors file cap room f (fault-exactly file cap f b .1 x)
+refused-depths file cap room b (rows.full vs entry w words few) = answers (depths-full file vs entry cap room w words few)
 
 pub depths-refused-exactly : (file : List ℕ) (cap room : ℕ) (f : Fault) → Bytes file
     → (depthsOf file cap room .answer ≡ error f) ↔ RefusedDepths file cap room f
@@ -236,16 +239,14 @@ depths-refused-exactly file cap room f b = (by-check (checkOf file cap .answer) 
     by-check : (a : Answer Fault (ℕ × ℕ)) → checkOf file cap .answer ≡ a → depthsOf file cap room .answer ≡ error f → RefusedDepths file cap room f
     by-check (error g) c e =
         let same : error g ≡ error f = sym (depths-errors file cap room g c) ∙ e in
-        refused.check (fault-exactly file cap f b .0 (c ∙ same))
+        rows.check (fault-exactly file cap f b .0 (c ∙ same))
     by-check (ok (count, entry)) c e =
         let a = accepted file cap count entry b c in
         let vs = a .values in
         split room (length vs)
-        (λ few. let same : error f ≡ error (fault FULL (getD (starts 0 vs) room 0)) =
-        sym e ∙ ap (λ (d : Deepened). d .answer) (depths-full file vs entry cap room (a .wellFormed) (a .room) few) in
+        (λ few. let full = sym e ∙ answers (depths-full file vs entry cap room (a .wellFormed) (a .room) few) in
         let is : f ≡ fault FULL (getD (starts 0 vs) room 0) = cc in
-        rw is (refused.full vs entry (a .wellFormed) (a .room) few))
-        (λ enough. let no : ok (length vs, entry) ≡ error f =
-        sym (ap (λ (d : Deepened). d .answer) (depths-accept file vs entry cap room (a .wellFormed) (a .room) enough)) ∙ e in
+        rw is (rows.full vs entry (a .wellFormed) (a .room) few))
+        (λ enough. let no = sym (answers (depths-accept file vs entry cap room (a .wellFormed) (a .room) enough)) ∙ e in
         let z : _≡_ {A = ℕ} 0 1 = cc in
         absurd (omega arith))

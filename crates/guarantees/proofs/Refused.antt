@@ -30,7 +30,7 @@ use Rattle.checker_value.proofs.Walks.{WalkInvariant, walk-error}
 use Rattle.guarantees_faults.specs.Faults.{HasPlace, RefusedToken}
 use Rattle.guarantees_faults.proofs.Refused.{error-of-refused}
 use Rattle.guarantees_faults.proofs.Places.{walkErrors, refused-known, refused-place}
-use Rattle.guarantees.specs.Refused as check
+use Rattle.guarantees.specs.Refused as rows
 use Rattle.guarantees.specs.Refused.{Unnamed, Begun, Open, Faulty, RefusedCheck}
 use Rattle.guarantees.proofs.Files.{Whole, whole, length-whole, region-whole, bytes-whole, checkIn-whole, entered, entered-none}
 use Rattle.guarantees.proofs.Files.{empty, long, at-once, answer-error, Failed, early, walking, last, failed}
@@ -236,19 +236,19 @@ fault-first file cap p f x =
 -- ---- all of check's errors
 
 refused-check : (file : List ℕ) (cap : ℕ) {f : Fault} → RefusedCheck file cap f → checkOf file cap .answer ≡ error f
-refused-check file cap (check.empty z) = empty-exactly file cap 0 .1 (z, refl)
-refused-check file cap (check.long l) = too-long-exactly file cap 0 .1 (l, refl)
-refused-check file cap (check.walk {p} {f} x) = fault-first file cap p f x
-refused-check file cap (check.entry {p} u) = answers file cap (fault BAD_ENTRY p) (unnamed-fails file cap p u)
+refused-check file cap (rows.empty z) = empty-exactly file cap 0 .1 (z, refl)
+refused-check file cap (rows.long l) = too-long-exactly file cap 0 .1 (l, refl)
+refused-check file cap (rows.walk {p} {f} x) = fault-first file cap p f x
+refused-check file cap (rows.entry {p} u) = answers file cap (fault BAD_ENTRY p) (unnamed-fails file cap p u)
 
 pub fault-exactly : (file : List ℕ) (cap : ℕ) (f : Fault) → Bytes file → (checkOf file cap .answer ≡ error f) ↔ RefusedCheck file cap f
 fault-exactly file cap f b = (λ e. by-failed (fails file cap f e) e, refused-check file cap)
   where
     by-failed : Failed file cap f → checkOf file cap .answer ≡ error f → RefusedCheck file cap f
-    by-failed (early (empty z q)) e = rw q (check.empty z)
-    by-failed (early (long l q)) e = rw q (check.long l)
-    by-failed (walking w q) e = check.walk (faulty file cap f w b q .1)
-    by-failed (last w done walked q unnamed) e = rw q (check.entry (bad-entry-exactly file cap (length (w .region)) b .0 (e ∙ ap error q)))
+    by-failed (early (empty z q)) e = rw q (rows.empty z)
+    by-failed (early (long l q)) e = rw q (rows.long l)
+    by-failed (walking w q) e = rows.walk (faulty file cap f w b q .1)
+    by-failed (last w done walked q unnamed) e = rw q (rows.entry (bad-entry-exactly file cap (length (w .region)) b .0 (e ∙ ap error q)))
 
 pub fault-place : {file : List ℕ} {cap p : ℕ} {f : Fault} (x : Faulty file cap p f) → HasPlace (take (length file - 1) file) (ltb 0 (x .missing)) p f
 fault-place x = refused-place (x .refused)
