@@ -12,9 +12,9 @@ use lib.ListN.{length}
 use Rattle.prelude.specs.Pick.{pick}
 use Rattle.prelude.specs.Search.{among}
 use Rattle.error.specs.Error.{Fault, TRUNC, RESERVED, OVERLONG, RANGE, NESTED, BAD_TEXT, BAD_TARGET, FULL, LONG_BODY, LONG_LIST}
-use Rattle.prelude.proofs.Tests.{and-l, and-r}
 use Rattle.prelude.proofs.Tables.{every}
-use Rattle.values.proofs.Members.{each-among, each-every}
+use Rattle.values.specs.Values.{Each}
+use Rattle.values.proofs.Members.{each-every, each-append, each-among}
 use Rattle.guarantees_faults.specs.Faults as faults
 use Rattle.guarantees_faults.specs.Faults.{longErrors, BadNumber, Exceeds, RefusedHead, HasPlace, RefusedToken}
 
@@ -73,19 +73,17 @@ place-at (faults.numbers c l e) other = absurd (false≢true (sym other ∙ l))
 abbrev pub walkErrors : List ℕ
 walkErrors = BAD_TEXT ∷ BAD_TARGET ∷ FULL ∷ tokenErrors true
 
+-- what holds of each error of an item holds of each error of a value
+token-each : (P : ℕ → Type 0) (inner : Bool) → Each P (tokenErrors true) → Each P (tokenErrors inner)
+token-each P true h = h
+token-each P false h = each-append P valueErrors (NESTED ∷ []) .0 h .0
+
 -- a test that all these pass, the error of a token passes
-module _ (p : ℕ → Bool) (passed : every p (tokenErrors true) ≡ true) where
-  every-front : (a b : List ℕ) → every p (a ++ b) ≡ true → every p (a ++ []) ≡ true
-  every-front [] b e = refl
-  every-front (x ∷ a) b e = rw (and-l (p x) _ e, every-front a b (and-r (p x) _ e))
-
-  token-every : (inner : Bool) → every p (tokenErrors inner) ≡ true
-  token-every true = passed
-  token-every false = every-front valueErrors (NESTED ∷ []) passed
-
-  head-every : {s : List ℕ} {inner : Bool} {q : ℕ} {f : Fault} → RefusedHead s inner q f → p (f .number) ≡ true
-  head-every {inner = inner} {f = f} x = each-among (λ e. p e ≡ true) (f .number) (tokenErrors inner) (each-every p (tokenErrors inner) (token-every inner))
-      (head-known x)
+head-every : (p : ℕ → Bool) → every p (tokenErrors true) ≡ true → {s : List ℕ} {inner : Bool} {q : ℕ} {f : Fault} → RefusedHead s inner q f
+    → p (f .number) ≡ true
+head-every p passed {inner = inner} {f = f} x =
+    let each = token-each (λ e. p e ≡ true) inner (each-every p (tokenErrors true) passed) in
+    each-among (λ e. p e ≡ true) (f .number) (tokenErrors inner) each (head-known x)
 
 module _ {s : List ℕ} {cap : ℕ} {done : List ℕ} {pending q : ℕ} where
   pub refused-known : {f : Fault} → RefusedToken s cap done pending q f → among (f .number) walkErrors ≡ true
