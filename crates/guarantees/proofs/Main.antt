@@ -1,10 +1,10 @@
 -- The demands as theorems: each is one record of specs/Demands.antt, whose fields are the demand's sentences in their order, and each field is a citation.
 -- docs/GUARANTEES.md quotes these statements and records, and reads them aloud.
 --
--- After the three demands, what says more than they do: check's answers (in at most one way, and which refusal when); what a query answers, and what
+-- After the three demands, what says more than they do: the answers of check and depths (in at most one way, and which refusal when); what a query answers, and what
 -- it is refused for, on every file, lookup also by the other queries; one call of the writer in any state; lists of calls from any writer that
 -- follows a model, in C and by their parts, and an open value finished; longer memory, and how many words are enough; paths; what all of this rests on
--- (numbers and tokens there and back); document 01's samples.
+-- (numbers and tokens there and back); the papers' samples.
 use mathlib.Core.Path.{_≡_}
 use mathlib.Core.Bool.{Bool, true, false}
 use mathlib.Core.Logic.{_⊎_, _↔_}
@@ -56,7 +56,7 @@ use Rattle.guarantees_faults.proofs.Lookups as lookup-queries
 use Rattle.guarantees.specs.Accepts.{Overfull}
 use Rattle.guarantees.specs.Refused.{Unnamed, Faulty, RefusedCheck, RefusedDepths}
 use Rattle.guarantees.specs.Lookup.{Found, Missing}
-use Rattle.guarantees.specs.Samples.{Query, SampleAnswer, sampleAnswer, samples, endSamples}
+use Rattle.guarantees.specs.Samples.{Answered, samples, endSamples}
 use Rattle.guarantees_writer.specs.Model.{requestOf, formsOf, deltaOf, Model, emptyModel}
 use Rattle.guarantees_writer.specs.RefusedCall.{NoRoom, RefusedCall}
 use Rattle.guarantees_writer.specs.History.{modelRun, Agree, Follows, Alike}
@@ -307,12 +307,10 @@ emit-scan = token.emit-scan
 
 -- ---- document 01's samples
 
-pub the-samples : map (λ (x : (List ℕ) × Query × SampleAnswer). sampleAnswer (x .0) (x .1)) samples
-    ≡ map (λ (x : (List ℕ) × Query × SampleAnswer). x .2) samples
+pub the-samples : Answered samples
 the-samples = sampled.the-samples
 
-pub the-ends : map (λ (x : (List ℕ) × Query × SampleAnswer). sampleAnswer (x .0) (x .1)) endSamples
-    ≡ map (λ (x : (List ℕ) × Query × SampleAnswer). x .2) endSamples
+pub the-ends : Answered endSamples
 the-ends = sampled.the-ends
 
 pub the-written : map writes written ≡ map expects written

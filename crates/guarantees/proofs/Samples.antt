@@ -1,7 +1,5 @@
 -- The twelve marked samples of document 01, and samples of W-201, by computation of the definitions that the contracts cite.
-use mathlib.Core.Path.{_≡_, refl}
-use mathlib.Core.List.{List, map}
-use Prim.Native.Nat.{ℕ}
+use mathlib.Core.Path.{refl}
 use Rattle.prelude.specs.Answer.{bind, guard, then, orError, _>>_, _>>=_}
 use Rattle.prelude.specs.Loop.{run, from}
 use Rattle.prelude.specs.Search.{among, rank}
@@ -17,20 +15,17 @@ use Rattle.checker_value.specs.Walk as walks
 use Rattle.checker.specs.Check as check
 use Rattle.depths_value.specs.Depth as deep
 use Rattle.depths.specs.Depths.{depthsOf}
-use Rattle.guarantees.specs.Samples.{Query, SampleAnswer, sampleAnswer, samples, endSamples}
+use Rattle.guarantees.specs.Samples.{sampleAnswer, Answered, samples, endSamples}
 
-pub the-samples : map (λ (x : (List ℕ) × Query × SampleAnswer). sampleAnswer (x .0) (x .1)) samples
-    ≡ map (λ (x : (List ℕ) × Query × SampleAnswer). x .2) samples
+computed : Answered samples × Answered endSamples
 unfolding sampleAnswer bind guard then orError _>>_ _>>=_ run from among rank get rule getIf number body scanKind scan
     headOf scanAt lead next textFrom regionLen inRegion peekIn skipItems valueOn readIn startsIn itemOn itemIn
     walks.hasTarget walks.tokenFault walks.nextToken walks.walkAfter walks.walkTurn walks.startsFrom check.entryAt
     check.checkIn check.checkOf deep.depthTurn deep.deepestFrom deep.depthAt deep.depthsTo depthsOf
-the-samples = refl
+computed = (refl, refl)
 
-pub the-ends : map (λ (x : (List ℕ) × Query × SampleAnswer). sampleAnswer (x .0) (x .1)) endSamples
-    ≡ map (λ (x : (List ℕ) × Query × SampleAnswer). x .2) endSamples
-unfolding sampleAnswer bind guard then orError _>>_ _>>=_ run from among rank get rule getIf number body scanKind scan
-    headOf scanAt lead next textFrom regionLen inRegion peekIn skipItems valueOn readIn startsIn itemOn itemIn
-    walks.hasTarget walks.tokenFault walks.nextToken walks.walkAfter walks.walkTurn walks.startsFrom check.entryAt
-    check.checkIn check.checkOf deep.depthTurn deep.deepestFrom deep.depthAt deep.depthsTo depthsOf
-the-ends = refl
+pub the-samples : Answered samples
+the-samples = computed .0
+
+pub the-ends : Answered endSamples
+the-ends = computed .1

@@ -6,12 +6,14 @@
 --   sampleAnswer file q
 --                    the answer by the definitions that the contracts cite
 --   refused f place  check's error f at `place`, which leaves zeros
+--   Answered xs      the definitions give each sample of the list xs its answer
 --   samples          the list
 --   endSamples       W-201: what goes past the region's end, or just reaches it, by the readings of docs/READINGS.md. In order: lengths, the item's among
 --                    them, and before BAD_TEXT (D1, D3, A10); counts of items, pairs and arguments, and one pair that fits (A8, A9, D1); a number, a float
 --                    and the one item of a tag (A10, D2, A5); the greatest n of each kind with a length or count, and one more (A3); queries (B3)
 use Prim.Native.Nat.{ℕ, _-_, _^_}
-use mathlib.Core.List.{List, [], _∷_, _++_}
+use mathlib.Core.Path.{_≡_}
+use mathlib.Core.List.{List, [], _∷_, _++_, map}
 use lib.IntN.{negsuc}
 use lib.ListN.{replicate}
 use Rattle.prelude.specs.Answer.{Answer, ok, error}
@@ -41,7 +43,13 @@ sampleAnswer file (read at) = value (readOf file at)
 abbrev refused : ℕ → ℕ → SampleAnswer
 refused f place = table (checked (error (fault f place)) (replicate 4 0)) (replicate 4 0)
 
-abbrev pub samples : List ((List ℕ) × Query × SampleAnswer)
+abbrev Sample : Type 0
+Sample = (List ℕ) × Query × SampleAnswer
+
+abbrev pub Answered : List Sample → Type 0
+Answered xs = map (λ (x : Sample). sampleAnswer (x .0) (x .1)) xs ≡ map (λ (x : Sample). x .2) xs
+
+abbrev pub samples : List Sample
 samples =
     ([], check, refused EMPTY 0)
     ∷ (0x00 ∷ [], check, refused BAD_ENTRY 0)
@@ -68,7 +76,7 @@ samples =
 abbrev greatest : ℕ → ℕ → List ℕ
 greatest h last = h ∷ last ∷ (replicate 8 0xff ++ (0x01 ∷ 0x00 ∷ []))
 
-abbrev pub endSamples : List ((List ℕ) × Query × SampleAnswer)
+abbrev pub endSamples : List Sample
 endSamples =
     (0x55 ∷ 0x61 ∷ 0x00 ∷ [], check, refused LONG_BODY 1)
     ∷ (0x61 ∷ 0x45 ∷ 0x61 ∷ 0x00 ∷ [], check, refused LONG_BODY 2)
