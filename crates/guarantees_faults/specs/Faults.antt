@@ -1,5 +1,5 @@
 -- What a token is refused for (document 01, "Numbers of refusal", and document 02, W-201), by the bytes and the kind table alone; nothing here reads.
--- Which kinds have a length or a count, and of which size, is said by their numbers, and not by the table.
+-- Which kinds have a length or a count, and what it measures, is said kind by kind, and not by the table.
 --
 -- The rows of `RefusedToken`, and in them those of `RefusedHead`, are in the paper's order: "the first fault wins. Within a value: FULL, RESERVED,
 -- NESTED, number (TRUNC, then RANGE of the tenth byte, OVERLONG, RANGE of n), the second number of kind 12 likewise, TRUNC of the body, BAD_TEXT,

@@ -1,4 +1,5 @@
--- What a query answers, and what it is refused for (document 01, "Questions at an offset"), by the bytes and the kind table alone; nothing here reads.
+-- What a query answers, and what it is refused for (document 01, "Questions at an offset"; document 02, W-201), by the bytes and the kind table alone;
+-- nothing here reads.
 --
 -- "All work on unchecked files: EMPTY, TOO_LONG, OUTSIDE, the order above, then WRONG_KIND". As in specs/Faults.antt a row says its own fault f, number
 -- and place, and that no row above it applies.

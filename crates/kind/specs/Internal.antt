@@ -31,7 +31,7 @@ pub record Row (r : Rule) : Type 0 where
   pub single : r .single ≤ 1
   pub unit : r .scale + r .each ≤ 4
   pub need : r .fixed + (r .scale + r .each) * min (r .most) (2 ^ 63 - 1) < 2 ^ 64
-  -- a body has bytes for each n, or none
+  -- fixed bytes only beside bytes for each n
   pub fixed : r .fixed ≤ 4 * r .scale
   -- if a second number counts the items, there is nothing else
   pub many : r .args ≡ true → r .scale + r .single + r .each ≡ 0

@@ -10,7 +10,7 @@
 --   scanKind ..          after a header of kind k, rule r and low nibble `low`, of bytes that end at `end`: RESERVED, NESTED for an item, the
 --                        number (TRUNC, RANGE of the tenth byte, OVERLONG), RANGE of n, the second number likewise,
 --                        the shortage of the body or of the counted items
---   scan inner at s      the token at the front of s, whose header has the offset `at`, and the bytes after it; TRUNC if s is empty
+--   scan inner at s      the token at the front of s, which is wanted at the offset `at`, and the bytes after it; TRUNC if s is empty
 use Prim.Native.Nat.{ℕ, _+_, _-_, _/_, _%_}
 use mathlib.Core.Bool.{Bool, not, _&&_}
 use mathlib.Core.List.{List, [], _∷_}
