@@ -1,10 +1,10 @@
 -- The demands as theorems: each is one record of specs/Demands.antt, whose fields are the demand's sentences in their order, and each field is a citation.
 -- docs/GUARANTEES.md quotes these statements and records, and reads them aloud.
 --
--- After the three demands, what says more than they do: the answers of check and depths (in at most one way, and which refusal when); what a query answers, and what
--- it is refused for, on every file, lookup also by the other queries; one call of the writer in any state; lists of calls from any writer that
--- follows a model, in C and by their parts, and an open value finished; longer memory, and how many words are enough; paths; what all of this rests on
--- (numbers and tokens there and back); the papers' samples.
+-- After the three demands, what says more than they do: the answers of check and depths (in at most one way, and which refusal when); what a query
+-- answers, and what it is refused for, on every file, lookup also by the other queries; one call of the writer in any state; lists of calls from any
+-- writer that follows a model, in C and by their parts, and an open value finished; longer memory, and how many words are enough; paths; what all of this
+-- rests on (numbers and tokens there and back); the papers' samples.
 use mathlib.Core.Path.{_≡_}
 use mathlib.Core.Bool.{Bool, true, false}
 use mathlib.Core.Logic.{_⊎_, _↔_}

@@ -178,10 +178,10 @@ module _ (file : List ℕ) (cap : ℕ) (f : Fault) (w : Whole file) where
 -- ---- and such a fault is the answer
 
 -- the walk is at p, and refuses the token there with f
-pub record Stops (s : List ℕ) (cap p : ℕ) (f : Fault) (w : Walk) : Type 0 where
-  pub here : w .at ≡ p
-  pub going : (eqb (w .pending) 0 && leb (length s) (w .at)) ≡ false
-  pub refuses : error f ≡ nextToken s cap (w .done) (w .pending) (w .at)
+record Stops (s : List ℕ) (cap p : ℕ) (f : Fault) (w : Walk) : Type 0 where
+  here : w .at ≡ p
+  going : (eqb (w .pending) 0 && leb (length s) (w .at)) ≡ false
+  refuses : error f ≡ nextToken s cap (w .done) (w .pending) (w .at)
 
 module _ (s : List ℕ) (cap : ℕ) (f : Fault) (P : Walk → Type 0) (back : Backward s cap P) (vs : List Value) (rest : List ℕ) where
   abbrev at : ℕ

@@ -2,7 +2,7 @@
 --
 -- In order: what is emitted at an offset is read there; what holds for a token that the walk takes (`TakenToken`): the
 -- walk takes it (`next-taken`), and what it takes is such a token (`taken-next`); the walk after a token, by the items
--- pending there (`settled`, `walk-taken`).
+-- pending there (`settled`), for a property that goes backward (`Backward`, `walk-taken`).
 use mathlib.Core.Path.{_≡_, refl, sym, ap, _∙_, subst}
 use Prim.Native.Nat.{ℕ, zero, suc, _+_, _<_}
 use mathlib.Core.Bool.{Bool, true, false, _&&_, and-comm}
@@ -108,12 +108,12 @@ after-settled w h (suc k) e = rw (e, ne-eqb (suc k) 0 (suc-ne-zero k))
 pub due-suc : (k items : ℕ) → due (suc k) items ≡ k
 due-suc k items = rw (ne-eqb (suc k) 0 (suc-ne-zero k)) (omega arith)
 
--- what holds after a token that the walk takes holds before it
+-- a property of the walk that goes backward: what holds after a token that the walk takes holds before it
 abbrev pub Backward : List ℕ → ℕ → (Walk → Type 0) → Type 0
 Backward s cap P = (w : Walk) → (eqb (w .pending) 0 && leb (length s) (w .at)) ≡ false → (h : Head)
     → ok h ≡ nextToken s cap (w .done) (w .pending) (w .at) → P (walkAfter w h) → P w
 
--- so does what the walk yields
+-- that the walk yields a is such a property
 pub starts-backward : (s : List ℕ) (cap : ℕ) (a : Answer Fault (List ℕ)) → Backward s cap (λ w. a ≡ startsFrom s cap w)
 starts-backward s cap a w t h e yields = yields ∙ walk-token s cap w t h e
 
