@@ -1,13 +1,19 @@
--- What the states of this crate's code mean.
+-- What this crate's private functions return.
 --
---   dueOf d    the ranges due at the state d: d continuation bytes if d is below 4; else a refusal
-use Prim.Native.Nat.{ℕ}
-use mathlib.Core.List.{List}
+--   ranges k lo hi    k ranges: the first from lo to hi, the others of continuation bytes
+--   dueOf d           the ranges due by `Due`: a refusal if `left` is not below 4
+use Prim.Native.Nat.{ℕ, zero, suc}
+use mathlib.Core.List.{List, [], _∷_}
 use mathlib.Core.Option.{Option, some, none}
 use lib.Dec.{ltb}
 use lib.ListN.{replicate}
 use Rattle.prelude.specs.Pick.{pick}
-use Rattle.utf8.specs.Text.{Range, continuation}
+use Rattle.utf8.specs.Text.{Range, range, continuation}
+use Rattle.utf8.specs.declared.Due.{Due}
 
-unfoldable pub dueOf : ℕ → Option (List Range)
-dueOf d = pick (ltb d 4) (some (replicate d continuation)) none
+abbrev pub ranges : ℕ → ℕ → ℕ → List Range
+ranges zero lo hi = []
+ranges (suc k) lo hi = range lo hi ∷ replicate k continuation
+
+unfoldable pub dueOf : Due → Option (List Range)
+dueOf d = pick (ltb (d .left) 4) (some (ranges (d .left) (d .low) (d .high))) none

@@ -1,5 +1,5 @@
--- Text (document 01, "Row of a file"): characters of one to four bytes, one after the other; all else is BAD_TEXT. The
--- rule is looser than UTF-8: it allows surrogates, and forms of three and four bytes that are longer than need be.
+-- Text (document 01, "Row of a file", with the second bytes of change request W-202): characters of one to four bytes, one
+-- after the other; all else is BAD_TEXT. It is the grammar of RFC 3629, section 4.
 --
 --   Range, range a b  the bytes from lo to hi, both included
 --   continuation      the bytes after the first of a character
@@ -35,8 +35,13 @@ abbrev pub forms : List (List Range)
 forms =
     (range 0x00 0x7F ∷ [])
     ∷ (range 0xC2 0xDF ∷ continuation ∷ [])
-    ∷ (range 0xE0 0xEF ∷ continuation ∷ continuation ∷ [])
-    ∷ (range 0xF0 0xF4 ∷ continuation ∷ continuation ∷ continuation ∷ [])
+    ∷ (range 0xE0 0xE0 ∷ range 0xA0 0xBF ∷ continuation ∷ [])
+    ∷ (range 0xE1 0xEC ∷ continuation ∷ continuation ∷ [])
+    ∷ (range 0xED 0xED ∷ range 0x80 0x9F ∷ continuation ∷ [])
+    ∷ (range 0xEE 0xEF ∷ continuation ∷ continuation ∷ [])
+    ∷ (range 0xF0 0xF0 ∷ range 0x90 0xBF ∷ continuation ∷ continuation ∷ [])
+    ∷ (range 0xF1 0xF3 ∷ continuation ∷ continuation ∷ continuation ∷ [])
+    ∷ (range 0xF4 0xF4 ∷ range 0x80 0x8F ∷ continuation ∷ continuation ∷ [])
     ∷ []
 
 -- ---- the grammar

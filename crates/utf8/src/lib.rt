@@ -1,56 +1,103 @@
-// Whether bytes are text (document 01, "Row of a file").
+// Whether bytes are text (document 01, "Row of a file", and W-202): UTF-8 by RFC 3629.
 ghost use mathlib.Core.Path.{_≡_};
-ghost use Prim.Native.Nat.{_<_};
-ghost use Rattle.utf8.specs.Text.{forms, lead, next, isText};
+ghost use Prim.Native.Nat.{_≤_, _<_};
+ghost use lib.Dec.{eqb};
+ghost use lib.ListN.{length, drop};
+ghost use mathlib.Core.Bool.{false};
+ghost use Rattle.prelude.specs.Pick.{pick};
+ghost use Rattle.utf8.specs.Text.{forms, lead, isText};
 ghost use Rattle.utf8.specs.Internal.{dueOf};
 
-// How many bytes are due after b, the first of a character; 4 if no character begins with b.
-fn lead(b: u8) -> u8
+// The bytes due of a character: how many, 4 if no character begins with the first byte; and the range of the next of
+// them. Those after it are from 80 to BF.
+struct Due {
+    left: u8,
+    low: u8,
+    high: u8,
+}
+
+impl Due {
+    fn new(left: u8, low: u8, high: u8) -> Self
+        ensures { λ r. ⌜ r ≡ record { left = left; low = low; high = high } ⌝ }
+    {
+        Due { left, low, high }
+    }
+}
+
+// What is due after b, the first byte of a character.
+fn lead(b: u8) -> Due
     ensures { λ r. ⌜ dueOf r ≡ lead forms b ⌝ }
 {
     if b <= 0x7F {
-        return 0;
+        return Due::new(0, 0x80, 0xBF);
     }
     if (0xC2 <= b) & (b <= 0xDF) {
-        return 1;
+        return Due::new(1, 0x80, 0xBF);
     }
-    if (0xE0 <= b) & (b <= 0xEF) {
-        return 2;
+    if b == 0xE0 {
+        return Due::new(2, 0xA0, 0xBF);
     }
-    if (0xF0 <= b) & (b <= 0xF4) {
-        return 3;
+    if (0xE1 <= b) & (b <= 0xEC) {
+        return Due::new(2, 0x80, 0xBF);
     }
-    4
+    if b == 0xED {
+        return Due::new(2, 0x80, 0x9F);
+    }
+    if (0xEE <= b) & (b <= 0xEF) {
+        return Due::new(2, 0x80, 0xBF);
+    }
+    if b == 0xF0 {
+        return Due::new(3, 0x90, 0xBF);
+    }
+    if (0xF1 <= b) & (b <= 0xF3) {
+        return Due::new(3, 0x80, 0xBF);
+    }
+    if b == 0xF4 {
+        return Due::new(3, 0x80, 0x8F);
+    }
+    Due::new(4, 0x80, 0xBF)
 }
 
-// How many bytes are due after b, if `due` were due before it; 4 if b is not allowed there.
-fn next(due: u8, b: u8) -> u8
-    requires { ⌜ due < 4 ⌝ }
-    ensures { λ r. ⌜ dueOf r ≡ next (dueOf due) b ⌝ }
+// How many bytes the first character of s has; 0 if s begins with none.
+fn character(s: &[u8]) -> usize
+    requires { ⌜ 0 < length (now s) ⌝ }
+    ensures within { λ r. ⌜ r ≤ length (now (s .entry)) ⌝ }
+    ensures { λ r. ⌜ pick (eqb r 0) false (isText (drop r (now (s .entry)))) ≡ isText (now (s .entry)) ⌝ }
 {
-    if due == 0 {
-        return lead(b);
+    let mut due = lead(s[0]);
+    // BAD_TEXT: no character begins with it
+    if 3 < due.left {
+        return 0;
     }
-    if (0x80 <= b) & (b <= 0xBF) {
-        return due - 1;
+    let mut i: usize = 1;
+    while 0 < due.left {
+        // BAD_TEXT: the character is incomplete
+        if s.len() <= i {
+            return 0;
+        }
+        let b = s[i];
+        let allowed = (due.low <= b) & (b <= due.high);
+        // BAD_TEXT: a byte that is not allowed there
+        if !allowed {
+            return 0;
+        }
+        due = Due::new(due.left - 1, 0x80, 0xBF);
+        i += 1;
     }
-    4
+    i
 }
 
 // Whether s is text.
 pub fn is_text(s: &[u8]) -> bool
     ensures { λ r. ⌜ r ≡ isText (now (s .entry)) ⌝ }
 {
-    let mut due: u8 = 0;
     let mut i: usize = 0;
     while i < s.len() {
-        due = next(due, s[i]);
-        // BAD_TEXT: a byte that is not allowed there
-        if 3 < due {
+        let size = character(&s[i..]);
+        if size == 0 {
             return false;
         }
-        i += 1;
+        i += size;
     }
-    // BAD_TEXT: the last character is incomplete
-    due == 0
+    true
 }

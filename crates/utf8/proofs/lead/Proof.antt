@@ -1,4 +1,5 @@
 -- `utf8::lead` meets its contract: row by row of the table.
+use borrow.Author.Needs.{needs}
 use Rattle.utf8.specs.Internal.{dueOf}
 use Rattle.utf8.proofs.Steps.{rows}
 use Rattle.utf8.proofs.lead.Statement.{statement}
@@ -9,8 +10,23 @@ unfolding dueOf
 lead-spec =
     tie.close
     (tie.spec
-    (λ c. search rows)
-    (λ c. search rows)
-    (λ c. search rows)
-    (λ c. search rows)
-    (λ c. search rows))
+    (λ c κs. search needs)
+    (λ c. search rows depth 14)
+    (λ c κs. search needs)
+    (λ c. search rows depth 14)
+    (λ c κs. search needs)
+    (λ c. search rows depth 14)
+    (λ c κs. search needs)
+    (λ c. search rows depth 14)
+    (λ c κs. search needs)
+    (λ c. search rows depth 14)
+    (λ c κs. search needs)
+    (λ c. search rows depth 14)
+    (λ c κs. search needs)
+    (λ c. search rows depth 14)
+    (λ c κs. search needs)
+    (λ c. search rows depth 14)
+    (λ c κs. search needs)
+    (λ c. search rows depth 14)
+    (λ c κs. search needs)
+    (λ c. search rows depth 14))
