@@ -13,12 +13,13 @@ use borrow.Author.Tests.{lt-ltb, le-leb}
 use lib.ListN.{length, drop, length-append}
 use lib.Seq.{append-snoc}
 use Rattle.prelude.specs.Answer.{ok}
+use Rattle.prelude.specs.Each.{Each}
 use Rattle.prelude.proofs.Readers.{bind-ok}
 use Rattle.prelude.proofs.Parts.{drop-past, length-past}
 use Rattle.kind.specs.Kind.{rule, pending}
 use Rattle.token.specs.Token.{Token, emit, Fits}
 use Rattle.utf8.specs.Text.{Text}
-use Rattle.values.specs.Values.{Value, tokens, bytes, region, starts, Each, Item, Formed, HasTargets, TargetsEarlier, Values, WellFormed}
+use Rattle.values.specs.Values.{Value, tokens, bytes, region, starts, Item, Formed, HasTargets, TargetsEarlier, Values, WellFormed}
 use Rattle.values.proofs.Laws.{length-starts, fits-item, fits-head}
 use Rattle.checker_value.specs.Walk.{Walk, between, startsFrom}
 use Rattle.checker.specs.Check.{checkIn, checked, filled, checkOf}

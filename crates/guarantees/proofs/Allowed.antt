@@ -13,13 +13,14 @@ use Prim.Native.Nat.{ℕ, _+_, _-_, _≤_, _<_}
 use native.Mathlib.Omega.{arith}
 use lib.ListN.{length, length-append}
 use borrow.Author.Tests.{le-leb, lt-leb}
+use Rattle.prelude.specs.Each.{Each}
 use Rattle.prelude.proofs.Tests.{split}
 use Rattle.error.specs.Error.{LIMIT}
 use Rattle.utf8.proofs.Laws.{isText-text}
 use Rattle.kind.specs.Kind.{rule, immediate}
 use Rattle.kind.proofs.Laws.{used-lt}
 use Rattle.token.specs.Token.{emit, Allowed}
-use Rattle.values.specs.Values.{tokens, bytes, region, starts, Each, Sound, Item, Formed, HasTarget, HasTargets, TargetsEarlier, Values}
+use Rattle.values.specs.Values.{tokens, bytes, region, starts, Sound, Item, Formed, HasTarget, HasTargets, TargetsEarlier, Values}
 use Rattle.values.proofs.Members.{each-imp}
 use Rattle.writer.specs.Call.{Call}
 use Rattle.writer.specs.Given.{Given}

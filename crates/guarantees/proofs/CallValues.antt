@@ -6,11 +6,11 @@ use native.Mathlib.Omega.{arith}
 use lib.Dec.{ltb}
 use lib.IntN.{pos, negsuc}
 use lib.ListN.{length}
+use Rattle.prelude.specs.Each.{Each}
 use Rattle.prelude.proofs.Tests.{pick-elim}
 use Rattle.little_endian.proofs.Laws.{value-little}
 use Rattle.token.specs.Token.{token}
 use Rattle.token.proofs.Laws.{length-emit}
-use Rattle.values.specs.Values.{Each}
 use Rattle.writer.specs.Call.{Call, scalar, integer, float32, float64, text, bytes, variant, reference, pointer, openArray, openMap, openTag, openVariant1}
 use Rattle.writer.specs.Call.{openVariantN, close}
 use Rattle.writer.specs.Given.{Given}

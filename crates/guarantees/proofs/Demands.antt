@@ -11,8 +11,9 @@ use lib.ListN.{length, take, drop, getD}
 use lib.Seq.{getD-at, drop-append-add}
 use Rattle.prelude.specs.Answer.{ok, error}
 use Rattle.prelude.specs.Bytes.{Bytes}
+use Rattle.prelude.specs.Each.{Each}
 use Rattle.error.specs.Error.{CLOSED}
-use Rattle.values.specs.Values.{Value, Each, WellFormed}
+use Rattle.values.specs.Values.{Value, WellFormed}
 use Rattle.checker.specs.Check.{checkOf}
 use Rattle.writer.specs.Call.{Call, close}
 use Rattle.writer.specs.Step.{fresh}

@@ -17,6 +17,7 @@ use Rattle.prelude.specs.Pick.{pick}
 use Rattle.prelude.specs.Answer.{Answer, ok, error}
 use Rattle.prelude.specs.Search.{rank}
 use Rattle.prelude.specs.Bytes.{Bytes}
+use Rattle.prelude.specs.Each.{Each}
 use Rattle.prelude.proofs.Tests.{pick-elim, split}
 use Rattle.error.specs.Error.{Fault, fault, FULL}
 use Rattle.token.specs.Token.{Token, emit, Fits}
@@ -24,7 +25,7 @@ use Rattle.token.proofs.Laws.{emit-pos}
 use Rattle.scan.specs.Answers.{scanAt}
 use Rattle.scan.specs.declared.ScanResult.the-variants.{Ok}
 use Rattle.scan.proofs.Places.{headAt, scanAt-emit, scanAt-item}
-use Rattle.values.specs.Values.{Value, tokens, bytes, region, starts, Each, Item, Formed, HasTargets, HasTarget, TargetsEarlier, Values, WellFormed}
+use Rattle.values.specs.Values.{Value, tokens, bytes, region, starts, Item, Formed, HasTargets, HasTarget, TargetsEarlier, Values, WellFormed}
 use Rattle.values.specs.Paths.{targets, targetsOf, deepest, depthsFrom, Depth}
 use Rattle.values.specs.Paths as paths
 use Rattle.values.proofs.Laws.{region-append, region-at, length-starts, starts-append, start-of, fits-item, fits-head}

@@ -24,6 +24,7 @@ use borrow.Author.Tests.{ltb-true, ltb-false, leb-false, eqb-true, eqb-false, lt
 use Rattle.prelude.specs.Pick.{pick}
 use Rattle.prelude.specs.Answer.{ok, error}
 use Rattle.prelude.specs.Search.{among}
+use Rattle.prelude.specs.Each.{Each}
 use Rattle.prelude.proofs.Tests.{pick-elim, and-false, facts}
 use Rattle.prelude.proofs.Searches.{among-at}
 use Rattle.error.specs.Error.{LIMIT}
@@ -31,7 +32,7 @@ use Rattle.utf8.specs.Text.{isText}
 use Rattle.kind.specs.Kind.{rule, pending, immediate}
 use Rattle.token.specs.Token.{emit}
 use Rattle.token.proofs.Laws.{emit-pos}
-use Rattle.values.specs.Values.{region, starts, Each}
+use Rattle.values.specs.Values.{region, starts}
 use Rattle.values.proofs.Members.{each-all, each-append, each-imp}
 use Rattle.values.proofs.Laws.{length-starts, start-of}
 use Rattle.writer_refusal.specs.Refusal.{Verdict}

@@ -14,6 +14,7 @@ use lib.Dec.{ltb}
 use lib.ListN.{length, take, getD}
 use Rattle.prelude.specs.Answer.{ok, error, got}
 use Rattle.prelude.specs.Bytes.{Bytes}
+use Rattle.prelude.specs.Each.{Each}
 use Rattle.error.specs.Error.{Fault, fault, LIMIT, EMPTY, TOO_LONG, FULL, BAD_ENTRY, NO_ITEM}
 use Rattle.leb128.specs.Leb.{top, get, put}
 use Rattle.leb128.proofs.Laws as leb128
@@ -24,7 +25,7 @@ use Rattle.token.proofs.Laws.{Scanned}
 use Rattle.token.proofs.Laws as token
 use Rattle.scan.specs.Answers.{scanAt}
 use Rattle.scan.specs.declared.Head.{Head}
-use Rattle.values.specs.Values.{Value, bytes, starts, Each, WellFormed}
+use Rattle.values.specs.Values.{Value, bytes, starts, WellFormed}
 use Rattle.values.specs.Paths.{Refers, Leads}
 use Rattle.values.proofs.Unique as unique
 use Rattle.values.proofs.Leads as leads

@@ -15,13 +15,13 @@ use lib.ListN.{length, take}
 use Rattle.prelude.specs.Pick.{pick}
 use Rattle.prelude.specs.Answer.{Answer, ok, error, bind}
 use Rattle.prelude.specs.Search.{among}
+use Rattle.prelude.specs.Each.{Each}
 use Rattle.prelude.proofs.Tests.{pick-elim}
 use Rattle.prelude.proofs.Tables.{every}
 use Rattle.error.specs.Error.{Fault, LIMIT, EMPTY, TOO_LONG, NESTED, BAD_TARGET, OUTSIDE, NO_ITEM}
 use Rattle.kind.specs.Kind.{rule, immediate}
 use Rattle.scan.specs.Answers.{scanAt}
 use Rattle.scan.specs.declared.Head.{Head}
-use Rattle.values.specs.Values.{Each}
 use Rattle.values.proofs.Members.{each-among, each-every, each-append}
 use Rattle.reader_region.specs.Region.{regionLen, inRegion, below, peekIn, peekOf}
 use Rattle.reader_region.proofs.Laws.{pointer-lt}

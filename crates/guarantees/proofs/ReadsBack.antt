@@ -15,12 +15,13 @@ use native.Mathlib.Omega.{arith}
 use borrow.Author.Tests.{lt-leb, lt-ltb, le-ltb}
 use lib.ListN.{length, length-append}
 use Rattle.prelude.specs.Answer.{ok, error}
+use Rattle.prelude.specs.Each.{Each}
 use Rattle.prelude.proofs.Tests.{split}
 use Rattle.error.specs.Error.{fault, NO_ITEM, WRONG_KIND}
 use Rattle.kind.specs.Kind.{rule, immediate}
 use Rattle.kind.proofs.Laws.{used-lt}
 use Rattle.token.specs.Token.{Token, emit}
-use Rattle.values.specs.Values.{tokens, bytes, starts, Each, WellFormed}
+use Rattle.values.specs.Values.{tokens, bytes, starts, WellFormed}
 use Rattle.reader_value.specs.Value.{readOf}
 use Rattle.reader_value.specs.declared.Value.the-variants.{Reference, Pointer}
 use Rattle.reader_items.specs.Items.{itemOf}

@@ -17,6 +17,7 @@ use borrow.Author.Tests.{lt-leb, le-ltb, leb-true, eqb-true, ne-eqb}
 use Rattle.prelude.specs.Answer.{ok}
 use Rattle.prelude.specs.Bytes.{Bytes}
 use Rattle.prelude.specs.Search.{among}
+use Rattle.prelude.specs.Each.{Each}
 use Rattle.prelude.proofs.Tests.{split, unless}
 use Rattle.prelude.proofs.Parts.{bytes-after, bytes-front}
 use Rattle.error.specs.Error.{LIMIT}
@@ -24,7 +25,7 @@ use Rattle.utf8.specs.Text.{isText}
 use Rattle.utf8.proofs.Laws.{text-isText}
 use Rattle.kind.specs.Kind.{rule, pending, immediate}
 use Rattle.token.specs.Token.{Token, emit, putIf}
-use Rattle.values.specs.Values.{Value, tokens, bytes, region, starts, Each, Sound, Item, Formed, HasTarget, HasTargets, TargetsEarlier, WellFormed}
+use Rattle.values.specs.Values.{Value, tokens, bytes, region, starts, Sound, Item, Formed, HasTarget, HasTargets, TargetsEarlier, WellFormed}
 use Rattle.values.proofs.Members.{each-append, each-imp}
 use Rattle.values.proofs.Laws.{bytes-append, region-append, starts-append, items-room}
 use Rattle.writer.specs.Call.{Call, close}

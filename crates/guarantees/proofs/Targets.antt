@@ -7,9 +7,10 @@ use native.Mathlib.Nat.{zero-add}
 use native.Mathlib.Omega.{arith}
 use lib.ListN.{length, take, drop, getD, length-append, take-append-drop}
 use lib.Seq.{getD-take, take-at, drop-at}
+use Rattle.prelude.specs.Each.{Each}
 use Rattle.prelude.proofs.Searches.{among-by}
 use Rattle.token.specs.Token.{emit}
-use Rattle.values.specs.Values.{bytes, region, starts, Each}
+use Rattle.values.specs.Values.{bytes, region, starts}
 use Rattle.values.proofs.Laws.{bytes-append, length-starts}
 use Rattle.writer_refusal.specs.declared.State.{State}
 use Rattle.writer.specs.Call.{Call}

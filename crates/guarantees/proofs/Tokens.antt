@@ -14,6 +14,7 @@ use lib.Seq.{take-at, drop-append-seam, drop-drop}
 use borrow.Author.Tests.{le-leb, lt-leb, eqb-false}
 use Rattle.prelude.specs.Pick.{pick}
 use Rattle.prelude.specs.Answer.{ok, bind}
+use Rattle.prelude.specs.Each.{Each}
 use Rattle.prelude.proofs.Tests.{pick-cong, split, facts}
 use Rattle.prelude.proofs.Tables.{SameRow, same-row}
 use Rattle.prelude.proofs.Readers.{bind-ok}
@@ -23,7 +24,7 @@ use Rattle.token.specs.Token.{Token, emit, Allowed, Fits}
 use Rattle.token.proofs.Laws.{length-emit, drop-emit}
 use Rattle.scan.specs.declared.Head.{Head}
 use Rattle.scan.proofs.Places.{headAt, scanAt-emit}
-use Rattle.values.specs.Values.{bytes, Each, Item, HasTargets}
+use Rattle.values.specs.Values.{bytes, Item, HasTargets}
 use Rattle.values.proofs.Laws.{fits-item}
 use Rattle.reader_region.specs.Region.{below, peekIn}
 use Rattle.reader_value.specs.Value.{float, valueRows, valueOn}

@@ -12,12 +12,13 @@ use native.Mathlib.Omega.{arith}
 use borrow.Author.Tests.{lt-ltb, not-true, not-false}
 use lib.ListN.{length, drop, length-append}
 use lib.Seq.{drop-append-seam}
+use Rattle.prelude.specs.Each.{Each}
 use Rattle.prelude.proofs.Parts.{length-past}
 use Rattle.kind.specs.Kind.{rule, counted, pending, immediate}
 use Rattle.token.specs.Token.{Token, emit}
 use Rattle.scan.specs.declared.Head.{Head}
 use Rattle.scan.proofs.Places.{headAt}
-use Rattle.values.specs.Values.{Value, bytes, region, starts, Each, Sound, Item, Formed, HasTarget, HasTargets, Values}
+use Rattle.values.specs.Values.{Value, bytes, region, starts, Sound, Item, Formed, HasTarget, HasTargets, Values}
 use Rattle.values.proofs.Members.{each-append}
 use Rattle.values.proofs.Laws.{bytes-append, region-append, starts-append, targets-earlier-append}
 use Rattle.checker_value.specs.Walk.{Walk, between, walkAfter}

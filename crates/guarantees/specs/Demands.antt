@@ -19,10 +19,11 @@ use lib.ListN.{length, take, drop, getD, replicate}
 use Rattle.prelude.specs.Answer.{ok, error}
 use Rattle.prelude.specs.Bytes.{Bytes}
 use Rattle.prelude.specs.Search.{among}
+use Rattle.prelude.specs.Each.{Each}
 use Rattle.error.specs.Error.{Fault, fault, NO_ITEM, WRONG_KIND, CLOSED}
 use Rattle.kind.specs.Kind.{rule, immediate}
 use Rattle.token.specs.Token.{Token}
-use Rattle.values.specs.Values.{Value, tokens, bytes, region, starts, Each, WellFormed}
+use Rattle.values.specs.Values.{Value, tokens, bytes, region, starts, WellFormed}
 use Rattle.reader_region.specs.Region.{peekOf}
 use Rattle.reader_value.specs.Value.{readOf}
 use Rattle.reader_value.specs.declared.Value.{Value as ReadValue}

@@ -18,10 +18,11 @@ use mathlib.Core.Bool.{false}
 use mathlib.Core.List.{List, [], _∷_, _++_}
 use lib.ListN.{length, take, getD}
 use Rattle.prelude.specs.Search.{among}
+use Rattle.prelude.specs.Each.{Each}
 use Rattle.error.specs.Error.{Fault, fault, LIMIT, EMPTY, TOO_LONG, BAD_ENTRY, FULL}
 use Rattle.kind.specs.Kind.{rule, counted, pending}
 use Rattle.token.specs.Token.{Token, emit}
-use Rattle.values.specs.Values.{Value, bytes, region, starts, Each, Sound, Item, HasTargets, Values, WellFormed}
+use Rattle.values.specs.Values.{Value, bytes, region, starts, Sound, Item, HasTargets, Values, WellFormed}
 use Rattle.guarantees_faults.specs.Faults.{RefusedToken}
 
 pub record Unnamed (file : List ℕ) (cap p : ℕ) : Type 0 where

@@ -21,9 +21,10 @@ use lib.IntN.{pos, negsuc}
 use lib.ListN.{length, take, getD}
 use Rattle.prelude.specs.Pick.{pick}
 use Rattle.prelude.specs.Answer.{ok, bind}
+use Rattle.prelude.specs.Each.{Each}
 use Rattle.little_endian.specs.LittleEndian.{fromLittle}
 use Rattle.token.specs.Token.{Token, emit}
-use Rattle.values.specs.Values.{Value, tokens, bytes, starts, Each, WellFormed}
+use Rattle.values.specs.Values.{Value, tokens, bytes, starts, WellFormed}
 use Rattle.writer.specs.Call.{Call, scalar, integer, float32, float64, text, bytes as byteString, variant, reference, pointer, openArray, openMap, openTag}
 use Rattle.writer.specs.Call.{openVariant1, openVariantN, close}
 use Rattle.writer.specs.Step.{fresh}

@@ -11,11 +11,11 @@ use lib.Dec.{ltb, leb, lit≤}
 use lib.ListN.{length}
 use borrow.Author.Tests.{lt-ltb, le-ltb, le-leb, lt-leb}
 use Rattle.prelude.specs.Answer.{Res, got, bad, guard, then, orError, _>>=_}
+use Rattle.prelude.specs.Each.{Each}
 use Rattle.prelude.proofs.Tests.{split, pick-elim, facts}
 use Rattle.error.specs.Error.{Fault, fault, TRUNC, OVERLONG, RANGE}
 use Rattle.leb128.specs.Leb.{get, value, lastOf}
 use Rattle.token.specs.Scan.{getIf, number}
-use Rattle.values.specs.Values.{Each}
 use Rattle.guarantees_faults.specs.Faults as faults
 use Rattle.guarantees_faults.specs.Faults.{GoesOn, Number, BadNumber, NumberIf, none, some}
 use Rattle.guarantees_faults.proofs.Readers.{guard-elim, then-elim}

@@ -11,9 +11,9 @@ use lib.Dec.{ltb, eqb}
 use lib.ListN.{length}
 use Rattle.prelude.specs.Pick.{pick}
 use Rattle.prelude.specs.Search.{among}
+use Rattle.prelude.specs.Each.{Each}
 use Rattle.error.specs.Error.{Fault, TRUNC, RESERVED, OVERLONG, RANGE, NESTED, BAD_TEXT, BAD_TARGET, FULL, LONG_BODY, LONG_LIST}
 use Rattle.prelude.proofs.Tables.{every}
-use Rattle.values.specs.Values.{Each}
 use Rattle.values.proofs.Members.{each-every, each-append, each-among}
 use Rattle.guarantees_faults.specs.Faults as faults
 use Rattle.guarantees_faults.specs.Faults.{longErrors, BadNumber, Exceeds, RefusedHead, HasPlace, RefusedToken}

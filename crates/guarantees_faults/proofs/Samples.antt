@@ -8,10 +8,10 @@ use borrow.Author.Needs.{needs}
 use lib.Dec.{leb, lit≤, lit<}
 use lib.ListN.{replicate}
 use Rattle.prelude.specs.Search.{among}
+use Rattle.prelude.specs.Each.{Each}
 use Rattle.error.specs.Error.{fault, TRUNC, RESERVED, OVERLONG, RANGE, NESTED, BAD_TARGET, FULL, LONG_BODY, LONG_LIST}
 use Rattle.leb128.specs.Leb.{value}
 use Rattle.kind.specs.Kind.{rule}
-use Rattle.values.specs.Values.{Each}
 use Rattle.guarantees_faults.specs.Faults as faults
 use Rattle.guarantees_faults.specs.Faults.{GoesOn, Number, NumberIf, Usable, Counted, Whole, RefusedHead, RefusedToken}
 

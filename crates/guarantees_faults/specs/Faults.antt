@@ -36,11 +36,11 @@ use mathlib.Core.List.{List, [], _∷_, _++_}
 use lib.Dec.{ltb, leb}
 use lib.ListN.{length, take, drop}
 use Rattle.prelude.specs.Search.{among}
+use Rattle.prelude.specs.Each.{Each}
 use Rattle.error.specs.Error.{Fault, fault, TRUNC, RESERVED, OVERLONG, RANGE, NESTED, BAD_TEXT, BAD_TARGET, FULL, LONG_BODY, LONG_LIST}
 use Rattle.leb128.specs.Leb.{value}
 use Rattle.utf8.specs.Text.{Text}
 use Rattle.kind.specs.Kind.{rule, size, counted, immediate}
-use Rattle.values.specs.Values.{Each}
 
 -- ---- numbers
 

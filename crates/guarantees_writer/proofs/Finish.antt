@@ -11,6 +11,7 @@ use lib.Dec.{eqb}
 use lib.ListN.{length}
 use borrow.Author.Tests.{eqb-true, leb-true, le-ltb, ne-eqb}
 use Rattle.prelude.specs.Answer.{ok}
+use Rattle.prelude.specs.Each.{Each}
 use Rattle.prelude.proofs.Tests.{unless}
 use Rattle.kind.specs.Kind.{rule, due}
 use Rattle.token.specs.Token.{Token, token, putIf, emit}
@@ -22,7 +23,6 @@ use Rattle.writer.specs.Runs.{runs}
 use Rattle.writer.specs.declared.Scalar.{Scalar}
 use Rattle.writer.specs.declared.Scalar.the-variants.{False, True, Null}
 use Rattle.writer.proofs.Accepted.{new-start, Accepted, token-ok}
-use Rattle.values.specs.Values.{Each}
 use Rattle.guarantees_writer.specs.OneCall.{FinishesNone, Finishes, Pending, NextItem, TookItem, OneByte, left, FinishedBy}
 use Rattle.guarantees_writer.proofs.Calls.{put-by}
 use Rattle.guarantees_writer.proofs.Results.{write-more, write-last, write-open}

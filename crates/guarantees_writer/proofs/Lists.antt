@@ -5,9 +5,9 @@ use Prim.Native.Nat.{ℕ, suc}
 use lib.Dec.{ltb}
 use lib.ListN.{length}
 use Rattle.prelude.specs.Answer.{error}
+use Rattle.prelude.specs.Each.{Each}
 use Rattle.prelude.proofs.Tests.{pick-elim}
 use Rattle.error.specs.Error.{CLOSED}
-use Rattle.values.specs.Values.{Each}
 use Rattle.writer.specs.Call.{Call}
 use Rattle.guarantees_writer.specs.Model.{Request, adds, ends, requestOf, ModelValue, closed, Model, model, backTo, modelAnswer, modelAfter}
 use Rattle.guarantees_writer.specs.History.{modelRan, unlessRefused, modelRun}

@@ -16,11 +16,11 @@ use lib.Seq.{sets, length-sets, take-append-le, set-append-left}
 use borrow.Author.Tests.{lt-leb, leb-false, ltb-false, le-ltb}
 use Rattle.prelude.specs.Pick.{pick}
 use Rattle.prelude.specs.Answer.{ok, error}
+use Rattle.prelude.specs.Each.{Each}
 use Rattle.prelude.proofs.Tests.{and-false, and-none}
 use Rattle.error.specs.Error.{BAD_STATE, FULL, NO_ROOM}
 use Rattle.kind.specs.Kind.{due}
 use Rattle.token.specs.Token.{Token, emit}
-use Rattle.values.specs.Values.{Each}
 use Rattle.values.proofs.Members.{each-append}
 use Rattle.writer_refusal.specs.Refusal.{badState, room, limit, isListed, Verdict, isOk, refusalOf}
 use Rattle.writer_refusal.specs.declared.State.{State}

@@ -22,7 +22,7 @@ use mathlib.Core.Bool.{false}
 use mathlib.Core.List.{List, [], _∷_}
 use lib.ListN.{length, take}
 use Rattle.prelude.specs.Answer.{ok, error}
-use Rattle.values.specs.Values.{Each}
+use Rattle.prelude.specs.Each.{Each}
 use Rattle.writer_refusal.specs.Refusal.{badState, Verdict}
 use Rattle.writer_refusal.specs.declared.State.{State}
 use Rattle.writer.specs.Call.{Call}

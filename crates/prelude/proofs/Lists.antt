@@ -1,13 +1,14 @@
 -- Laws of lists that the library has not.
 --
--- In order: an element, within the list and past it; words below a bound, and one more; parts of equal lists; what was stored.
-use mathlib.Core.Path.{_≡_, refl, sym, ap, _∙_}
-use mathlib.Core.List.{List, [], _∷_, _++_}
+-- In order: an element, within the list and past it; what holds for each; words below a bound, and one more; parts of equal lists; what was stored.
+use mathlib.Core.Path.{_≡_, refl, sym, ap, subst, _∙_}
+use mathlib.Core.List.{List, [], _∷_, _++_, List·Memᴰ, List·Memᴰ·head, List·Memᴰ·tail}
 use Prim.Native.Nat.{ℕ, zero, suc, _+_, _-_, _≤_, _<_}
 use native.Mathlib.Nat.{not-suc-le-zero}
 use native.Mathlib.Omega.{arith}
 use lib.ListN.{length, take, drop, getD, length-append, List·getD-append, List·getD-eq-default}
 use lib.Seq.{sets, sets-eq, take-at, take-take, drop-drop, length-take-le, getD-append-seam}
+use Rattle.prelude.specs.Each.{Each}
 use Rattle.prelude.proofs.Tests.{split}
 
 -- a word of a list, whatever is returned past its end
@@ -18,6 +19,10 @@ getD-in (x ∷ xs) (suc i) d e h = getD-in xs i d e (omega arith)
 
 pub getD-past : (xs : List ℕ) (i j : ℕ) → i ≡ j → length xs ≤ i → 0 ≡ getD xs j 0
 getD-past xs i j e h = sym (List·getD-eq-default xs 0 {n = j} (omega arith))
+
+pub each-mem : {A : Type 0} (P : A → Type 0) {x : A} (xs : List A) → Each P xs → List·Memᴰ x xs → P x
+each-mem P (y ∷ xs) e (List·Memᴰ·head p) = subst P (sym p) (e .0)
+each-mem P (y ∷ xs) e (List·Memᴰ·tail m) = each-mem P xs (e .1) m
 
 -- a list below m, with one more word below m
 pub below-snoc : (xs : List ℕ) (x m : ℕ) → ((k : ℕ) → k < length xs → getD xs k 0 < m) → x < m → (k : ℕ)

@@ -4,6 +4,8 @@ pub mod Pick
 pub mod Answer
 -- bytes, and bytes stored in a buffer
 pub mod Bytes
+-- what holds for each element of a list
+pub mod Each
 -- a loop as a definition
 pub mod Loop
 -- words in a list

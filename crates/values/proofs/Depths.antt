@@ -15,9 +15,10 @@ use lib.ListN.{length, getD, take, length-append, List·getD-append}
 use lib.Seq.{append-snoc, getD-append-seam}
 use borrow.Author.Tests.{eqb-true, eq-eqb}
 use Rattle.prelude.specs.Search.{among, rank}
+use Rattle.prelude.specs.Each.{Each}
 use Rattle.prelude.proofs.Tests.{split, or-true}
 use Rattle.prelude.proofs.Searches.{rank-getD}
-use Rattle.values.specs.Values.{Value, tokens, bytes, starts, Each, TargetsEarlier, Values}
+use Rattle.values.specs.Values.{Value, tokens, bytes, starts, TargetsEarlier, Values}
 use Rattle.values.specs.Paths.{targetsOf, Leads, Path, end, step, Depth, Falling, deepest, depthsFrom, depthsOfValues}
 use Rattle.values.proofs.Members.{each-imp, each-among, among-take}
 use Rattle.values.proofs.Laws.{length-starts, rising-starts, targets-of-has-targets}

@@ -14,12 +14,13 @@ use lib.ListN.{length, getD, take, length-append}
 use lib.Seq.{append-snoc, getD-append-add}
 use borrow.Author.Tests.{le-leb, lt-leb}
 use Rattle.prelude.specs.Search.{among, Rising}
+use Rattle.prelude.specs.Each.{Each}
 use Rattle.prelude.proofs.Tests.{split}
 use Rattle.kind.specs.Kind.{rule, counted, pending, immediate}
 use Rattle.kind.proofs.Laws.{immediate-none}
 use Rattle.token.specs.Token.{Token, emit, Allowed, Fits}
 use Rattle.token.proofs.Laws.{emit-pos}
-use Rattle.values.specs.Values.{Value, tokens, bytes, region, starts, Each, Item, Formed, HasTargets, TargetsEarlier}
+use Rattle.values.specs.Values.{Value, tokens, bytes, region, starts, Item, Formed, HasTargets, TargetsEarlier}
 use Rattle.values.specs.Paths.{targets}
 
 -- ---- bytes

@@ -13,10 +13,10 @@ use lib.ListN.{getD, take, length-take}
 use lib.Seq.{getD-take}
 use borrow.Author.Tests.{eqb-true}
 use Rattle.prelude.specs.Search.{among, rank, Rising}
+use Rattle.prelude.specs.Each.{Each}
 use Rattle.prelude.proofs.Tests.{and-l, and-r, or-true}
 use Rattle.prelude.proofs.Tables.{every}
 use Rattle.prelude.proofs.Searches.{rank-at, among-by}
-use Rattle.values.specs.Values.{Each}
 
 pub each-all : {A : Type 0} (P : A → Type 0) → ((x : A) → P x) → (xs : List A) → Each P xs
 each-all P f [] = tt

@@ -6,11 +6,12 @@ use Prim.Native.Nat.{ℕ, _≤_, _<_}
 use native.Mathlib.Omega.{arith}
 use lib.ListN.{length}
 use Rattle.prelude.specs.Search.{among, rank}
+use Rattle.prelude.specs.Each.{Each}
 use Rattle.kind.specs.Kind.{rule}
 use Rattle.token.specs.Token.{Token, token, putIf, emit, Allowed}
 use Rattle.utf8.specs.Text.{isText, textFrom, next, lead}
 use Rattle.utf8.proofs.Laws.{isText-text}
-use Rattle.values.specs.Values.{Value, bytes, region, starts, Each, Sound, Item, Formed, TargetsEarlier, WellFormed}
+use Rattle.values.specs.Values.{Value, bytes, region, starts, Sound, Item, Formed, TargetsEarlier, WellFormed}
 use Rattle.values.specs.Paths.{targets, targetsOf, deepest, depthsFrom, depthsOfValues}
 use Rattle.values.proofs.Unique.{values-same, last-same}
 

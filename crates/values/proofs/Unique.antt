@@ -11,9 +11,10 @@ use native.Mathlib.Nat.{suc-inj}
 use native.Mathlib.Omega.{arith}
 use lib.ListN.{length, length-append}
 use lib.Seq.{take-at, drop-at}
+use Rattle.prelude.specs.Each.{Each}
 use Rattle.token.specs.Token.{Token, emit, Fits}
 use Rattle.token.proofs.Laws.{scan-emit, emit-pos}
-use Rattle.values.specs.Values.{Value, bytes, region, Each, Item, Formed, WellFormed}
+use Rattle.values.specs.Values.{Value, bytes, region, Item, Formed, WellFormed}
 use Rattle.values.proofs.Laws.{fits-item, fits-head}
 
 pub first-same : (inner : Bool) (t u : Token) (r s : List ℕ) → Fits inner t r → Fits inner u s → emit t ++ r ≡ emit u ++ s → (t ≡ u) × (r ≡ s)

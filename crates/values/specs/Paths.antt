@@ -23,8 +23,9 @@ use lib.Dec.{leb}
 use lib.ListN.{length, getD}
 use Rattle.prelude.specs.Pick.{pick}
 use Rattle.prelude.specs.Search.{among, rank}
+use Rattle.prelude.specs.Each.{Each}
 use Rattle.token.specs.Token.{Token, emit}
-use Rattle.values.specs.Values.{Value, tokens, bytes, region, starts, Each}
+use Rattle.values.specs.Values.{Value, tokens, bytes, region, starts}
 
 unfoldable pub targets : ℕ → List Token → List ℕ
 targets q [] = []

@@ -5,7 +5,6 @@
 --   bytes ts            the bytes of tokens, back to back
 --   region vs           the bytes of values, back to back
 --   starts at vs        the offsets where values start, the first at `at`: running sums of their sizes
---   Each P xs           P holds for each of xs
 --   Sound t             t's kind allows it, and the body of a text is text
 --   Item t              t is sound and an immediate
 --   Formed v            the head is sound, each item is an `Item`, and there are as many as the head says
@@ -25,6 +24,7 @@ use mathlib.Core.Path.{_≡_}
 use mathlib.Core.Bool.{true}
 use mathlib.Core.List.{List, [], _∷_, _++_}
 use lib.ListN.{length}
+use Rattle.prelude.specs.Each.{Each}
 use Rattle.prelude.specs.Search.{among}
 use Rattle.error.specs.Error.{LIMIT}
 use Rattle.kind.specs.Kind.{rule, pending, immediate}
@@ -51,10 +51,6 @@ starts at [] = []
 starts at (v ∷ vs) = at ∷ starts (at + length (bytes (tokens v))) vs
 
 -- ---- the values of a file
-
-abbrev pub Each : {A : Type 0} → (A → Type 0) → List A → Type 0
-Each P [] = Unit {0}
-Each P (x ∷ xs) = P x × Each P xs
 
 pub record Sound (t : Token) : Type 0 where
   pub allowed : Allowed t
