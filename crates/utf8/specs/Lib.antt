@@ -2,3 +2,5 @@
 pub mod Text
 -- what the states of the private functions mean; no public contract cites it
 pub mod Internal
+-- UTF-8 by RFC 3629, over code points
+pub mod Utf8
