@@ -62,5 +62,7 @@ pub mod ReadsBack
 pub mod CallValues
 -- demands 2 and 3 for the writer
 pub mod Demands
+-- text is UTF-8
+pub mod Texts
 -- the demands, restated in their order
 pub mod Main

@@ -2,22 +2,26 @@
 -- docs/GUARANTEES.md quotes these statements and records, and reads them aloud.
 --
 -- After the three demands, what says more than they do: the answers of check and depths (in at most one way, and which refusal when); what a query
--- answers, and what it is refused for, on every file, lookup also by the other queries; one call of the writer in any state; lists of calls from any
+-- answers, and what it is refused for, on every file, lookup also by the other queries; text; one call of the writer in any state; lists of calls from any
 -- writer that follows a model, in C and by their parts, and an open value finished; longer memory, and how many words are enough; paths; what all of this
--- rests on (numbers and tokens there and back); the papers' samples.
+-- rests on (code points, numbers and tokens there and back); the papers' samples.
 use mathlib.Core.Path.{_≡_}
 use mathlib.Core.Bool.{Bool, true, false}
 use mathlib.Core.Logic.{_⊎_, _↔_}
-use mathlib.Core.List.{List, [], _++_, map}
+use mathlib.Core.Option.{some}
+use mathlib.Core.List.{List, [], _++_, map, List·Memᴰ}
 use Prim.Native.Nat.{ℕ, suc, _+_, _-_, _*_, _/_, _≤_, _<_}
 use lib.Dec.{ltb}
 use lib.ListN.{length, take, getD}
 use Rattle.prelude.specs.Answer.{ok, error, got}
 use Rattle.prelude.specs.Bytes.{Bytes}
 use Rattle.prelude.specs.Each.{Each}
-use Rattle.error.specs.Error.{Fault, fault, LIMIT, EMPTY, TOO_LONG, FULL, BAD_ENTRY, NO_ITEM}
+use Rattle.error.specs.Error.{Fault, fault, LIMIT, EMPTY, TOO_LONG, BAD_TEXT, FULL, BAD_ENTRY, NO_ITEM}
 use Rattle.leb128.specs.Leb.{top, get, put}
 use Rattle.leb128.proofs.Laws as leb128
+use Rattle.utf8.specs.Text.{Text}
+use Rattle.utf8.specs.Utf8.{Scalar, Row, utf8Rows, octets, encode, utf8, Holds, Utf8, decode}
+use Rattle.utf8.proofs.Utf8 as utf8-laws
 use Rattle.kind.specs.Kind.{rule, size, counted}
 use Rattle.token.specs.Token.{Token, emit, Fits}
 use Rattle.token.specs.Scan.{scan}
@@ -40,7 +44,7 @@ use Rattle.checker_value.specs.Walk.{nextToken}
 use Rattle.checker.specs.Check.{checkOf}
 use Rattle.depths.specs.Depths.{depthsOf}
 use Rattle.writer_refusal.specs.declared.State.{State}
-use Rattle.writer.specs.Call.{Call}
+use Rattle.writer.specs.Call.{Call, text}
 use Rattle.writer.specs.Step.{puts, moveOf, fresh, opens, step}
 use Rattle.writer.specs.Runs.{runs}
 use Rattle.writer.proofs.Refused as writer
@@ -56,10 +60,11 @@ use Rattle.guarantees_faults.proofs.Queries as queries
 use Rattle.guarantees_faults.proofs.Lookups as lookup-queries
 use Rattle.guarantees.specs.Accepts.{Overfull}
 use Rattle.guarantees.specs.Refused.{Unnamed, Faulty, RefusedCheck, RefusedDepths}
+use Rattle.guarantees.specs.Texts.{NotUtf8, TextsUtf8}
 use Rattle.guarantees.specs.Lookup.{Found, Missing}
-use Rattle.guarantees.specs.Samples.{Answered, samples, endSamples}
+use Rattle.guarantees.specs.Samples.{Answered, samples, endSamples, textSamples}
 use Rattle.guarantees_writer.specs.Model.{requestOf, formsOf, deltaOf, Model, emptyModel}
-use Rattle.guarantees_writer.specs.RefusedCall.{NoRoom, RefusedCall}
+use Rattle.guarantees_writer.specs.RefusedCall.{BadState, NoRoom, RefusedCall}
 use Rattle.guarantees_writer.specs.History.{modelRun, Agree, Follows, Alike}
 use Rattle.guarantees_writer.specs.AcceptedParts.{acceptedParts}
 use Rattle.guarantees_writer.specs.Longer.{MemoryAnswer, longer, Stretch, runsGrowing, callsIn, bytesIn, wordsIn, acceptedOf, Leaves, modelGrowing}
@@ -85,6 +90,7 @@ use Rattle.guarantees_writer.proofs.AcceptedParts as parts
 use Rattle.guarantees_writer.proofs.Longer as memory
 use Rattle.guarantees_writer.proofs.EnoughWords as words
 use Rattle.guarantees.proofs.CallValues as call-values
+use Rattle.guarantees.proofs.Texts as texts
 use Rattle.guarantees.proofs.Demands as demands
 use Rattle.guarantees_writer.proofs.Written as lists
 
@@ -167,6 +173,23 @@ too-long-exactly = refused.too-long-exactly
 
 pub bad-entry-exactly : (file : List ℕ) (cap p : ℕ) → Bytes file → (checkOf file cap .answer ≡ error (fault BAD_ENTRY p)) ↔ Unnamed file cap p
 bad-entry-exactly = refused.bad-entry-exactly
+
+-- ---- text
+
+pub text-exactly : (s : List ℕ) → Text s ↔ Utf8 s
+text-exactly = utf8-laws.text-exactly
+
+pub accepted-texts : (file : List ℕ) (cap count entry : ℕ) → Bytes file → checkOf file cap .answer ≡ ok (count, entry)
+    → (vs : List Value) × WellFormed file vs entry × TextsUtf8 file vs
+accepted-texts = texts.accepted-texts
+
+pub bad-text : (file : List ℕ) (cap p : ℕ) → Bytes file → checkOf file cap .answer ≡ error (fault BAD_TEXT p)
+    → (x : Faulty file cap p (fault BAD_TEXT p)) × NotUtf8 (take (length file - 1) file) (ltb 0 (x .missing)) p
+bad-text = texts.bad-text
+
+pub text-refused-exactly : (b : List ℕ) (s : State) (out table : List ℕ) → (step (text b) s out table .answer ≡ error BAD_TEXT)
+    ↔ ((BadState s (length out) (length table) → ⊥) × (s .closed ≡ false) × (Utf8 b → ⊥))
+text-refused-exactly = texts.text-refused-exactly
 
 -- ---- what a query answers, and what it is refused for, on every file
 
@@ -295,7 +318,16 @@ enough-words = words.enough-words
 pub leads-exactly : (vs : List Value) (i j : ℕ) → Leads vs i j ↔ ((j < length vs) × Refers vs i (getD (starts 0 vs) j 0))
 leads-exactly = leads.leads-exactly
 
--- ---- what this rests on: numbers and tokens, there and back
+-- ---- what this rests on: code points, numbers and tokens, there and back
+
+pub decode-utf8 : (cs : List ℕ) → Each Scalar cs → decode (utf8 cs) ≡ some cs
+decode-utf8 = utf8-laws.decode-utf8
+
+pub utf8-decode : (s cs : List ℕ) → decode s ≡ some cs → Each Scalar cs × (utf8 cs ≡ s)
+utf8-decode = utf8-laws.utf8-decode
+
+pub shortest : (c : ℕ) → Scalar c → {r : Row} → List·Memᴰ r utf8Rows → Holds r c → length (encode c) ≤ length (octets (some r) c)
+shortest = utf8-laws.shortest
 
 pub get-put : (k least n : ℕ) (rest : List ℕ) → least ≤ n → n < top k → get k least (put k n ++ rest) ≡ got n rest
 get-put = leb128.get-put
@@ -313,6 +345,9 @@ the-samples = sampled.the-samples
 
 pub the-ends : Answered endSamples
 the-ends = sampled.the-ends
+
+pub the-texts : Answered textSamples
+the-texts = sampled.the-texts
 
 pub the-written : map writes written ≡ map expects written
 the-written = lists.the-written

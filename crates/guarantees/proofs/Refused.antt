@@ -42,10 +42,10 @@ use Rattle.guarantees.proofs.Accepted.{walked-ends, walked-region}
 
 -- ---- where a file failed
 
-numbers : {f g : Fault} → f ≡ g → f .number ≡ g .number
+pub numbers : {f g : Fault} → f ≡ g → f .number ≡ g .number
 numbers e = ap (λ (x : Fault). x .number) e
 
-places : {f g : Fault} → f ≡ g → f .place ≡ g .place
+pub places : {f g : Fault} → f ≡ g → f .place ≡ g .place
 places e = ap (λ (x : Fault). x .place) e
 
 pub walk-known : (s : List ℕ) (cap : ℕ) (f : Fault) → error f ≡ startsFrom s cap (between 0 []) → among (f .number) walkErrors ≡ true

@@ -1,4 +1,4 @@
--- The twelve marked samples of document 01, and samples of W-201, by computation of the definitions that the contracts cite.
+-- The twelve marked samples of document 01, and samples of W-201 and W-202, by computation of the definitions that the contracts cite.
 use mathlib.Core.Path.{refl}
 use Rattle.prelude.specs.Answer.{bind, guard, then, orError, _>>_, _>>=_}
 use Rattle.prelude.specs.Loop.{run, from}
@@ -15,17 +15,20 @@ use Rattle.checker_value.specs.Walk as walks
 use Rattle.checker.specs.Check as check
 use Rattle.depths_value.specs.Depth as deep
 use Rattle.depths.specs.Depths.{depthsOf}
-use Rattle.guarantees.specs.Samples.{sampleAnswer, Answered, samples, endSamples}
+use Rattle.guarantees.specs.Samples.{sampleAnswer, Answered, samples, endSamples, textSamples}
 
-computed : Answered samples × Answered endSamples
+computed : Answered samples × Answered endSamples × Answered textSamples
 unfolding sampleAnswer bind guard then orError _>>_ _>>=_ run from among rank get rule getIf number body scanKind scan
     headOf scanAt lead next textFrom regionLen inRegion peekIn skipItems valueOn readIn startsIn itemOn itemIn
     walks.hasTarget walks.tokenFault walks.nextToken walks.walkAfter walks.walkTurn walks.startsFrom check.entryAt
     check.checkIn check.checkOf deep.depthTurn deep.deepestFrom deep.depthAt deep.depthsTo depthsOf
-computed = (refl, refl)
+computed = (refl, refl, refl)
 
 pub the-samples : Answered samples
 the-samples = computed .0
 
 pub the-ends : Answered endSamples
 the-ends = computed .1
+
+pub the-texts : Answered textSamples
+the-texts = computed .2

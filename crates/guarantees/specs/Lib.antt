@@ -8,6 +8,8 @@ pub mod TokenValues
 pub mod Places
 -- how many items a value has, as reading returns it
 pub mod Items
+-- text is UTF-8, over files and calls
+pub mod Texts
 -- what map lookup means
 pub mod Lookup
 -- which errors each call can give

@@ -11,16 +11,18 @@
 --   endSamples       W-201: what goes past the region's end, or just reaches it, by the readings of docs/READINGS.md. In order: lengths, the item's among
 --                    them, and before BAD_TEXT (D1, D3, A10); counts of items, pairs and arguments, and one pair that fits (A8, A9, D1); a number, a float
 --                    and the one item of a tag (A10, D2, A5); the greatest n of each kind with a length or count, and one more (A3); queries (B3)
+--   textSamples      W-202: a surrogate; then the last second byte that is refused, or taken, and the first that is not, after E0, ED, F0 and F4; a
+--                    character that is cut by the body's end (E2); a surrogate as an item, at its own header; reading does not look at a text's bytes (E1)
 use Prim.Native.Nat.{ℕ, _-_, _^_}
 use mathlib.Core.Path.{_≡_}
 use mathlib.Core.List.{List, [], _∷_, _++_, map}
 use lib.IntN.{negsuc}
 use lib.ListN.{replicate}
 use Rattle.prelude.specs.Answer.{Answer, ok, error}
-use Rattle.error.specs.Error.{Fault, fault, EMPTY, TRUNC, OVERLONG, RANGE, NESTED, BAD_TARGET, BAD_ENTRY, NO_ITEM, LONG_BODY, LONG_LIST}
+use Rattle.error.specs.Error.{Fault, fault, EMPTY, TRUNC, OVERLONG, RANGE, NESTED, BAD_TEXT, BAD_TARGET, BAD_ENTRY, NO_ITEM, LONG_BODY, LONG_LIST}
 use Rattle.reader_value.specs.Value.{readOf}
 use Rattle.reader_value.specs.declared.Value.{Value}
-use Rattle.reader_value.specs.declared.Value.the-variants.{Integer}
+use Rattle.reader_value.specs.declared.Value.the-variants.{Integer, Text}
 use Rattle.reader_items.specs.Items.{itemOf}
 use Rattle.checker.specs.Check.{Checked, checked, checkOf}
 use Rattle.depths.specs.Depths.{depthsOf}
@@ -102,4 +104,25 @@ endSamples =
     ∷ (0xcf ∷ 0xf1 ∷ 0xff ∷ 0xff ∷ 0xff ∷ 0x0f ∷ 0x05 ∷ 0x00 ∷ [], check, refused RANGE 0)
     ∷ (0x63 ∷ 0x10 ∷ 0x00 ∷ [], read 0, value (error (fault LONG_LIST 1)))
     ∷ (0x62 ∷ 0x45 ∷ 0x61 ∷ 0x00 ∷ [], item 0 1, offset (error (fault LONG_BODY 2)))
+    ∷ []
+
+-- one value, at 0
+abbrev one : SampleAnswer
+one = table (checked (ok (1, 0)) (0 ∷ 0 ∷ 0 ∷ 0 ∷ [])) (1 ∷ 0 ∷ 0 ∷ 0 ∷ [])
+
+abbrev pub textSamples : List Sample
+textSamples =
+    (0x43 ∷ 0xed ∷ 0xa0 ∷ 0x80 ∷ 0x03 ∷ [], check, refused BAD_TEXT 0)
+    ∷ (0x43 ∷ 0xe0 ∷ 0x9f ∷ 0xbf ∷ 0x03 ∷ [], check, refused BAD_TEXT 0)
+    ∷ (0x43 ∷ 0xe0 ∷ 0xa0 ∷ 0x80 ∷ 0x03 ∷ [], check, one)
+    ∷ (0x43 ∷ 0xed ∷ 0x9f ∷ 0xbf ∷ 0x03 ∷ [], check, one)
+    ∷ (0x43 ∷ 0xed ∷ 0xbf ∷ 0xbf ∷ 0x03 ∷ [], check, refused BAD_TEXT 0)
+    ∷ (0x43 ∷ 0xee ∷ 0x80 ∷ 0x80 ∷ 0x03 ∷ [], check, one)
+    ∷ (0x44 ∷ 0xf0 ∷ 0x8f ∷ 0xbf ∷ 0xbf ∷ 0x04 ∷ [], check, refused BAD_TEXT 0)
+    ∷ (0x44 ∷ 0xf0 ∷ 0x90 ∷ 0x80 ∷ 0x80 ∷ 0x04 ∷ [], check, one)
+    ∷ (0x44 ∷ 0xf4 ∷ 0x8f ∷ 0xbf ∷ 0xbf ∷ 0x04 ∷ [], check, one)
+    ∷ (0x44 ∷ 0xf4 ∷ 0x90 ∷ 0x80 ∷ 0x80 ∷ 0x04 ∷ [], check, refused BAD_TEXT 0)
+    ∷ (0x42 ∷ 0xe2 ∷ 0x82 ∷ 0x02 ∷ [], check, refused BAD_TEXT 0)
+    ∷ (0x61 ∷ 0x43 ∷ 0xed ∷ 0xa0 ∷ 0x80 ∷ 0x04 ∷ [], check, refused BAD_TEXT 1)
+    ∷ (0x43 ∷ 0xed ∷ 0xa0 ∷ 0x80 ∷ 0x03 ∷ [], read 0, value (ok (Text 1 3)))
     ∷ []

@@ -1,11 +1,11 @@
 -- The place and the number of a refusal.
 --
 -- In order: of a token, by its head, the number (`head-known`) and the place (`head-place`); the same in check's walk (`refused-known`,
--- `refused-place`), where FULL is of a value that has no word (`refused-full`).
+-- `refused-place`), where FULL is of a value that has no word (`refused-full`), and BAD_TEXT of a whole text (`refused-text`).
 use mathlib.Core.Path.{_≡_, refl, sym, _∙_}
 use mathlib.Core.Bool.{Bool, true, false, not, false≢true}
 use mathlib.Core.List.{List, [], _∷_, _++_}
-use Prim.Native.Nat.{ℕ, _≤_}
+use Prim.Native.Nat.{ℕ, _/_, _≤_}
 use native.Mathlib.Omega.{arith}
 use lib.Dec.{ltb, eqb}
 use lib.ListN.{length}
@@ -13,10 +13,11 @@ use Rattle.prelude.specs.Pick.{pick}
 use Rattle.prelude.specs.Search.{among}
 use Rattle.prelude.specs.Each.{Each}
 use Rattle.error.specs.Error.{Fault, TRUNC, RESERVED, OVERLONG, RANGE, NESTED, BAD_TEXT, BAD_TARGET, FULL, LONG_BODY, LONG_LIST}
+use Rattle.utf8.specs.Text.{Text}
 use Rattle.prelude.proofs.Tables.{every}
 use Rattle.values.proofs.Members.{each-every, each-append, each-among}
 use Rattle.guarantees_faults.specs.Faults as faults
-use Rattle.guarantees_faults.specs.Faults.{longErrors, BadNumber, Exceeds, RefusedHead, HasPlace, RefusedToken}
+use Rattle.guarantees_faults.specs.Faults.{longErrors, BadNumber, Exceeds, Whole, RefusedHead, HasPlace, RefusedToken}
 
 -- ---- by the head
 
@@ -105,3 +106,10 @@ module _ {s : List ℕ} {cap : ℕ} {done : List ℕ} {pending q : ℕ} where
   refused-full (faults.head w x) e = absurd (false≢true (rw e at (head-every (λ e. not (eqb e FULL)) refl x)))
   refused-full (faults.text w x four wrong) e = absurd (omega arith)
   refused-full (faults.target w x text ref wrong) e = absurd (omega arith)
+
+  pub refused-text : {f : Fault} → RefusedToken s cap done pending q f → f .number ≡ BAD_TEXT
+      → (f .place ≡ q) × ((h n : ℕ) × (b : List ℕ) × Whole s (ltb 0 pending) q h n b × (h / 16 ≡ 4) × (Text b → ⊥))
+  refused-text (faults.full z c) e = absurd (omega arith)
+  refused-text (faults.head w x) e = absurd (false≢true (rw e at (head-every (λ e. not (eqb e BAD_TEXT)) refl x)))
+  refused-text (faults.text {h} {n} {b} w x four wrong) e = (refl, (h, n, b, x, four, wrong))
+  refused-text (faults.target w x text ref wrong) e = absurd (omega arith)

@@ -1,7 +1,7 @@
 -- `isText` decides the grammar: it is true for every text (`text-isText`), and whatever it is true for is a text
 -- (`isText-text`).
 --
--- In order: the first ranges of the forms rise, so that a byte begins at most one form; a text passes, character by
+-- In order: a byte in a range; the first ranges of the forms rise, so that a byte begins at most one form; a text passes, character by
 -- character; what passes fills the ranges due, and then is a text.
 use mathlib.Core.Path.{_≡_, refl, sym, ap, _∙_}
 use mathlib.Core.Bool.{true, false, false≢true}
@@ -17,6 +17,9 @@ use Rattle.prelude.proofs.Tests.{pick-elim, and-l, and-r}
 use Rattle.utf8.specs.Text.{Range, forms, Matches, end, byte, Text, empty, character, within, lead, next, textFrom, isText}
 
 -- ---- the table
+
+pub within-yes : (r : Range) (b : ℕ) → r .lo ≤ b → b ≤ r .hi → within r b ≡ true
+within-yes r b l h = rw (le-leb (r .lo) b, le-leb b (r .hi))
 
 -- every form has a first range, none of these is empty, and they rise, from n on
 abbrev Rising : ℕ → List (List Range) → Type 0
@@ -35,7 +38,7 @@ lead-form n b r f ([] ∷ fs) e k lo hi = absurd e
 lead-form n b r f ((q ∷ g) ∷ fs) e (List·Memᴰ·head p) lo hi =
     let same : r ≡ q = cc in
     let above : q .lo ≤ b = rw same at lo in
-    (omega arith, rw (le-leb (q .lo) b, le-leb b (q .hi) (rw same at hi)) (cc))
+    (omega arith, rw (within-yes q b above (rw same at hi)) (cc))
 lead-form n b r f ((q ∷ g) ∷ fs) e (List·Memᴰ·tail k) lo hi =
     let h = lead-form (suc (q .hi)) b r f fs (e .2) k lo hi in
     let past : q .hi < b = h .0 in
@@ -52,7 +55,7 @@ text-cons due b s e = ap (λ (d : Option (List Range)). textFrom d s) e
 text-matches : {f : List Range} {p : List ℕ} (s : List ℕ) → Matches f p → textFrom (some f) (p ++ s) ≡ isText s
 unfolding next
 text-matches s end = refl
-text-matches s (byte lo hi m) = text-cons _ _ _ (rw (le-leb _ _ lo, le-leb _ _ hi)) ∙ text-matches s m
+text-matches s (byte {r = r} {b = b} lo hi m) = text-cons _ _ _ (rw (within-yes r b lo hi)) ∙ text-matches s m
 
 isText-character : {f : List Range} {p : List ℕ} (s : List ℕ) → List·Memᴰ f forms → Matches f p → isText (p ++ s) ≡ isText s
 unfolding next

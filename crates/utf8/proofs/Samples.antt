@@ -1,9 +1,11 @@
--- `isText` on examples, one list and one theorem.
+-- `isText` on examples, and UTF-8 on those of RFC 3629, section 7.
 use mathlib.Core.Path.{_≡_, refl}
 use mathlib.Core.Bool.{Bool, true, false}
 use mathlib.Core.List.{List, [], _∷_, map}
+use mathlib.Core.Option.{some, bind}
 use Prim.Native.Nat.{ℕ}
 use Rattle.utf8.specs.Text.{lead, next, textFrom, isText}
+use Rattle.utf8.specs.Utf8.{rowOf, following, utf8, decodeFrom, decode}
 
 -- bytes, and whether they are text
 abbrev samples : List ((List ℕ) × Bool)
@@ -31,3 +33,17 @@ samples =
 the-samples : map (λ (x : (List ℕ) × Bool). isText (x .0)) samples ≡ map (λ (x : (List ℕ) × Bool). x .1) samples
 unfolding textFrom next lead
 the-samples = refl
+
+-- code points, and their UTF-8 form
+abbrev examples : List ((List ℕ) × (List ℕ))
+examples =
+    (0x41 ∷ 0x2262 ∷ 0x391 ∷ 0x2E ∷ [], 0x41 ∷ 0xE2 ∷ 0x89 ∷ 0xA2 ∷ 0xCE ∷ 0x91 ∷ 0x2E ∷ [])
+    ∷ (0xD55C ∷ 0xAD6D ∷ 0xC5B4 ∷ [], 0xED ∷ 0x95 ∷ 0x9C ∷ 0xEA ∷ 0xB5 ∷ 0xAD ∷ 0xEC ∷ 0x96 ∷ 0xB4 ∷ [])
+    ∷ (0x65E5 ∷ 0x672C ∷ 0x8A9E ∷ [], 0xE6 ∷ 0x97 ∷ 0xA5 ∷ 0xE6 ∷ 0x9C ∷ 0xAC ∷ 0xE8 ∷ 0xAA ∷ 0x9E ∷ [])
+    ∷ (0xFEFF ∷ 0x233B4 ∷ [], 0xEF ∷ 0xBB ∷ 0xBF ∷ 0xF0 ∷ 0xA3 ∷ 0x8E ∷ 0xB4 ∷ [])
+    ∷ []
+
+the-examples : (map (λ (x : (List ℕ) × (List ℕ)). utf8 (x .0)) examples ≡ map (λ (x : (List ℕ) × (List ℕ)). x .1) examples)
+    × (map (λ (x : (List ℕ) × (List ℕ)). decode (x .1)) examples ≡ map (λ (x : (List ℕ) × (List ℕ)). some (x .0)) examples)
+unfolding utf8 following rowOf decodeFrom bind
+the-examples = (refl, refl)

@@ -9,7 +9,7 @@ use Prim.Native.Nat.{ℕ, zero, suc, _+_, _-_, _≤_, _<_}
 use native.Mathlib.Nat.{not-suc-le-zero}
 use native.Mathlib.Numerals.{add-one, sub-one}
 use native.Mathlib.Omega.{arith}
-use lib.Dec.{eqb, leb, leb·zero}
+use lib.Dec.{eqb, leb·zero}
 use Rattle.prelude.specs.Pick.{pick}
 use Rattle.prelude.proofs.Tests.{split}
 use Rattle.prelude.proofs.Parts.{part-from, length-part}
@@ -19,20 +19,20 @@ use borrow.Author.Tests.{le-leb, lt-leb, lt-ltb, le-ltb, ne-eqb, not-true, not-f
 use Rattle.utf8.specs.Text.{Range, range, continuation, forms, within, lead, next, complete, textFrom, isText}
 use Rattle.utf8.specs.Internal.{ranges, dueOf}
 use Rattle.utf8.specs.declared.Due.{Due}
-use Rattle.utf8.proofs.Laws.{text-none}
+use Rattle.utf8.proofs.Laws.{within-yes, text-none}
 
 -- ---- a first byte
 
 module _ (b : ℕ) where
   pub within-zero-le : (h : ℕ) → b ≤ h → within (range 0 h) b ≡ true
-  within-zero-le h l = rw (leb·zero, le-leb)
+  within-zero-le h l = within-yes (range 0 h) b (omega arith) l
 
   pub within-zero-gt : (h : ℕ) → h < b → within (range 0 h) b ≡ false
   within-zero-gt h l = rw (leb·zero, lt-leb)
 
   module _ (x : ℕ) where
     pub within-one : b ≡ x → within (range x x) b ≡ true
-    within-one e = rw (le-leb x b (omega arith), le-leb b x (omega arith))
+    within-one e = within-yes (range x x) b (omega arith) (omega arith)
 
     pub within-other : (b ≡ x → ⊥) → within (range x x) b ≡ false
     within-other e = split b x (λ less. rw (lt-leb x b)) (λ more. let over : x < b = omega arith in rw (le-leb x b, lt-leb b x))

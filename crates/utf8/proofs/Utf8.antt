@@ -1,5 +1,10 @@
--- A text is the UTF-8 form of code points, by RFC 3629.
+-- The texts are exactly the UTF-8 forms of code points, by RFC 3629.
+--
+-- In order: the bits of a code point; the rows of the RFC's table; encoded code points are a text (`utf8-text`) and are decoded
+-- (`decode-utf8`); decoded ones were encoded (`utf8-decode`); a text is decoded, so that it is encoded code points (`text-exactly`); no row
+-- gives a code point fewer octets (`shortest`).
 use mathlib.Core.Path.{_≡_, refl, sym, ap, subst, _∙_}
+use mathlib.Core.Logic.{_↔_}
 use mathlib.Core.Bool.{true, false, _&&_, _||_, not, false≢true}
 use mathlib.Core.List.{List, [], _∷_, _++_, map, List·Memᴰ, List·Memᴰ·head, List·Memᴰ·tail}
 use mathlib.Core.Option.{Option, some, none, bind, bind-eq-some-iff, Option·none-ne-some, Option·some-injective}
@@ -10,20 +15,17 @@ use lib.Dec.{leb}
 use lib.ListN.{length, getD}
 use borrow.Author.Needs.{needs}
 use borrow.Author.Tests.{leb-true, le-leb, lt-leb, not-true}
-use Rattle.prelude.specs.Pick.{pick}
 use Rattle.prelude.specs.Each.{Each}
 use Rattle.prelude.proofs.Lists.{each-mem}
 use Rattle.prelude.proofs.Tests.{split, pick-elim, and-l, and-r, or-true}
 use Rattle.utf8.specs.Text.{Range, range, continuation, forms, within, Matches, end, byte, Text, empty, character}
-use Rattle.utf8.specs.Utf8.{surrogates, Scalar, Row, row, table, rowOf, following, octets, encode, utf8, keep, decodeFrom, decode}
+use Rattle.utf8.specs.Utf8.{surrogates, Scalar, Row, row, utf8Rows, rowOf, following, octets, encode, utf8, Holds, Utf8, keep, decodeFrom, decode}
+use Rattle.utf8.proofs.Laws.{within-yes}
 
 -- ---- the bits of a code point
 
 div-pow : (c k : ℕ) → c / 64 ^ suc k ≡ c / 64 ^ k / 64
 div-pow c k = ap (λ (n : ℕ). c / n) (pow-suc 64 k) ∙ sym (div-div-eq-div-mul c (64 ^ k) 64)
-
-within-yes : (r : Range) (x : ℕ) → r .lo ≤ x → x ≤ r .hi → within r x ≡ true
-within-yes r x l h = rw (le-leb, le-leb)
 
 decode-zero : (r : Row) (v : ℕ) (s : List ℕ) → decodeFrom r v 0 s ≡ keep r v (decode s)
 unfolding decodeFrom
@@ -37,7 +39,7 @@ decode-following r c (suc k) s =
     let bits : c / 64 ^ suc k * 64 + (0x80 + c / 64 ^ k % 64 - 0x80) ≡ c / 64 ^ k = rw (div-pow c k) (omega arith) in
     rw (within-yes continuation (0x80 + c / 64 ^ k % 64) (omega arith) (omega arith), bits) (decode-following r c k s)
 
--- ---- the table
+-- ---- the rows
 
 module _ (part : Row → Range) where
   -- no range is empty, and they rise, from n on
@@ -62,29 +64,36 @@ module _ (part : Row → Range) where
   rowOf-in x r (q ∷ rs) e =
       pick-elim (λ (o : Option Row). o ≡ some r → List·Memᴰ r (q ∷ rs) × (part r .lo ≤ x) × (x ≤ part r .hi)) (within (part q) x)
       (λ w e₁.
-        let same = sym (Option·some-injective q r e₁) in
-        (List·Memᴰ·head same, rw same (leb-true _ _ (and-l _ _ w)), rw same (leb-true _ _ (and-r (leb (part q .lo) x) _ w))))
+      let same = sym (Option·some-injective q r e₁) in
+      (List·Memᴰ·head same, rw same (leb-true _ _ (and-l _ _ w)), rw same (leb-true _ _ (and-r (leb (part q .lo) x) _ w))))
       (λ w e₁. let h = rowOf-in x r rs e₁ in (List·Memᴰ·tail (h .0), h .1, h .2))
       e
 
-rising-numbers : Rising (λ r. r .numbers) 0 table
-rising-numbers = search needs
+module _ {r : Row} (m : List·Memᴰ r utf8Rows) where
+  -- the row by the code point
+  encode-row : (c : ℕ) → r .numbers .lo ≤ c → c ≤ r .numbers .hi → encode c ≡ octets (some r) c
+  encode-row c l h =
+      let rising : Rising (λ q. q .numbers) 0 utf8Rows = search needs in
+      ap (λ (o : Option Row). octets o c) (rowOf-is (λ q. q .numbers) 0 c utf8Rows rising m l h .1)
 
-rising-first : Rising (λ r. r .first) 0 table
-rising-first = search needs
+  -- and by the first octet
+  first-row : (b : ℕ) → r .first .lo ≤ b → b ≤ r .first .hi → rowOf (λ q. q .first) utf8Rows b ≡ some r
+  first-row b l h =
+      let rising : Rising (λ q. q .first) 0 utf8Rows = search needs in
+      rowOf-is (λ q. q .first) 0 b utf8Rows rising m l h .1
 
-numbers-last : {r : Row} → List·Memᴰ r table → r .numbers .hi ≤ 0x10FFFF
-numbers-last = each-mem (λ r. r .numbers .hi ≤ 0x10FFFF) table (search needs)
+  numbers-last : r .numbers .hi ≤ 0x10FFFF
+  numbers-last = each-mem (λ q. q .numbers .hi ≤ 0x10FFFF) utf8Rows (search needs) m
 
--- ---- what is encoded is decoded
+-- ---- what is encoded is a text, and is decoded
 
 -- the row of a code point, and the form of its octets
 record Placed (c : ℕ) : Type 0 where
   r : Row
-  in-table : List·Memᴰ r table
+  in-rows : List·Memᴰ r utf8Rows
   from : r .numbers .lo ≤ c
   to : c ≤ r .numbers .hi
-  begins : r .first .lo + c / 64 ^ r .more ≤ r .first .hi
+  holds : Holds r c
   f : List Range
   in-forms : List·Memᴰ f forms
   matches : Matches f (octets (some r) c)
@@ -95,7 +104,7 @@ mem x (y ∷ xs) zero h = List·Memᴰ·head refl
 mem x (y ∷ xs) (suc n) h = List·Memᴰ·tail (mem x xs n (omega arith))
 
 abbrev rowAt : ℕ → Row
-rowAt n = getD table n (row (range 0 0) (range 0 0) 0)
+rowAt n = getD utf8Rows n (row (range 0 0) (range 0 0) 0)
 
 -- `Matches`, as a product of comparisons
 abbrev Fill : List Range → List ℕ → Type 0
@@ -110,17 +119,24 @@ matches-fill [] (b ∷ p) h = absurd h
 matches-fill (r ∷ f) [] h = absurd h
 matches-fill (r ∷ f) (b ∷ p) h = byte (h .0) (h .1) (matches-fill f p (h .2))
 
--- by row n of the table and form k
+-- by row n and form k
 abbrev By : ℕ → ℕ → ℕ → Type 0
 By c n k =
-    (n < 4) × (k < 9) × (rowAt n .numbers .lo ≤ c) × (c ≤ rowAt n .numbers .hi) × (rowAt n .first .lo + c / 64 ^ rowAt n .more ≤ rowAt n .first .hi)
+    (n < 4) × (k < 9) × (rowAt n .numbers .lo ≤ c) × (c ≤ rowAt n .numbers .hi) × Holds (rowAt n) c
     × Fill (getD forms k []) (octets (some (rowAt n)) c)
 
 by : (c n k : ℕ) → By c n k → Placed c
 by c n k h =
     record {
-      r = _; in-table = mem _ table n (h .0); from = h .2; to = h .3; begins = h .4;
-      f = _; in-forms = mem _ forms k (h .1); matches = matches-fill _ _ (h .5) }
+      r = _;
+      in-rows = mem _ utf8Rows n (h .0);
+      from = h .2;
+      to = h .3;
+      holds = h .4;
+      f = _;
+      in-forms = mem _ forms k (h .1);
+      matches = matches-fill _ _ (h .5);
+    }
 
 placed : (c : ℕ) → Scalar c → Placed c
 unfolding following
@@ -137,9 +153,8 @@ placed c h =
     (λ g. by c 3 8 (search needs))))))))))
 
 encode-is : (c : ℕ) (p : Placed c) → encode c ≡ octets (some (p .r)) c
-encode-is c p = ap (λ (o : Option Row). octets o c) (rowOf-is (λ r. r .numbers) 0 c table rising-numbers (p .in-table) (p .from) (p .to) .1)
+encode-is c p = encode-row (p .in-rows) c (p .from) (p .to)
 
--- the UTF-8 form of code points is a text
 pub utf8-text : (cs : List ℕ) → Each Scalar cs → Text (utf8 cs)
 unfolding utf8
 utf8-text [] e = empty
@@ -150,8 +165,8 @@ keep-scalar r c cs l h u =
     split c 0xD800
     (λ less. rw (within-yes (r .numbers) c l h, lt-leb 0xD800 c))
     (λ more. split 0xDFFF c
-      (λ past. rw (within-yes (r .numbers) c l h, le-leb 0xD800 c, lt-leb c 0xDFFF))
-      (λ up. absurd (u .1 more up)))
+    (λ past. rw (within-yes (r .numbers) c l h, le-leb 0xD800 c, lt-leb c 0xDFFF))
+    (λ up. absurd (u .1 more up)))
 
 decode-character : (c : ℕ) (s cs : List ℕ) → Scalar c → decode s ≡ some cs → decode (encode c ++ s) ≡ some (c ∷ cs)
 unfolding bind
@@ -160,7 +175,7 @@ decode-character c s cs u e =
     let q = p .r in
     let b : ℕ = q .first .lo + c / 64 ^ q .more in
     let bits : b - q .first .lo ≡ c / 64 ^ q .more = omega arith in
-    rw (encode-is c p, rowOf-is (λ r. r .first) 0 b table rising-first (p .in-table) (omega arith) (p .begins) .1, bits, decode-following q c (q .more) s, e)
+    rw (encode-is c p, first-row (p .in-rows) b (omega arith) (p .holds), bits, decode-following q c (q .more) s, e)
     (keep-scalar q c cs (p .from) (p .to) u)
 
 pub decode-utf8 : (cs : List ℕ) → Each Scalar cs → decode (utf8 cs) ≡ some cs
@@ -170,16 +185,16 @@ decode-utf8 (c ∷ cs) e = decode-character c (utf8 cs) cs (e .0) (decode-utf8 c
 
 -- ---- what is decoded was encoded
 
--- what a refusal of `keep` rules out
+-- what `keep` has tested
 keep-by : {X : Type 0} (r : Row) (v : ℕ) (o : Option (List ℕ)) {cs : List ℕ} → keep r v o ≡ some cs
     → ((ds : List ℕ) → o ≡ some ds → cs ≡ v ∷ ds → r .numbers .lo ≤ v → v ≤ r .numbers .hi → (0xD800 ≤ v → v ≤ 0xDFFF → ⊥) → X) → X
 keep-by r v none e k = absurd (Option·none-ne-some _ e)
 keep-by {X} r v (some ds) {cs} e k =
     pick-elim (λ (o : Option (List ℕ)). o ≡ some cs → X) (within (r .numbers) v && not (within surrogates v))
     (λ w e₁.
-      let a = and-l (within (r .numbers) v) _ w in
-      k ds refl (sym (Option·some-injective _ _ e₁)) (leb-true _ _ (and-l _ _ a)) (leb-true _ _ (and-r (leb (r .numbers .lo) v) _ a))
-      (λ l h. false≢true (sym (not-true _ (and-r (within (r .numbers) v) _ w)) ∙ within-yes surrogates v l h)))
+    let a = and-l (within (r .numbers) v) _ w in
+    k ds refl (sym (Option·some-injective _ _ e₁)) (leb-true _ _ (and-l _ _ a)) (leb-true _ _ (and-r (leb (r .numbers .lo) v) _ a))
+    (λ l h. false≢true (sym (not-true _ (and-r (within (r .numbers) v) _ w)) ∙ within-yes surrogates v l h)))
     (λ w e₁. absurd (Option·none-ne-some _ e₁))
     e
 
@@ -200,34 +215,43 @@ begun : (b : ℕ) (s cs : List ℕ) → ((q : Row) (v k : ℕ) → decodeFrom q 
     → Each Scalar cs × (utf8 cs ≡ b ∷ s)
 unfolding utf8
 begun b s cs ih e =
-    let t = bind-eq-some-iff (rowOf (λ r. r .first) table b) (λ r. decodeFrom r (b - r .first .lo) (r .more) s) .0 e in
+    let t = bind-eq-some-iff (rowOf (λ r. r .first) utf8Rows b) (λ r. decodeFrom r (b - r .first .lo) (r .more) s) .0 e in
     let q = t .0 in
-    let m = rowOf-in (λ r. r .first) b q table (t .1) in
+    let m = rowOf-in (λ r. r .first) b q utf8Rows (t .1) in
     let d = ih q (b - q .first .lo) (q .more) (t .2) in
     let lead : q .first .lo + d .c / 64 ^ q .more ≡ b = rw (d .bits) (omega (arith, m .1)) in
-    let whole : encode (d .c) ≡ octets (some q) (d .c) =
-        ap (λ (o : Option Row). octets o (d .c)) (rowOf-is (λ r. r .numbers) 0 (d .c) table rising-numbers (m .0) (d .from) (d .to) .1) in
-    rw (d .points) (((omega (arith, d .to, numbers-last (m .0)), d .surrogate), d .scalars), rw (whole, lead, d .rest))
+    let scalar : Scalar (d .c) = (omega (arith, d .to, numbers-last (m .0)), d .surrogate) in
+    rw (d .points) ((scalar, d .scalars), rw (encode-row (m .0) (d .c) (d .from) (d .to), lead, d .rest))
 
 decoded : (r : Row) (v k : ℕ) (s cs : List ℕ) → decodeFrom r v k s ≡ some cs → Decoded r v k s cs
 unfolding decodeFrom following utf8
 decoded r v zero [] cs e =
     keep-by r v (some []) e (λ ds o p l h u.
-      record { c = v; ds = []; points = p ∙ ap (λ (x : List ℕ). v ∷ x) (sym (Option·some-injective [] ds o)); from = l; to = h; surrogate = u; bits = div-one v; rest = refl; scalars = tt })
+    let last : ds ≡ [] = sym (Option·some-injective [] ds o) in
+    record { c = v; ds = []; points = rw last at p; from = l; to = h; surrogate = u; bits = div-one v; rest = refl; scalars = tt })
 decoded r v zero (b ∷ s) cs e =
     keep-by r v _ e (λ ds o p l h u.
-      let w = begun b s ds (λ q v₁ k. decoded q v₁ k s ds) o in
-      record { c = v; ds = ds; points = p; from = l; to = h; surrogate = u; bits = div-one v; rest = w .1; scalars = w .0 })
+    let w = begun b s ds (λ q v₁ k. decoded q v₁ k s ds) o in
+    record { c = v; ds = ds; points = p; from = l; to = h; surrogate = u; bits = div-one v; rest = w .1; scalars = w .0 })
 decoded r v (suc k) [] cs e = absurd (Option·none-ne-some _ e)
 decoded r v (suc k) (b ∷ s) cs e =
     pick-elim (λ (o : Option (List ℕ)). o ≡ some cs → Decoded r v (suc k) (b ∷ s) cs) (within continuation b)
     (λ w e₁.
-      let d = decoded r (v * 64 + (b - 0x80)) k s cs e₁ in
-      let low : 0x80 ≤ b = leb-true _ _ (and-l _ _ w) in
-      let high : b ≤ 0xBF = leb-true _ _ (and-r (leb 0x80 b) _ w) in
-      let octet : 0x80 + d .c / 64 ^ k % 64 ≡ b = rw (d .bits) (omega arith) in
-      record { c = d .c; ds = d .ds; points = d .points; from = d .from; to = d .to; surrogate = d .surrogate;
-        bits = div-pow (d .c) k ∙ rw (d .bits) (omega arith); rest = rw (octet, d .rest); scalars = d .scalars })
+    let d = decoded r (v * 64 + (b - 0x80)) k s cs e₁ in
+    let low : 0x80 ≤ b = leb-true _ _ (and-l _ _ w) in
+    let high : b ≤ 0xBF = leb-true _ _ (and-r (leb 0x80 b) _ w) in
+    let octet : 0x80 + d .c / 64 ^ k % 64 ≡ b = rw (d .bits) (omega arith) in
+    record {
+      c = d .c;
+      ds = d .ds;
+      points = d .points;
+      from = d .from;
+      to = d .to;
+      surrogate = d .surrogate;
+      bits = div-pow (d .c) k ∙ rw (d .bits) (omega arith);
+      rest = rw (octet, d .rest);
+      scalars = d .scalars;
+    })
     (λ w e₁. absurd (Option·none-ne-some _ e₁))
     e
 
@@ -288,19 +312,40 @@ text-decode (character k end t) = absurd (of-row k)
 text-decode (character {s = s} k (byte {r = r} {f = g} {b = b} {p = p} lo hi m) t) =
     let o = of-row k in
     let q = rowAt (length g) in
-    let in-table = mem (row (range 0 0) (range 0 0) 0) table (length g) (o .0) in
+    let in-rows = mem (rowAt 4) utf8Rows (length g) (o .0) in
     let v : ℕ = b - q .first .lo in
     let c : ℕ = value v p in
     let above = value-ge v (r .lo - q .first .lo) m (omega arith) in
     let below = value-le v (r .hi - q .first .lo) m (omega arith) in
-    let last = numbers-last in-table in
-    let scalar : Scalar c =
-        (omega arith, no-surrogate _ _ c above below (o .7)) in
-    let h = text-decode t in
-    (c ∷ h .0,
-    rw (rowOf-is (λ r. r .first) 0 b table rising-first in-table (omega arith) (omega arith) .1, o .1, gathered q v s m (o .4), h .1)
-    (keep-scalar q c (h .0) (omega arith) (omega arith) scalar))
+    let scalar : Scalar c = (omega (arith, numbers-last in-rows), no-surrogate _ _ c above below (o .7)) in
+    let h = text-decode t in (
+      c ∷ h .0,
+      rw (first-row in-rows b (omega arith) (omega arith), o .1, gathered q v s m (o .4), h .1)
+          (keep-scalar q c (h .0) (omega arith) (omega arith) scalar),
+    )
 
--- a text is the UTF-8 form of code points
-pub text-utf8 : {s : List ℕ} → Text s → (cs : List ℕ) × Each Scalar cs × (utf8 cs ≡ s)
-text-utf8 {s} t = let d = text-decode t in let u = utf8-decode s (d .0) (d .1) in (d .0, u .0, u .1)
+-- ---- exactly
+
+pub text-exactly : (s : List ℕ) → Text s ↔ Utf8 s
+text-exactly s = (
+  λ t. let d = text-decode t in let u = utf8-decode s (d .0) (d .1) in (d .0, u .0, u .1),
+  λ u. subst Text (u .2) (utf8-text (u .0) (u .1)),
+)
+
+-- ---- the shortest form
+
+length-following : (k c : ℕ) → length (following k c) ≡ k
+unfolding following
+length-following zero c = refl
+length-following (suc k) c = ap suc (length-following k c)
+
+-- of two rows, one with a character number and one whose bits can be those of it, the first has no more octets
+fewest : (c : ℕ) {q r : Row} → List·Memᴰ q utf8Rows → List·Memᴰ r utf8Rows → q .numbers .lo ≤ c → Holds r c → q .more ≤ r .more
+fewest c {r = r} m k =
+    each-mem (λ q. q .numbers .lo ≤ c → Holds r c → q .more ≤ r .more) utf8Rows
+    (each-mem (λ r. Each (λ q. q .numbers .lo ≤ c → Holds r c → q .more ≤ r .more) utf8Rows) utf8Rows (search needs) k) m
+
+pub shortest : (c : ℕ) → Scalar c → {r : Row} → List·Memᴰ r utf8Rows → Holds r c → length (encode c) ≤ length (octets (some r) c)
+shortest c u {r} m h =
+    let p = placed c u in
+    rw (encode-is c p, length-following (p .r .more) c, length-following (r .more) c) (omega (arith, fewest c (p .in-rows) m (p .from) h))

@@ -5,22 +5,26 @@
 --   Scalar c             c is a code point that UTF-8 encodes: from 0 to 10FFFF, and no surrogate
 --   Row                  a row of section 3's table: the range of its character numbers, the range of its first octet, and how
 --                        many octets 10xxxxxx follow
---   table                the table; 0xxxxxxx is from 00 to 7F, 110xxxxx from C0 to DF, 1110xxxx from E0 to EF, 11110xxx from F0
+--   utf8Rows             the table; 0xxxxxxx is from 00 to 7F, 110xxxxx from C0 to DF, 1110xxxx from E0 to EF, 11110xxx from F0
 --                        to F7
 --   rowOf part rs x      the first row of rs that has x in its range `part`
 --   following k c        k octets 10xxxxxx whose bits x are the lowest 6k bits of c, the highest first
 --   octets r c           the octets of the row r whose bits x are c; none without a row
 --   encode c             the octets of c, by the row that has c among its character numbers
 --   utf8 cs              the UTF-8 form of cs: the octets of each, one after the other
+--   Holds r c            the bits x of the row r can be those of c
+--   Utf8 s               s is the UTF-8 form of code points that it encodes
 --   keep r v cs          v and then cs, if v is among the character numbers of r and no surrogate; else a refusal
 --   decodeFrom r v k s   the code points from a character of the row r on whose bits x are v so far, if k more octets of it and
 --                        then other characters are in s; a refusal if they are not
 --   decode s             the code points whose UTF-8 form is s; a refusal if there are none
 use Prim.Native.Nat.{ℕ, zero, suc, _+_, _-_, _*_, _/_, _%_, _^_, _≤_}
-use mathlib.Core.Bool.{Bool, _&&_, not}
+use mathlib.Core.Path.{_≡_}
+use mathlib.Core.Bool.{_&&_, not}
 use mathlib.Core.List.{List, [], _∷_, _++_}
 use mathlib.Core.Option.{Option, some, none, bind}
 use Rattle.prelude.specs.Pick.{pick}
+use Rattle.prelude.specs.Each.{Each}
 use Rattle.utf8.specs.Text.{Range, range, continuation, within}
 
 abbrev pub surrogates : Range
@@ -37,8 +41,8 @@ pub record Row : Type 0 where
 abbrev pub row : Range → Range → ℕ → Row
 row numbers first more = record { numbers = numbers; first = first; more = more }
 
-abbrev pub table : List Row
-table =
+abbrev pub utf8Rows : List Row
+utf8Rows =
     row (range 0x0 0x7F) (range 0x00 0x7F) 0
     ∷ row (range 0x80 0x7FF) (range 0xC0 0xDF) 1
     ∷ row (range 0x800 0xFFFF) (range 0xE0 0xEF) 2
@@ -60,11 +64,17 @@ octets none c = []
 octets (some r) c = (r .first .lo + c / 64 ^ r .more) ∷ following (r .more) c
 
 abbrev pub encode : ℕ → List ℕ
-encode c = octets (rowOf (λ r. r .numbers) table c) c
+encode c = octets (rowOf (λ r. r .numbers) utf8Rows c) c
 
 unfoldable pub utf8 : List ℕ → List ℕ
 utf8 [] = []
 utf8 (c ∷ cs) = encode c ++ utf8 cs
+
+abbrev pub Holds : Row → ℕ → Type 0
+Holds r c = r .first .lo + c / 64 ^ r .more ≤ r .first .hi
+
+abbrev pub Utf8 : List ℕ → Type 0
+Utf8 s = (cs : List ℕ) × Each Scalar cs × (utf8 cs ≡ s)
 
 -- ---- from octets to code points
 
@@ -74,10 +84,10 @@ keep r v (some cs) = pick (within (r .numbers) v && not (within surrogates v)) (
 
 unfoldable pub decodeFrom : Row → ℕ → ℕ → List ℕ → Option (List ℕ)
 decodeFrom r v zero [] = keep r v (some [])
-decodeFrom r v zero (b ∷ s) = keep r v (bind (rowOf (λ q. q .first) table b) (λ q. decodeFrom q (b - q .first .lo) (q .more) s))
+decodeFrom r v zero (b ∷ s) = keep r v (bind (rowOf (λ q. q .first) utf8Rows b) (λ q. decodeFrom q (b - q .first .lo) (q .more) s))
 decodeFrom r v (suc k) [] = none
 decodeFrom r v (suc k) (b ∷ s) = pick (within continuation b) (decodeFrom r (v * 64 + (b - 0x80)) k s) none
 
 abbrev pub decode : List ℕ → Option (List ℕ)
 decode [] = some []
-decode (b ∷ s) = bind (rowOf (λ r. r .first) table b) (λ r. decodeFrom r (b - r .first .lo) (r .more) s)
+decode (b ∷ s) = bind (rowOf (λ r. r .first) utf8Rows b) (λ r. decodeFrom r (b - r .first .lo) (r .more) s)
