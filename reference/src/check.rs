@@ -188,9 +188,16 @@ mod tests {
 
     #[test]
     fn texts() {
-        accepted("43 ed a0 80 03", 0, &[0]);
-        accepted("43 e0 80 80 03", 0, &[0]);
-        accepted("44 f4 bf bf bf 04", 0, &[0]);
+        let borders = [
+            ("43 e0 a0 80 03", "43 e0 9f bf 03"),
+            ("43 ed 9f bf 03", "43 ed a0 80 03"),
+            ("44 f0 90 80 80 04", "44 f0 8f bf bf 04"),
+            ("44 f4 8f bf bf 04", "44 f4 90 80 80 04"),
+        ];
+        for (text, beside) in borders {
+            accepted(text, 0, &[0]);
+            refused(beside, BadText, 0);
+        }
         refused("44 f5 80 80 80 04", BadText, 0);
         refused("42 c1 bf 02", BadText, 0);
         refused("42 e2 82 02", BadText, 0);
@@ -201,6 +208,26 @@ mod tests {
         refused(&format!("42 c1 bf {after} 00"), BadText, 0);
         refused(&format!("41 c2 {after} 00"), BadText, 0);
         refused(&format!("42 61 c2 {after} 00"), BadText, 0);
+    }
+
+    /// Short and long texts, near the end of the region and far from it, are decided in different ways.
+    #[test]
+    fn texts_of_many_lengths() {
+        let characters = [("e0 a0 80", true), ("ed 9f bf", true), ("f0 90 80 80", true), ("f4 8f bf bf", true)];
+        let others = [("e0 9f bf", false), ("ed a0 80", false), ("f0 8f bf bf", false), ("f4 90 80 80", false), ("e2 82", false)];
+        for (bytes, is_text) in characters.into_iter().chain(others) {
+            for (before, after) in (0..20).flat_map(|before| (0..20).map(move |after| (before, after))) {
+                let text = [vec![b'a'; before], hex(bytes), vec![b'z'; after]].concat();
+                let length = text.len() as u8;
+                let header = if length < 15 { vec![0x40 | length] } else { vec![0x4f, length - 15] };
+                for values in [1, 16] {
+                    let file = [vec![0x10], header.clone(), text.clone(), vec![0x10; values], vec![0]].concat();
+                    let answer = checked(20, &file).map(|(_, starts)| starts.len());
+                    let expected = if is_text { Ok(2 + values) } else { Err(refusal(BadText, 1)) };
+                    assert_eq!(answer, expected, "{file:x?}");
+                }
+            }
+        }
     }
 
     #[test]

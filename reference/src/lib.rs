@@ -2,7 +2,7 @@
 //!
 //! Documents 000 and 001 describe the format; document 01, "Build requirements and exact rules for plan files", decides, and
 //! document 02, "Requests from the first year", changes it. What is in quotation marks in this crate is a sentence of document
-//! 01, or of the request W-201 of document 02.
+//! 01, or of the requests W-201 and W-202 of document 02; in `utf8` also of RFC 3629.
 //!
 //! Nothing but [`model`] takes memory of its own: files, outputs and tables are lent by the caller.
 

@@ -293,7 +293,8 @@ fn number(n: u128) -> Vec<u8> {
     bytes
 }
 
-/// "Bytes 00-7F alone; lead C2-DF with one, E0-EF with two, F0-F4 with three bytes from 80-BF."
+/// "Bytes 00-7F alone; lead C2-DF with one, E0-EF with two, F0-F4 with three bytes from 80-BF", and "RFC 3629 also narrows the
+/// second byte: A0-BF after E0, 80-9F after ED, 90-BF after F0, 80-8F after F4."
 fn is_text(text: &[u8]) -> bool {
     let mut bytes = text.iter();
     while let Some(lead) = bytes.next() {
@@ -304,10 +305,18 @@ fn is_text(text: &[u8]) -> bool {
             0xf0..=0xf4 => 3,
             _ => return false,
         };
+        let mut allowed = match lead {
+            0xe0 => 0xa0..=0xbf,
+            0xed => 0x80..=0x9f,
+            0xf0 => 0x90..=0xbf,
+            0xf4 => 0x80..=0x8f,
+            _ => 0x80..=0xbf,
+        };
         for _ in 0..following {
-            if !matches!(bytes.next(), Some(0x80..=0xbf)) {
+            if !bytes.next().is_some_and(|byte| allowed.contains(byte)) {
                 return false;
             }
+            allowed = 0x80..=0xbf;
         }
     }
     true
@@ -317,7 +326,7 @@ fn is_text(text: &[u8]) -> bool {
 mod tests {
     use super::*;
     use crate::error::ErrorKind::*;
-    use crate::testing::{hex, DOCUMENT_001, WRITES_DOCUMENT_001};
+    use crate::testing::{border_bytes, hex, DOCUMENT_001, WRITES_DOCUMENT_001};
 
     fn fed(output: usize, table: usize, calls: &[Call<'_>]) -> Model {
         let mut model = Model::new(output, table);
@@ -383,5 +392,24 @@ mod tests {
         assert_eq!(model.call(Call::Tag(0)), Err(Full));
         assert_eq!(model.call(Call::Close(0)), Ok(()));
         assert_eq!(model.bytes(), hex("10 00"));
+    }
+
+    #[test]
+    fn texts_of_up_to_four_bytes_each_at_a_border() {
+        let bytes = border_bytes();
+        let compare = |text: &[u8]| assert_eq!(is_text(text), std::str::from_utf8(text).is_ok(), "{text:x?}");
+        compare(&[]);
+        for &a in &bytes {
+            compare(&[a]);
+            for &b in &bytes {
+                compare(&[a, b]);
+                for &c in &bytes {
+                    compare(&[a, b, c]);
+                    for &d in &bytes {
+                        compare(&[a, b, c, d]);
+                    }
+                }
+            }
+        }
     }
 }

@@ -408,6 +408,7 @@ mod tests {
         assert_eq!(lookup_at(11, "79", DOCUMENT_001), Err(refusal(NoItem, 11)));
         assert_eq!(lookup_at(1, "61", "90 71 10 f2 00"), Err(refusal(NoItem, 1)));
         assert_eq!(lookup_at(0, "ff", "71 41 ff 10 00"), Ok(3));
+        assert_eq!(lookup_at(0, "ed a0 80", "71 43 ed a0 80 10 00"), Ok(5));
         let file = "72 41 61 10 90 90 00";
         assert_eq!(lookup_at(0, "61", file), Ok(3));
         assert_eq!(lookup_at(0, "62", file), Err(refusal(Reserved, 4)));
@@ -430,6 +431,7 @@ mod tests {
         assert_eq!(body_at(7, DOCUMENT_001), Ok((1, 5)));
         assert_eq!(body_at(14, DOCUMENT_001), Err(refusal(WrongKind, 8)));
         assert_eq!(body_at(0, "41 ff 00"), Ok((1, 1)));
+        assert_eq!(body_at(0, "43 ed a0 80 00"), Ok((1, 3)));
         assert_eq!(body_at(0, "40 00"), Ok((1, 0)));
         assert_eq!(body_at(3, "41 61 e1 f0 00"), Err(refusal(WrongKind, 2)));
         assert_eq!(body_at(0, "42 61 00"), Err(refusal(LongBody, 1)));

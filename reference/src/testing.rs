@@ -34,6 +34,12 @@ pub fn hex(text: &str) -> Vec<u8> {
     digits.chunks_exact(2).map(|pair| pair[0] << 4 | pair[1]).collect()
 }
 
+/// The bytes at which the rule of texts may change its mind: the borders of RFC 3629's ranges, and the bytes beside them.
+pub fn border_bytes() -> Vec<u8> {
+    let borders = hex("00 7f 80 8f 90 9f a0 bf c0 c1 c2 df e0 e1 ec ed ee ef f0 f1 f3 f4 f5 ff");
+    (0..=255_u8).filter(|byte| borders.iter().any(|border| border.abs_diff(*byte) <= 1)).collect()
+}
+
 /// The refusal of a name at a place.
 pub fn refusal(kind: ErrorKind, place: u64) -> Error {
     Error { kind, place }

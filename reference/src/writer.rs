@@ -449,6 +449,18 @@ mod tests {
     }
 
     #[test]
+    fn texts() {
+        let mut memory = Memory::new(600, 9);
+        for bytes in ["ed a0 80", "e0 9f bf", "f0 8f bf bf", "f4 90 80 80", "61 e2 82", "c2"] {
+            assert_eq!(memory.call(Call::Text(&hex(bytes))), Err(BadText), "{bytes}");
+        }
+        for bytes in ["ed 9f bf", "e0 a0 80", "f0 90 80 80", "f4 8f bf bf", ""] {
+            memory.calls(&[Call::Text(&hex(bytes))]);
+        }
+        assert_eq!(memory.written(), hex("43 ed 9f bf 43 e0 a0 80 44 f0 90 80 80 44 f4 8f bf bf 40"));
+    }
+
+    #[test]
     fn the_order_of_refusals() {
         let mut memory = Memory::new(2, 1);
         assert_eq!(memory.call(Call::Text(&[0xff; 999])), Err(BadText));

@@ -93,21 +93,10 @@ fn head(region: &[u8], at: usize, is_item: bool) -> Result<Head, Fault> {
         });
     }
     let end = end + bytes as usize;
-    if kind == 4 && !is_text(&region[end - n as usize..end]) {
+    if kind == 4 && std::str::from_utf8(&region[end - n as usize..end]).is_err() {
         return Err(fault(BadText));
     }
     Ok(Head { kind, n, items, end })
-}
-
-fn is_text(bytes: &[u8]) -> bool {
-    match bytes {
-        [] => true,
-        [0x00..=0x7f, rest @ ..]
-        | [0xc2..=0xdf, 0x80..=0xbf, rest @ ..]
-        | [0xe0..=0xef, 0x80..=0xbf, 0x80..=0xbf, rest @ ..]
-        | [0xf0..=0xf4, 0x80..=0xbf, 0x80..=0xbf, 0x80..=0xbf, rest @ ..] => is_text(rest),
-        _ => false,
-    }
 }
 
 /// The row and the entry of a file.

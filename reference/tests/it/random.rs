@@ -2,17 +2,25 @@
 
 use reference::{Call, Scalar, Writer};
 
-/// Texts that a made-up call may hold, some of which are none.
-const TEXTS: [&[u8]; 12] = [
+/// Texts that a made-up call may hold, and bytes that are not a text.
+const TEXTS: [&[u8]; 20] = [
     b"",
     b"a",
     b"name",
     b"a longer text of 26 bytes.",
     "\u{e4}\u{20ac}\u{1f600}".as_bytes(),
+    "\u{7f}\u{80}\u{7ff}\u{800}\u{fff}\u{1000}".as_bytes(),
+    "\u{cfff}\u{d000}\u{d7ff}\u{e000}\u{ffff}".as_bytes(),
+    "\u{10000}\u{3ffff}\u{40000}".as_bytes(),
+    "a longer text to \u{fffff}\u{100000}\u{10ffff}".as_bytes(),
     &[0xed, 0xa0, 0x80],
+    &[0xe0, 0x9f, 0xbf],
+    b"a longer text \xf0\x8f\xbf\xbf of 25",
+    &[0xf4, 0x90, 0x80, 0x80],
     &[b'x'; 200],
     &[0xff],
     &[b'a', 0xc3],
+    &[0xef, 0xbf],
     &[0xc1, 0xbf],
     b"fourteen bytes",
     b"fifteen bytes..",

@@ -61,8 +61,7 @@ fn plain(writer: Writer, call: Call<'_>, room: usize, starts: &[u32]) -> Result<
         Call::Float32(bits) => (with(vec![0x30], &bits.to_le_bytes()), None),
         Call::Float64(bits) => (with(vec![0x31], &bits.to_le_bytes()), None),
         Call::Text(text) => {
-            // The made-up texts that are none are no UTF-8 either; one surrogate is let pass.
-            if std::str::from_utf8(text).is_err() && text != [0xed, 0xa0, 0x80] {
+            if std::str::from_utf8(text).is_err() {
                 return Err(BadText);
             }
             (with(head(4, text.len() as i128), text), None)
