@@ -1,29 +1,94 @@
 //! Made-up calls and files.
 
+use std::sync::LazyLock;
+
 use reference::{Call, ErrorKind, Scalar, Writer};
 
 use crate::random::Random;
 
-/// What texts are cut from; a cut within a character is none.
+/// What texts are cut from; what is cut within a character is not a text.
 const LETTERS: &str = "frames drives ä€😀 slot 0123456789 address \u{0}\u{7f}\u{80}\u{7ff}\u{800}\u{ffff}\u{10ffff} \
     a text of more than fifteen bytes, äöüß, with a tail that goes on for a while so that lengths take two bytes: \
     0123456789abcdefghijklmnopqrstuvwxyz";
 
-/// Texts that are none, or that only a rule stricter than document 01's refuses.
-const ODD_TEXTS: [&[u8]; 12] = [
+/// The characters of RFC 3629 at its borders: the first and the last of each range of leads, and of each lead whose second byte is
+/// narrowed.
+const CHARACTERS: [char; 18] = [
+    '\0',
+    '\u{7f}',
+    '\u{80}',
+    '\u{7ff}',
+    '\u{800}',
+    '\u{fff}',
+    '\u{1000}',
+    '\u{cfff}',
+    '\u{d000}',
+    '\u{d7ff}',
+    '\u{e000}',
+    '\u{ffff}',
+    '\u{10000}',
+    '\u{3ffff}',
+    '\u{40000}',
+    '\u{fffff}',
+    '\u{100000}',
+    '\u{10ffff}',
+];
+
+/// What is not a character: bytes that begin none, long forms, surrogates, numbers over 10FFFF, and characters that are cut.
+pub const NOT_CHARACTERS: [&[u8]; 20] = [
+    &[0x80],
     &[0xff],
     &[0xc0, 0x80],
     &[0xc1, 0xbf],
-    &[0xc2],
-    &[b'a', 0xc2, 0x7f],
     &[0xe0, 0x80, 0x80],
-    &[0xed, 0xa0, 0x80],
-    &[0xe2, 0x82],
+    &[0xe0, 0x9f, 0xbf],
     &[0xf0, 0x80, 0x80, 0x80],
+    &[0xf0, 0x8f, 0xbf, 0xbf],
+    &[0xed, 0xa0, 0x80],
+    &[0xed, 0xbf, 0xbf],
+    &[0xed, 0xa1, 0x81, 0xed, 0xb1, 0x81],
+    &[0xf4, 0x90, 0x80, 0x80],
     &[0xf4, 0xbf, 0xbf, 0xbf],
     &[0xf5, 0x80, 0x80, 0x80],
-    &[b'0', b'1', b'2', b'3', b'4', b'5', b'6', b'7', b'8', b'9', b'0', b'1', b'2', b'3', b'4', b'5', 0x80],
+    &[0xc2],
+    &[0xc2, 0x7f],
+    &[0xe2, 0x82],
+    &[0xef, 0xbf],
+    &[0xf0, 0x9f, 0x98],
+    &[0xf4, 0x8f, 0xbf],
 ];
+
+/// Bytes between letters, from which a text that holds them is cut.
+#[derive(Debug)]
+struct Surrounded {
+    bytes: Vec<u8>,
+    /// Where the bytes begin and end.
+    first: usize,
+    end: usize,
+}
+
+impl Surrounded {
+    fn new(bytes: &[u8]) -> Self {
+        let [before, after] = ["the letters before, ä and others ", " and those after it: frames, drives"];
+        let first = before.len();
+        Self { bytes: [before.as_bytes(), bytes, after.as_bytes()].concat(), first, end: first + bytes.len() }
+    }
+
+    /// The bytes with no, some or all of the letters before and after them.
+    fn cut(&self, random: &mut Random) -> &[u8] {
+        let most = random.pick(&[0, 7, 14, self.bytes.len()]);
+        let first = self.first - random.index(self.first.min(most) + 1);
+        let end = self.end + random.index((self.bytes.len() - self.end).min(most) + 1);
+        &self.bytes[first..end]
+    }
+}
+
+/// The characters at the borders, between letters.
+static IN_TEXTS: LazyLock<[Surrounded; CHARACTERS.len()]> =
+    LazyLock::new(|| CHARACTERS.map(|character| Surrounded::new(character.to_string().as_bytes())));
+
+/// What is not a character, between letters.
+static NOT_IN_TEXTS: LazyLock<[Surrounded; NOT_CHARACTERS.len()]> = LazyLock::new(|| NOT_CHARACTERS.map(Surrounded::new));
 
 /// Byte strings are cut from these.
 static BYTES: [u8; 400] = {
@@ -73,10 +138,12 @@ const GREAT: [u64; 12] = [
     u64::MAX,
 ];
 
-/// A text, seldom one that is none.
+/// A text, seldom bytes that are not one.
 pub fn text(random: &mut Random) -> &'static [u8] {
-    if random.one_in(8) {
-        return random.pick(&ODD_TEXTS);
+    match random.below(8) {
+        0 => return NOT_IN_TEXTS[random.index(NOT_IN_TEXTS.len())].cut(random),
+        1..=2 => return IN_TEXTS[random.index(IN_TEXTS.len())].cut(random),
+        _ => {}
     }
     let letters = LETTERS.as_bytes();
     let most = random.pick(&[3, 14, 15, 16, 40, letters.len()]);
@@ -451,7 +518,7 @@ pub fn overstated(random: &mut Random) -> Vec<u8> {
 }
 
 /// Appends a header and its number.
-fn head(bytes: &mut Vec<u8>, kind: u8, n: u64) {
+pub fn head(bytes: &mut Vec<u8>, kind: u8, n: u64) {
     if n < 15 {
         bytes.push(kind << 4 | n as u8);
     } else {
@@ -546,6 +613,30 @@ mod tests {
             accepted[1] += u32::from(is_accepted(&built(&mut random, 60, 20)));
         }
         assert!(accepted.iter().all(|accepted| (20..1500).contains(accepted)), "{accepted:?}");
+    }
+
+    #[test]
+    fn texts_hold_every_border_at_any_place() {
+        // How often each was met at each place of a run of eight bytes.
+        let mut met = [[0; 8]; CHARACTERS.len() + NOT_CHARACTERS.len()];
+        let mut texts = 0;
+        let sequences: Vec<Vec<u8>> = CHARACTERS
+            .map(|character| character.to_string().into_bytes())
+            .into_iter()
+            .chain(NOT_CHARACTERS.map(<[u8]>::to_vec))
+            .collect();
+        for case in 0..20_000 {
+            let text = text(&mut Random::new(1, "make", case));
+            texts += usize::from(std::str::from_utf8(text).is_ok());
+            for (sequence, met) in sequences.iter().zip(&mut met) {
+                let places = text.windows(sequence.len()).enumerate().filter(|(_, window)| window == sequence);
+                places.for_each(|(place, _)| met[place % 8] += 1);
+            }
+        }
+        assert!((14_000..18_000).contains(&texts), "{texts}");
+        for (sequence, met) in sequences.iter().zip(met) {
+            assert!(met.iter().all(|times| *times > 2), "{sequence:x?}: {met:?}");
+        }
     }
 
     /// A header and its number that a file is refused for.

@@ -289,14 +289,27 @@ fn long_file(random: &mut Random, length: usize) -> Vec<u8> {
         }
         3 => {
             head(&mut file, 4, part);
+            let first = file.len();
+            let unit = "ä€😀a";
             while file.len() + 8 < part {
-                file.extend("ä€😀a".as_bytes());
+                file.extend(unit.as_bytes());
             }
+            let units = (file.len() - first) / unit.len();
             let end = file.len() + part;
             file.resize(end.min(region), b' ');
-            if random.one_in(2) {
-                let place = random.index(file.len());
-                file[place] ^= 0x80;
+            match random.below(4) {
+                0 => {
+                    let place = random.index(file.len());
+                    file[place] ^= 0x80;
+                }
+                1 => {
+                    // One of the € or 😀 becomes what is not a character.
+                    let (character, length) = random.pick(&[("€", 3), ("😀", 4)]);
+                    let odd: Vec<&[u8]> = make::NOT_CHARACTERS.into_iter().filter(|odd| odd.len() == length).collect();
+                    let place = first + random.index(units) * unit.len() + unit.find(character).unwrap_or(0);
+                    file[place..place + length].copy_from_slice(random.pick(&odd));
+                }
+                _ => {}
             }
         }
         4 => {
