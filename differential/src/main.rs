@@ -13,6 +13,7 @@ mod options;
 mod product;
 mod random;
 mod sections;
+mod text;
 
 use std::process::ExitCode;
 use std::time::Instant;

@@ -9,6 +9,7 @@ use crate::ffi::STATE;
 use crate::make;
 use crate::product::Product;
 use crate::random::Random;
+use crate::text;
 
 /// A section of the comparison.
 #[derive(Debug)]
@@ -38,11 +39,13 @@ pub struct Case {
 const SHORT: u64 = 1 + (1 << 8) + (1 << 16) + (1 << 24);
 
 /// All sections in their order.
-pub fn all<P: Product>() -> [Section<P>; 10] {
+pub fn all<P: Product>() -> [Section<P>; 11] {
     let section = |name, share, run| Section { name, cases: None, share, stride: 1, run };
     [
         Section { cases: Some(40), ..section("names", 1, names) },
         Section { cases: Some(SHORT), stride: 1 << 12, ..section("short", 60, short) },
+        // It takes some seconds and is always run to the end.
+        Section { cases: Some(text::CASES), stride: text::CASES, ..section("text", 20, text::text) },
         section("written", 15, written),
         section("built", 15, built),
         section("damaged", 20, damaged),
@@ -204,7 +207,7 @@ fn offsets<P: Product>(comparer: &mut Comparer<P>, random: &mut Random, file: &[
 }
 
 /// All queries at an offset; a lookup for each of the keys if there is a map.
-fn queries<P: Product>(comparer: &mut Comparer<P>, at: u64, keys: &[&[u8]]) -> Result<(), Difference> {
+pub fn queries<P: Product>(comparer: &mut Comparer<P>, at: u64, keys: &[&[u8]]) -> Result<(), Difference> {
     let read = comparer.read(at)?;
     comparer.skip(at)?;
     comparer.follow(at)?;
