@@ -57,10 +57,38 @@ enum Fault {
     End,
     /// Check reports a length of 2^64 or more as a long body.
     Range,
+    /// Check takes a surrogate for a character.
+    Surrogate,
+    /// Depths takes a surrogate for a character.
+    SurrogateDeep,
+    /// The writer takes a surrogate for a character, and check does not.
+    SurrogateWritten,
+    /// Check takes a long form of three bytes for a character.
+    Long3,
+    /// Check takes a long form of four bytes for a character.
+    Long4,
+    /// Check takes a number over 10FFFF for a character.
+    Beyond,
+    /// Check refuses the characters just before the surrogates.
+    BeforeSurrogates,
+    /// Check refuses the characters just after the surrogates.
+    AfterSurrogates,
+    /// The writer refuses the last characters.
+    LastWritten,
+    /// Check takes a text that is cut within its last character.
+    Cut,
+    /// Looking up does not find a key that is not a text.
+    OddKey,
+    /// The body of a text refuses bytes that are not one.
+    OddBody,
+    /// Check has the place of a bad text after its header.
+    TextPlace,
 }
 
 const TRUNC: u32 = 3;
 const RANGE: u32 = 6;
+const BAD_TEXT: u32 = 8;
+const NO_ITEM: u32 = 13;
 const LONG_BODY: u32 = 19;
 const LONG_LIST: u32 = 20;
 
@@ -72,6 +100,45 @@ fn kind(file: &[u8], at: usize) -> Option<u8> {
     file.get(at).map(|header| header >> 4)
 }
 
+fn is_text(bytes: &[u8]) -> bool {
+    std::str::from_utf8(bytes).is_ok()
+}
+
+impl Fault {
+    /// Makes of a text what this fault takes it for.
+    fn mistake(self, text: &mut [u8]) {
+        for index in 1..text.len() {
+            let taken_for = match (self, text[index - 1], text[index]) {
+                (Self::Surrogate | Self::SurrogateDeep | Self::SurrogateWritten, 0xed, 0xa0..=0xbf) => 0x80,
+                (Self::Long3, 0xe0, 0x80..=0x9f) => 0xa0,
+                (Self::Long4, 0xf0, 0x80..=0x8f) => 0x90,
+                (Self::Beyond, 0xf4, 0x90..=0xbf) => 0x80,
+                (Self::BeforeSurrogates, 0xed, 0x9f) => 0xff,
+                (Self::AfterSurrogates, 0xee, 0x80) => 0xff,
+                (Self::LastWritten, 0xf4, 0x8f) => 0xff,
+                _ => continue,
+            };
+            text[index] = taken_for;
+        }
+        if self == Self::Cut {
+            let last = text.iter().rposition(|byte| *byte & 0xc0 != 0x80).unwrap_or(0);
+            if std::str::from_utf8(&text[last..]).is_err_and(|error| error.error_len().is_none()) {
+                text[last..].fill(b'?');
+            }
+        }
+    }
+
+    /// A file with the mistake made in each of its texts.
+    fn mistaken(self, file: &[u8]) -> Vec<u8> {
+        let mut mistaken = file.to_vec();
+        let region = file.split_last().map_or(file, |(_, region)| region);
+        for token in reference::tokens(region).map_while(Result::ok).filter(|token| token.kind == 4) {
+            self.mistake(&mut mistaken[token.first..token.end]);
+        }
+        mistaken
+    }
+}
+
 impl Product for Fault {
     fn error_name(&self, number: u32, name: &mut [u8; ffi::NAME]) {
         ffi::error_name(number, name);
@@ -81,7 +148,16 @@ impl Product for Fault {
     }
 
     fn check(&self, file: &[u8], starts: &mut [u32], out: &mut [u64; 2]) -> u32 {
-        let number = ffi::check(file, starts, out);
+        let number = match self {
+            Self::Surrogate
+            | Self::Long3
+            | Self::Long4
+            | Self::Beyond
+            | Self::BeforeSurrogates
+            | Self::AfterSurrogates
+            | Self::Cut => ffi::check(&self.mistaken(file), starts, out),
+            _ => ffi::check(file, starts, out),
+        };
         match self {
             Self::Answer if number == 11 => 0,
             Self::Place if number == 9 => {
@@ -99,12 +175,19 @@ impl Product for Fault {
                 number
             }
             Self::Range if number == RANGE && matches!(kind(file, out[0] as usize), Some(4 | 5)) => LONG_BODY,
+            Self::TextPlace if number == BAD_TEXT => {
+                out[0] += 1;
+                number
+            }
             _ => number,
         }
     }
 
     fn depths(&self, file: &[u8], starts: &mut [u32], depths: &mut [u32], out: &mut [u64; 2]) -> u32 {
-        let number = ffi::depths(file, starts, depths, out);
+        let number = match self {
+            Self::SurrogateDeep => ffi::depths(&self.mistaken(file), starts, depths, out),
+            _ => ffi::depths(file, starts, depths, out),
+        };
         match self {
             Self::Depth if number == 0 => depths[out[0] as usize - 1] += 1,
             Self::End if number == LONG_BODY => out[0] = file.len() as u64 - 1,
@@ -160,19 +243,34 @@ impl Product for Fault {
             _ => key,
         };
         let number = ffi::lookup(file, at, key, out);
-        if *self == Self::LookedUp && number == LONG_BODY && kind(file, at) == Some(7) {
-            return TRUNC;
+        match self {
+            Self::LookedUp if number == LONG_BODY && kind(file, at) == Some(7) => TRUNC,
+            Self::OddKey if number == 0 && !is_text(key) => {
+                *out = [at as u64, 0];
+                NO_ITEM
+            }
+            _ => number,
         }
-        number
     }
 
     fn body(&self, file: &[u8], at: usize, out: &mut [u64; 2]) -> u32 {
         let number = ffi::body(file, at, out);
-        if *self == Self::Body && number == LONG_BODY {
-            out[0] -= 1;
-            return TRUNC;
+        match self {
+            Self::Body if number == LONG_BODY => {
+                out[0] -= 1;
+                TRUNC
+            }
+            Self::OddBody if number == 0 && !is_text(&file[out[0] as usize..][..out[1] as usize]) => {
+                let mut followed = [0; 2];
+                ffi::follow(file, at, &mut followed);
+                if kind(file, followed[0] as usize) != Some(4) {
+                    return number;
+                }
+                *out = [followed[0], 0];
+                BAD_TEXT
+            }
+            _ => number,
         }
-        number
     }
 
     fn call(&self, state: &mut [u64; STATE], call: Call<'_>, out: &mut [u8], starts: &mut [u32]) -> u32 {
@@ -180,6 +278,15 @@ impl Product for Fault {
             state[1] += 1;
             let number = ffi::call(state, call, out, starts);
             state[1] -= 1;
+            return number;
+        }
+        if let (Self::SurrogateWritten | Self::LastWritten, Call::Text(text)) = (self, call) {
+            let mut mistaken = text.to_vec();
+            self.mistake(&mut mistaken);
+            let number = ffi::call(state, Call::Text(&mistaken), out, starts);
+            if number == 0 {
+                out[state[0] as usize - text.len()..][..text.len()].copy_from_slice(text);
+            }
             return number;
         }
         let number = ffi::call(state, call, out, starts);
@@ -200,6 +307,14 @@ impl Product for Fault {
 fn run_only<P: Product>(product: P, section: &str, seconds: u64, case: Option<u64>) -> Result<(), Failed> {
     let options = Options { seed: 1, time: Duration::from_secs(seconds), only: Some(section.into()), case };
     run(product, &options)
+}
+
+/// Runs a section until the fault is found, and then the case alone.
+fn find_and_find_again(fault: Fault, section: &str) {
+    let Err(Failed { case }) = run_only(fault, section, 30, None) else {
+        panic!("{fault:?} is not found");
+    };
+    assert_eq!(run_only(fault, section, 30, Some(case)), Err(Failed { case }), "{fault:?}");
 }
 
 #[test]
@@ -238,10 +353,43 @@ fn every_fault_is_found_and_found_again() {
         (Fault::Range, "ends"),
     ];
     for (fault, section) in faults {
-        let Err(Failed { case }) = run_only(fault, section, 30, None) else {
-            panic!("{fault:?} is not found");
-        };
-        assert_eq!(run_only(fault, section, 30, Some(case)), Err(Failed { case }), "{fault:?}");
+        find_and_find_again(fault, section);
+    }
+}
+
+#[test]
+fn every_fault_of_texts_is_found_and_found_again() {
+    let faults = [
+        (Fault::Surrogate, "text"),
+        (Fault::Surrogate, "built"),
+        (Fault::SurrogateDeep, "text"),
+        (Fault::SurrogateDeep, "built"),
+        (Fault::SurrogateWritten, "text"),
+        (Fault::SurrogateWritten, "calls"),
+        (Fault::SurrogateWritten, "states"),
+        (Fault::Long3, "text"),
+        (Fault::Long3, "built"),
+        (Fault::Long4, "text"),
+        (Fault::Long4, "built"),
+        (Fault::Beyond, "text"),
+        (Fault::Beyond, "built"),
+        (Fault::BeforeSurrogates, "text"),
+        (Fault::BeforeSurrogates, "written"),
+        (Fault::AfterSurrogates, "text"),
+        (Fault::AfterSurrogates, "written"),
+        (Fault::LastWritten, "text"),
+        (Fault::LastWritten, "calls"),
+        (Fault::Cut, "text"),
+        (Fault::Cut, "built"),
+        (Fault::OddKey, "text"),
+        (Fault::OddKey, "built"),
+        (Fault::OddBody, "text"),
+        (Fault::OddBody, "built"),
+        (Fault::TextPlace, "text"),
+        (Fault::TextPlace, "damaged"),
+    ];
+    for (fault, section) in faults {
+        find_and_find_again(fault, section);
     }
 }
 
@@ -249,6 +397,10 @@ fn every_fault_is_found_and_found_again() {
 fn the_archive_has_no_fault() {
     for section in ["names", "written", "built", "damaged", "ends", "calls", "states"] {
         assert_eq!(run_only(Archive, section, 1, None), Ok(()), "{section}");
+    }
+    // The first texts are those at the narrowed borders; all of them would take a debug build more than a minute.
+    for case in 0..60 {
+        assert_eq!(run_only(Archive, "text", 1, Some(case)), Ok(()), "text {case}");
     }
 }
 
