@@ -6,7 +6,8 @@
  *
  * A file is values back to back, the region, and one last byte, which names the value at which a reader starts,
  * the entry. Offsets count from the file's first byte. A value is a header with its numbers, and then a body or
- * items; an item is of a kind that has no items itself.
+ * items; an item is of a kind that has no items itself. The body of a text is UTF-8 as RFC 3629 has it: characters
+ * from U+0000 to U+10FFFF without the surrogates, U+D800 to U+DFFF, each in its shortest form.
  *
  * Any bytes, offsets, indexes, tables and writer states may be handed in. Each call ends with an answer or an
  * error, and touches no memory but what it is handed; what it answers and leaves there is proved for every input
@@ -87,7 +88,7 @@ enum twine_error {
     TWINE_RANGE = 6,
     /* an item of a kind that may have items [the item's header] */
     TWINE_NESTED = 7,
-    /* a text whose bytes are not text [the header] */
+    /* a text whose bytes are not UTF-8 [the header] */
     TWINE_BAD_TEXT = 8,
     /* check: a reference or pointer to something that is not a value that ended before; queries: one that reaches
        below offset 0 [the header]; writer: an offset that starts does not list, or that is not below the bytes written */
@@ -152,7 +153,8 @@ uint32_t twine_spell_error(uint32_t number, char name[TWINE_NAME]);
 
 /* Checks a file. out = {count of values, offset of the entry}; starts gets the offset at which each value starts, in
    rising order, and 0 in every other word. On an error out = {place, 0}, and starts gets 0 in every word. A value
-   has at least one byte, so that len - 1 words, one for each byte of the region, are always enough. */
+   has at least one byte, so that len - 1 words, one for each byte of the region, are always enough. In a file that is
+   accepted every text is UTF-8. */
 uint32_t twine_check(const uint8_t *file, size_t len,
                      uint32_t *starts, size_t words, uint64_t out[2]);
 
@@ -167,8 +169,8 @@ uint32_t twine_depths(const uint8_t *file, size_t len,
 
    They take any offset of any file, checked or not. TWINE_EMPTY, TWINE_TOO_LONG and TWINE_OUTSIDE come first, then
    the errors of the values that are read. On an error out = {place, 0}, for twine_read {place, 0, 0, 0}. A query
-   does not test the bytes of a text, so that TWINE_BAD_TEXT never comes, and of a target only that it is not below
-   offset 0: it may be any lower offset. */
+   does not test the bytes of a text, so that TWINE_BAD_TEXT never comes and a text of a file that was not checked may
+   be any bytes; of a target it tests only that it is not below offset 0: it may be any lower offset. */
 
 /* Reads the value at an offset, but neither its items nor the bytes of a text. out = {kind, number, first, count};
    first is the offset just after the header's numbers, at which the body or the first item starts. TWINE_LONG_BODY if a
@@ -204,14 +206,15 @@ uint32_t twine_item(const uint8_t *file, size_t len, size_t at, size_t index, ui
 uint32_t twine_follow(const uint8_t *file, size_t len, size_t at, uint64_t out[2]);
 
 /* The value that the map at an offset has for a key: that of the first pair whose key, followed, is a text of these
-   bytes; a key that is, or points at, a reference is no such key. Neither the map nor the value is followed.
+   bytes, which may be any, UTF-8 or not; a key that is, or points at, a reference is no such key. Neither the map nor
+   the value is followed.
    out = {offset of the value, 0}. TWINE_WRONG_KIND for another kind; the errors of the pairs before it and of its key;
    TWINE_TRUNC if the value would start at the region's end; TWINE_NO_ITEM if there is no such key. */
 uint32_t twine_lookup(const uint8_t *file, size_t len, size_t at,
                       const uint8_t *key, size_t key_len, uint64_t out[2]);
 
-/* The bytes of the text or byte string that the value at an offset is or that pointers lead to.
-   out = {offset of the first byte, count of bytes}. TWINE_WRONG_KIND if they lead to another kind. */
+/* The bytes of the text or byte string that the value at an offset is or that pointers lead to; they are not tested.
+   out = {offset of the first byte, count of bytes}. TWINE_WRONG_KIND for another kind. */
 uint32_t twine_body(const uint8_t *file, size_t len, size_t at, uint64_t out[2]);
 
 /* ---- writer
@@ -258,7 +261,7 @@ uint32_t twine_write_float32(uint64_t state[TWINE_STATE], uint32_t bits,
 uint32_t twine_write_float64(uint64_t state[TWINE_STATE], uint64_t bits,
                              uint8_t *out, size_t out_len, uint32_t *starts, size_t words);
 
-/* A text; TWINE_BAD_TEXT for bytes that are not text. */
+/* A text; TWINE_BAD_TEXT for bytes that are not UTF-8. */
 uint32_t twine_write_text(uint64_t state[TWINE_STATE], const uint8_t *text, size_t len,
                           uint8_t *out, size_t out_len, uint32_t *starts, size_t words);
 
