@@ -74,6 +74,7 @@ static void samples(void) {
     ACCEPTED(LEAST, 1, 0, {0}, {1});
     REFUSED("\x1f\xf1\xff\xff\xff\xff\xff\xff\xff\x7f\x09", TWINE_RANGE, 0);
     REFUSED("\x42\xc3\x28\x02", TWINE_BAD_TEXT, 0);
+    REFUSED("\x43\xed\xa0\x80\x03", TWINE_BAD_TEXT, 0);
     REFUSED("\x41\x61\x41\x61\x00", TWINE_BAD_ENTRY, 4);
     REFUSED("\x41\x61\x41\x61\x05", TWINE_BAD_ENTRY, 4);
     REFUSED("\x90\x00", TWINE_RESERVED, 0);
@@ -243,6 +244,23 @@ static void queries(void) {
     ANSWER(twine_body(BYTES(HELLO), 0, out), TWINE_OK, 1, 5);
     ANSWER(twine_body(BYTES(HELLO), 7, out), TWINE_OK, 1, 5);
     ANSWER(twine_body(BYTES(HELLO), 14, out), TWINE_WRONG_KIND, 8, 0);
+}
+
+/* A surrogate, and a map with a pointer to it and with the byte ff as keys: no query looks at the bytes of a text. */
+#define NOT_UTF8 "\x43\xed\xa0\x80\x72\xf4\x11\x41\xff\x12\x05"
+
+static void queries_of_text(void) {
+    REFUSED(NOT_UTF8, TWINE_BAD_TEXT, 0);
+    READ(NOT_UTF8, 0, TWINE_KIND_TEXT, 3, 1, 3);
+    ANSWER(twine_skip(BYTES(NOT_UTF8), 0, out), TWINE_OK, 4, 0);
+    ANSWER(twine_skip(BYTES(NOT_UTF8), 4, out), TWINE_OK, 10, 0);
+    ANSWER(twine_item(BYTES(NOT_UTF8), 4, 3, out), TWINE_OK, 9, 0);
+    ANSWER(twine_follow(BYTES(NOT_UTF8), 5, out), TWINE_OK, 0, 1);
+    ANSWER(twine_lookup(BYTES(NOT_UTF8), 4, BYTES("\xed\xa0\x80"), out), TWINE_OK, 6, 0);
+    ANSWER(twine_lookup(BYTES(NOT_UTF8), 4, BYTES("\xff"), out), TWINE_OK, 9, 0);
+    ANSWER(twine_lookup(BYTES(NOT_UTF8), 4, BYTES("\xed\xa0"), out), TWINE_NO_ITEM, 4, 0);
+    ANSWER(twine_body(BYTES(NOT_UTF8), 5, out), TWINE_OK, 1, 3);
+    ANSWER(twine_body(BYTES(NOT_UTF8), 7, out), TWINE_OK, 8, 1);
 }
 
 /* Queries on what goes past the region's end, in the value that is asked for, in its items, and in what is followed. */
@@ -425,6 +443,98 @@ static void hello(void) {
     EXPECT(table[3], 11);
 }
 
+/* A text of less than 15 bytes, by check and by the writer: both accept it, or it is BAD_TEXT for both. */
+static void text(int line, const uint8_t *bytes, size_t len, uint32_t error) {
+    bool good = error == TWINE_OK;
+    uint8_t file[16] = {(uint8_t)(0x40 + len)};
+    memcpy(file + 1, bytes, len);
+    file[1 + len] = (uint8_t)len;
+    check(line, file, len + 2, (struct checked){error, {good, 0}, good, {0}, {1}});
+
+    fresh(ROOM, WORDS);
+    expect(line, "twine_write_text", held(line, TEXT, 0, bytes, len), error);
+    expect(line, "written", state[0], good ? 1 + len : 0);
+    expect(line, "what is written", good && memcmp(output, file, 1 + len) != 0, 0);
+}
+
+#define IS_TEXT(bytes) text(__LINE__, BYTES(bytes), TWINE_OK)
+#define BAD_TEXT(bytes) text(__LINE__, BYTES(bytes), TWINE_BAD_TEXT)
+
+/* Both sides of every border that RFC 3629 draws. */
+static void texts(void) {
+    /* one byte, and two */
+    IS_TEXT("");
+    IS_TEXT("\x00");
+    IS_TEXT("\x7f");
+    BAD_TEXT("\x80");
+    BAD_TEXT("\xc1\xbf");
+    IS_TEXT("\xc2\x80");
+    IS_TEXT("\xdf\xbf");
+    BAD_TEXT("\xc2\x7f");
+    BAD_TEXT("\xdf\xc0");
+
+    /* A0 to BF after E0: below is longer than need be */
+    BAD_TEXT("\xe0\x80\x80");
+    BAD_TEXT("\xe0\x9f\xbf");
+    IS_TEXT("\xe0\xa0\x80");
+    IS_TEXT("\xe0\xbf\xbf");
+    BAD_TEXT("\xe0\xc0\x80");
+    IS_TEXT("\xe1\x80\x80");
+    IS_TEXT("\xec\xbf\xbf");
+
+    /* 80 to 9F after ED: above are the surrogates */
+    BAD_TEXT("\xed\x7f\xbf");
+    IS_TEXT("\xed\x80\x80");
+    IS_TEXT("\xed\x9f\xbf");
+    BAD_TEXT("\xed\xa0\x80");
+    BAD_TEXT("\xed\xbf\xbf");
+    BAD_TEXT("\xed\xa0\xbd\xed\xb7\x84");
+    IS_TEXT("\xee\x80\x80");
+    IS_TEXT("\xef\xbf\xbf");
+
+    /* 90 to BF after F0: below is longer than need be */
+    BAD_TEXT("\xf0\x80\x80\x80");
+    BAD_TEXT("\xf0\x8f\xbf\xbf");
+    IS_TEXT("\xf0\x90\x80\x80");
+    IS_TEXT("\xf0\xbf\xbf\xbf");
+    BAD_TEXT("\xf0\xc0\x80\x80");
+    IS_TEXT("\xf1\x80\x80\x80");
+    IS_TEXT("\xf3\xbf\xbf\xbf");
+
+    /* 80 to 8F after F4: above is over 10FFFF */
+    BAD_TEXT("\xf4\x7f\xbf\xbf");
+    IS_TEXT("\xf4\x80\x80\x80");
+    IS_TEXT("\xf4\x8f\xbf\xbf");
+    BAD_TEXT("\xf4\x90\x80\x80");
+    BAD_TEXT("\xf4\xbf\xbf\xbf");
+    BAD_TEXT("\xf5\x80\x80\x80");
+
+    /* the third and the fourth byte are from 80 to BF after each of them */
+    BAD_TEXT("\xe0\xa0\x7f");
+    BAD_TEXT("\xed\x9f\xc0");
+    BAD_TEXT("\xf0\x90\x7f\x80");
+    BAD_TEXT("\xf0\x90\x80\x7f");
+    BAD_TEXT("\xf4\x8f\xc0\xbf");
+    BAD_TEXT("\xf4\x8f\xbf\xc0");
+
+    /* a character that is cut, even if the next value would complete it */
+    BAD_TEXT("\xc2");
+    BAD_TEXT("a\xe0\xa0");
+    BAD_TEXT("a\xed\x9f");
+    BAD_TEXT("a\xf0\x90\x80");
+    BAD_TEXT("\xf4\x8f\xbf" "a");
+    REFUSED("\x42\xe2\x82\xac\x00", TWINE_BAD_TEXT, 0);
+
+    /* an item: the place is its own header, and it stays pending */
+    REFUSED("\x61\x43\xed\xa0\x80\x04", TWINE_BAD_TEXT, 1);
+    fresh(ROOM, WORDS);
+    CALL(ARRAY, 1, TWINE_OK);
+    CALL_BODY(TEXT, "\xed\xa0\x80", TWINE_BAD_TEXT);
+    EXPECT(state[2], 1);
+    CALL_BODY(TEXT, "\xed\x9f\xbf", TWINE_OK);
+    EXPECT(state[2], 0);
+}
+
 /* Every call, as `twine_read` reads it back. */
 static void back(void) {
     fresh(ROOM, WORDS);
@@ -594,8 +704,10 @@ int main(void) {
     cuts();
     short_tables();
     queries();
+    queries_of_text();
     queries_at_ends();
     hello();
+    texts();
     back();
     deltas();
     states();
