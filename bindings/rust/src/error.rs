@@ -20,7 +20,7 @@ pub enum ErrorKind {
     Range = 6,
     /// An item of a kind that has items itself.
     Nested = 7,
-    /// A text that is not text.
+    /// A text whose bytes are not UTF-8 (RFC 3629); see [`Text`](crate::Text). The place is its header.
     BadText = 8,
     /// A reference or pointer to something that is not a value that ended before; in the writer, not a finished value.
     BadTarget = 9,

@@ -14,7 +14,7 @@ fn always<T>(answer: Result<T, Error>) -> T {
     answer.unwrap_or_else(|error| unreachable!("libtwine.a refuses a value of a file that it accepted: {error}"))
 }
 
-/// A file that was checked: every value and item in it can be read, and no pointer leads astray or around in a loop.
+/// A file that was checked: every value and item in it can be read, every text is UTF-8, and no pointer leads astray or around in a loop.
 ///
 /// It borrows the bytes and owns the list of the offsets at which the values start.
 #[derive(Clone)]
@@ -196,9 +196,9 @@ impl<'a> Node<'a> {
         self.lookup(key).ok()
     }
 
-    /// The bytes of the text or byte string that it is or that pointers lead to.
+    /// The bytes of the text or byte string that it is or that pointers lead to. Those of a text are UTF-8.
     ///
-    /// WRONG_KIND if they lead to another kind.
+    /// WRONG_KIND for another kind.
     pub fn body(self) -> Result<&'a [u8], Error> {
         query::body(self.file, self.at)
     }
@@ -232,7 +232,7 @@ pub enum Value<'a> {
     Float32(f32),
     /// A float of 64 bits. `to_bits` gives the very bits of the file, those of a NaN too.
     Float64(f64),
-    /// A text.
+    /// A text, which is UTF-8.
     Text(Text<'a>),
     /// A byte string.
     Bytes(&'a [u8]),

@@ -1,7 +1,7 @@
 //! Queries at any offset of any bytes, checked or not.
 //!
-//! Each returns an answer or an error. First come EMPTY, TOO_LONG and OUTSIDE, then the value's own errors. On a checked file,
-//! [`Node`](crate::Node) asks them.
+//! Each returns an answer or an error. First come EMPTY, TOO_LONG and OUTSIDE, then the value's own errors. None looks at the bytes of a
+//! text, so that BAD_TEXT never comes. On a checked file, [`Node`](crate::Node) asks them.
 //!
 //! ```
 //! use twine::{query, ErrorKind};
@@ -147,7 +147,7 @@ pub fn follow(file: &[u8], at: usize) -> Result<(usize, usize), Error> {
 }
 
 /// The offset of a key's value in the map at `at`, which is not followed: that of the first pair whose key, followed, is a text of these
-/// bytes.
+/// bytes. They may be any bytes, UTF-8 or not.
 ///
 /// NO_ITEM if there is no such key, WRONG_KIND for another kind than a map; the errors of the pairs before it and of its key; TRUNC if the
 /// value would start at the region's end.
@@ -155,9 +155,10 @@ pub fn lookup(file: &[u8], at: usize, key: impl AsRef<[u8]>) -> Result<usize, Er
     Ok(sys::lookup(file, at, key.as_ref())?[0] as usize)
 }
 
-/// The bytes of the text or byte string that the value at `at` is or that pointers lead to. They are not checked to be text.
+/// The bytes of the text or byte string that the value at `at` is or that pointers lead to.
 ///
-/// WRONG_KIND if they lead to another kind.
+/// They are not looked at: in a file that was not checked, those of a text may be anything. [`Text`](crate::Text) shows them all the same.
+/// WRONG_KIND for another kind.
 pub fn body(file: &[u8], at: usize) -> Result<&[u8], Error> {
     let [first, len] = sys::body(file, at)?;
     Ok(&file[first as usize..][..len as usize])

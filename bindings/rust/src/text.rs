@@ -6,16 +6,32 @@ use std::str::Utf8Error;
 
 /// The bytes of a text.
 ///
-/// The format's rule for text lets some bytes pass that are not UTF-8: surrogates, and three- and four-byte forms that are longer than
-/// need be or beyond U+10FFFF. So a text is bytes first, and a `str` if it can be one.
+/// In a checked file they are UTF-8, as RFC 3629 has it, and [`to_str`](Text::to_str) returns `Ok`: the library is proved to accept no
+/// other text.
 ///
 /// ```
 /// use twine::{File, Value};
 ///
-/// let bytes = [0x43, 0xed, 0xa0, 0x80, 0x03];
+/// let bytes = [0x45, b'G', b'r', 0xc3, 0xa4, b'f', 0x05];
 /// let Value::Text(text) = File::check(&bytes)?.entry().value() else { panic!("no text") };
+/// assert_eq!(text.to_str(), Ok("Gräf"));
+/// # Ok::<(), twine::Error>(())
+/// ```
+///
+/// The [queries](crate::query) do not look at the bytes of a text. In a file that was not checked they may be anything, and a `Text` made from
+/// them is a `str` only if they are UTF-8. It can be compared and shown all the same.
+///
+/// ```
+/// use twine::{query, File, Text};
+///
+/// // "a" and a surrogate, U+D800
+/// let bytes = [0x44, b'a', 0xed, 0xa0, 0x80, 0x04];
+/// assert_eq!(File::check(&bytes).unwrap_err().to_string(), "BAD_TEXT at 0");
+/// let text = Text::from(query::body(&bytes, 0)?);
 /// assert!(text.to_str().is_err());
-/// assert_eq!(text.as_bytes(), [0xed, 0xa0, 0x80]);
+/// assert_eq!(text.as_bytes(), [b'a', 0xed, 0xa0, 0x80]);
+/// assert_eq!(format!("{text}"), "a\u{fffd}\u{fffd}\u{fffd}");
+/// assert_eq!(format!("{text:?}"), r#""a\xed\xa0\x80""#);
 /// # Ok::<(), twine::Error>(())
 /// ```
 #[derive(Clone, Copy, PartialEq, Eq, Hash, PartialOrd, Ord)]
@@ -27,7 +43,7 @@ impl<'a> Text<'a> {
         self.0
     }
 
-    /// The text as a `str`, if it is UTF-8.
+    /// The text as a `str`; an error if it is not UTF-8, which a text of a checked file always is.
     pub fn to_str(self) -> Result<&'a str, Utf8Error> {
         std::str::from_utf8(self.0)
     }
@@ -35,6 +51,13 @@ impl<'a> Text<'a> {
     /// The text with U+FFFD for what is not UTF-8.
     pub fn to_string_lossy(self) -> Cow<'a, str> {
         String::from_utf8_lossy(self.0)
+    }
+}
+
+/// Any bytes, as [`query::body`](crate::query::body) returns them; they need not be UTF-8.
+impl<'a> From<&'a [u8]> for Text<'a> {
+    fn from(bytes: &'a [u8]) -> Text<'a> {
+        Text(bytes)
     }
 }
 

@@ -94,12 +94,12 @@ impl Writer {
         self.call(Call::Float64(bits))
     }
 
-    /// Writes a text.
+    /// Writes a text. It is never BAD_TEXT, since a `str` is UTF-8.
     pub fn text(&mut self, text: &str) -> Result<usize, Error> {
         self.text_bytes(text.as_bytes())
     }
 
-    /// Writes a text, by its bytes. BAD_TEXT if the format does not take them for text; see [`Text`](crate::Text).
+    /// Writes a text, by its bytes. BAD_TEXT if they are not UTF-8; see [`Text`](crate::Text).
     pub fn text_bytes(&mut self, text: &[u8]) -> Result<usize, Error> {
         self.call(Call::Text(text))
     }
