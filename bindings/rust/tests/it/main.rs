@@ -4,6 +4,7 @@ mod header;
 mod queries;
 mod random;
 mod samples;
+mod text;
 mod writer;
 
 use twine::{Error, ErrorKind, Node, Value};
@@ -58,7 +59,7 @@ fn part(node: Node<'_>) -> (Part, Vec<usize>) {
         Value::Integer(value) => (Part::Integer(value), vec![]),
         Value::Float32(value) => (Part::Float32(value.to_bits()), vec![]),
         Value::Float64(value) => (Part::Float64(value.to_bits()), vec![]),
-        Value::Text(text) => (Part::Text(text.as_bytes().to_vec()), vec![]),
+        Value::Text(text) => (Part::Text(text.to_str().expect("UTF-8").into()), vec![]),
         Value::Bytes(bytes) => (Part::Bytes(bytes.to_vec()), vec![]),
         Value::Array(items) => (Part::Array(items.len() as u64), offsets(items)),
         Value::Map(pairs) => {

@@ -1,9 +1,33 @@
 //! Random lists of calls and random bytes: an answer or an error, never a panic.
 
 use twine::query::{self, Kind};
-use twine::{Error, ErrorKind, File, Writer};
+use twine::{Error, ErrorKind, File, Text, Writer};
 
 use crate::{error, parts, Part};
+
+/// Characters at the borders of UTF-8.
+const AT_BORDERS: [&str; 10] =
+    ["\0", "\u{7f}", "\u{80}", "\u{7ff}", "\u{800}", "\u{d7ff}", "\u{e000}", "\u{ffff}", "\u{10000}", "\u{10ffff}"];
+
+/// Just over the borders: longer forms than need be, surrogates, over U+10FFFF, bytes that begin nothing, and characters that are cut.
+const NOT_UTF8: [&[u8]; 16] = [
+    b"\xc0\x80",
+    b"\xc1\xbf",
+    b"\xe0\x80\x80",
+    b"\xe0\x9f\xbf",
+    b"\xf0\x80\x80\x80",
+    b"\xf0\x8f\xbf\xbf",
+    b"\xed\xa0\x80",
+    b"\xed\xbf\xbf",
+    b"\xf4\x90\x80\x80",
+    b"\xf5\x80\x80\x80",
+    b"\x80",
+    b"\xff",
+    b"\xc2",
+    b"\xe0\xa0",
+    b"\xed\x9f",
+    b"\xf4\x8f\xbf",
+];
 
 /// Xorshift of 64 bits.
 struct Random(u64);
@@ -41,6 +65,21 @@ impl Random {
         (0..len).map(|_| if text { b'a' + self.below(3) as u8 } else { self.next() as u8 }).collect()
     }
 
+    /// Characters, those at the borders among them; in one of three texts also what is not UTF-8.
+    fn text(&mut self) -> Vec<u8> {
+        let len = if self.below(8) == 0 { self.below(100) } else { self.below(6) };
+        let hostile = self.below(3) == 0;
+        let mut text = Vec::new();
+        for _ in 0..len {
+            match self.below(4) {
+                0 if hostile => text.extend(NOT_UTF8[self.below(NOT_UTF8.len())]),
+                1 => text.extend(AT_BORDERS[self.below(AT_BORDERS.len())].bytes()),
+                _ => text.push(b'a' + self.below(3) as u8),
+            }
+        }
+        text
+    }
+
     /// An offset, mostly of the list.
     fn target(&mut self, offsets: &[usize]) -> usize {
         match self.below(10) {
@@ -58,7 +97,7 @@ impl Random {
             2 => Part::Integer(self.number() as i64),
             3 => Part::Float32(self.next() as u32),
             4 => Part::Float64(self.next()),
-            5 => Part::Text(self.bytes()),
+            5 => Part::Text(self.text()),
             6 => Part::Bytes(self.bytes()),
             7 => Part::Array(self.count()),
             8 => Part::Map(self.count()),
@@ -70,6 +109,11 @@ impl Random {
             _ => Part::Pointer(self.target(offsets)),
         }
     }
+}
+
+/// Whether it is a text that is not UTF-8.
+fn is_bad_text(part: &Part) -> bool {
+    matches!(part, Part::Text(bytes) if std::str::from_utf8(bytes).is_err())
 }
 
 fn write(w: &mut Writer, part: &Part) -> Result<usize, Error> {
@@ -111,6 +155,7 @@ fn write_some(random: &mut Random, mut w: Writer, calls: usize) -> Vec<u8> {
         let before = shown(&w);
         match write(&mut w, &part) {
             Ok(at) => {
+                assert!(!is_bad_text(&part));
                 assert_eq!(at, before.0.len());
                 assert_eq!(w.written()[..at], before.0);
                 if before.2 == 0 {
@@ -122,6 +167,8 @@ fn write_some(random: &mut Random, mut w: Writer, calls: usize) -> Vec<u8> {
             Err(error) => {
                 assert_eq!(error.place, None);
                 assert_ne!(error.kind, ErrorKind::BadState);
+                // before FULL and NO_ROOM
+                assert_eq!(error.kind == ErrorKind::BadText, is_bad_text(&part));
                 assert_eq!(shown(&w), before);
             }
         }
@@ -242,13 +289,16 @@ fn ask(file: &[u8], at: usize, random: &mut Random) {
     }
     if let Ok(body) = query::body(file, at) {
         assert!(body.len() < file.len());
+        let text = Text::from(body);
+        assert_eq!(text.to_str().is_ok(), text.to_string().as_bytes() == body);
+        let _ = format!("{text:?}");
     }
 }
 
 #[test]
 fn bytes() {
     let mut random = Random(0x2545_f491_4f6c_dd1d);
-    let (mut good, mut bad) = (0, 0);
+    let (mut good, mut bad, mut bad_texts) = (0, 0, 0);
     for round in 0..3000 {
         let mut file = if round % 3 == 0 {
             (0..random.below(40)).map(|_| random.next() as u8).collect()
@@ -278,7 +328,13 @@ fn bytes() {
             }
             Err(error) => {
                 bad += 1;
-                assert!(error.place.unwrap() <= file.len());
+                let place = error.place.unwrap();
+                assert!(place <= file.len());
+                if error.kind == ErrorKind::BadText {
+                    bad_texts += 1;
+                    assert_eq!(query::read(&file, place).unwrap().kind, Kind::Text);
+                    assert!(Text::from(query::body(&file, place).unwrap()).to_str().is_err());
+                }
             }
         }
         for at in 0..file.len() + 2 {
@@ -286,5 +342,5 @@ fn bytes() {
         }
         ask(&file, random.next() as usize, &mut random);
     }
-    assert!(good > 500 && bad > 500, "{good} accepted, {bad} refused");
+    assert!(good > 500 && bad > 500 && bad_texts > 50, "{good} accepted, {bad} refused, {bad_texts} for a text");
 }

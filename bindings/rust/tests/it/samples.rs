@@ -38,6 +38,7 @@ fn checked() {
     accepted("2f f0 ff ff ff ff ff ff ff 7f 09", &[0], 0, &[1]);
     wrong("1f f1 ff ff ff ff ff ff ff 7f 09", Range, 0);
     wrong("42 c3 28 02", BadText, 0);
+    wrong("43 ed a0 80 03", BadText, 0);
     wrong("41 61 41 61 00", BadEntry, 4);
     wrong("41 61 41 61 05", BadEntry, 4);
     wrong("90 00", Reserved, 0);

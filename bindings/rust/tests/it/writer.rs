@@ -1,7 +1,7 @@
 //! The writer: what it writes is read back, and a refused call changes nothing.
 
 use twine::ErrorKind::*;
-use twine::{File, Text, Value, Writer, LIMIT};
+use twine::{File, Value, Writer, LIMIT};
 
 use crate::{error, parts, refused, Part};
 
@@ -15,8 +15,6 @@ fn every_kind_is_read_back() {
     };
     let text = wrote(w.text("Gräf 🗄"), Part::Text("Gräf 🗄".into()));
     wrote(w.text(""), Part::Text(vec![]));
-    let surrogate = [0xed, 0xa0, 0x80];
-    wrote(w.text_bytes(&surrogate), Part::Text(surrogate.to_vec()));
     wrote(w.bytes(&[]), Part::Bytes(vec![]));
     wrote(w.bytes(&[0, 255, 0xc3]), Part::Bytes(vec![0, 255, 0xc3]));
     wrote(w.null(), Part::Null);
@@ -74,21 +72,6 @@ fn every_kind_is_read_back() {
     assert_eq!(label, "Gräf 🗄");
     assert_eq!(label.to_str(), Ok("Gräf 🗄"));
     assert_eq!(label.to_string(), "Gräf 🗄");
-    assert!(matches!(file.values().nth(2).unwrap().value(), Value::Text(text) if text.as_bytes() == surrogate));
-}
-
-#[test]
-fn text_that_is_not_utf8() {
-    let mut w = Writer::new();
-    let at = w.text_bytes(b"a\xed\xa0\x80\"\n").unwrap();
-    let bytes = w.close(at).unwrap();
-    let file = File::check(&bytes).unwrap();
-    let Value::Text(text) = file.entry().value() else { panic!() };
-    assert!(text.to_str().is_err());
-    assert_eq!(text.to_string_lossy(), "a\u{fffd}\u{fffd}\u{fffd}\"\n");
-    assert_eq!(format!("{text:?}"), r#""a\xed\xa0\x80\"\n""#);
-    let text: Text<'_> = text;
-    assert_ne!(text, "a");
 }
 
 #[test]
@@ -98,6 +81,7 @@ fn refused_calls_change_nothing() {
     assert_eq!(w.pointer(0), Err(refused(BadTarget)));
     assert_eq!(w.reference(usize::MAX), Err(refused(BadTarget)));
     assert_eq!(w.text_bytes(&[0xc3, 0x28]), Err(refused(BadText)));
+    assert_eq!(w.text_bytes(&[0xed, 0xa0, 0x80]), Err(refused(BadText)));
     assert_eq!(w.open_array(u64::MAX), Err(refused(NoRoom)));
     assert_eq!(w.open_map(1 << 63), Err(refused(NoRoom)));
     assert_eq!((w.written(), w.count(), w.pending(), w.is_closed()), (&[][..], 0, 0, false));
