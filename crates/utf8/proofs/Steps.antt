@@ -108,8 +108,8 @@ module _ (s : List ℕ) (i : ℕ) (d : Due) {a : Bool} (inv : textFrom (dueOf d)
       pub text-bad : not allowed ≡ true → false ≡ a
       text-bad e = sym (text-none _) ∙ (rw (not-true allowed e) at after)
 
-      pub text-next : {r : Due} → not allowed ≡ false → r ≡ due (d .left - 1) 0x80 0xBF → textFrom (dueOf r) (drop (i + 1) s) ≡ a
-      text-next e q = rw (add-one, q) (rw (not-false allowed e) at after)
+      pub text-next : not allowed ≡ false → textFrom (dueOf (due (d .left - 1) 0x80 0xBF)) (drop (i + 1) s) ≡ a
+      text-next e = rw add-one (rw (not-false allowed e) at after)
 
 -- ---- the characters
 

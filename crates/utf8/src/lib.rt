@@ -8,8 +8,8 @@ ghost use Rattle.prelude.specs.Pick.{pick};
 ghost use Rattle.utf8.specs.Text.{forms, lead, isText};
 ghost use Rattle.utf8.specs.Internal.{dueOf};
 
-// The bytes due of a character: how many, 4 if no character begins with the first byte; and the range of the next of
-// them. Those after it are from 80 to BF.
+// The bytes due of a character: how many, 4 if no character begins with the first byte, and the range of the next of
+// them; those after it are from 80 to BF.
 struct Due {
     left: u8,
     low: u8,
@@ -58,7 +58,8 @@ fn lead(b: u8) -> Due
     Due::new(4, 0x80, 0xBF)
 }
 
-// How many bytes the first character of s has; 0 if s begins with none.
+// How many bytes the first character of s has; 0 if s begins with none. So s is text if there is one, and the bytes after it
+// are text.
 fn character(s: &[u8]) -> usize
     requires { ⌜ 0 < length (now s) ⌝ }
     ensures within { λ r. ⌜ r ≤ length (now (s .entry)) ⌝ }

@@ -36,6 +36,6 @@ character-spec =
     (λ c κs. search needs)
     (λ c. search needs)
     (λ c. search needs)
-    (λ c. (rw (c .new .ensures) (omega arith), omega arith, omega arith, search (text-next, arith) depth 2))
+    (λ c. rw (c .new .ensures) (omega arith, omega arith, omega arith, search (text-next, arith)))
     -- nothing is due
     (λ c. (omega arith, search (text-end, arith))))
