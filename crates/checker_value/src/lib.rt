@@ -24,7 +24,7 @@ pub enum ValueResult {
 
 // ---- one token
 
-// Whether a token with head h is a text whose body is not text.
+// Whether a token with head h is a text whose bytes are not UTF-8.
 fn is_bad_text(region: &[u8], h: Head) -> bool
     requires { ⌜ (h .first ≤ h .end) × (h .end ≤ length (now region)) ⌝ }
     ensures { λ r. ⌜ r ≡ eqb (h .kind) 4 && not (isText (scans.bodyOn (now (region .entry)) h)) ⌝ }

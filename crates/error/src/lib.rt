@@ -23,7 +23,7 @@ pub enum ErrorKind {
     Range,
     // An item of a kind that is not an immediate.
     Nested,
-    // A text that is not text.
+    // A text whose bytes are not UTF-8.
     BadText,
     // A target that is not the start of a value that ended before.
     BadTarget,

@@ -19,8 +19,8 @@ use Rattle.prelude.specs.Each.{Each}
 use Rattle.error.specs.Error.{Fault, fault, LIMIT, EMPTY, TOO_LONG, BAD_TEXT, FULL, BAD_ENTRY, NO_ITEM}
 use Rattle.leb128.specs.Leb.{top, get, put}
 use Rattle.leb128.proofs.Laws as leb128
-use Rattle.utf8.specs.Text.{Text}
-use Rattle.utf8.specs.Utf8.{Scalar, Row, utf8Rows, octets, encode, utf8, Holds, Utf8, decode}
+use Rattle.utf8.specs.Text.{Text, isText}
+use Rattle.utf8.specs.Utf8.{Encodable, Row, utf8Rows, octets, encode, utf8, FitsRow, Utf8, decode}
 use Rattle.utf8.proofs.Utf8 as utf8-laws
 use Rattle.kind.specs.Kind.{rule, size, counted}
 use Rattle.token.specs.Token.{Token, emit, Fits}
@@ -62,7 +62,7 @@ use Rattle.guarantees.specs.Accepts.{Overfull}
 use Rattle.guarantees.specs.Refused.{Unnamed, Faulty, RefusedCheck, RefusedDepths}
 use Rattle.guarantees.specs.Texts.{NotUtf8, TextsUtf8}
 use Rattle.guarantees.specs.Lookup.{Found, Missing}
-use Rattle.guarantees.specs.Samples.{Answered, samples, endSamples, textSamples}
+use Rattle.guarantees.specs.Samples.{Answered, samples, endSamples, textSamples, TextCall, textAnswer, textCalls}
 use Rattle.guarantees_writer.specs.Model.{requestOf, formsOf, deltaOf, Model, emptyModel}
 use Rattle.guarantees_writer.specs.RefusedCall.{BadState, NoRoom, RefusedCall}
 use Rattle.guarantees_writer.specs.History.{modelRun, Agree, Follows, Alike}
@@ -179,17 +179,20 @@ bad-entry-exactly = refused.bad-entry-exactly
 pub text-exactly : (s : List ℕ) → Text s ↔ Utf8 s
 text-exactly = utf8-laws.text-exactly
 
+pub isText-exactly : (s : List ℕ) → (isText s ≡ true) ↔ Utf8 s
+isText-exactly = utf8-laws.isText-exactly
+
 pub accepted-texts : (file : List ℕ) (cap count entry : ℕ) → Bytes file → checkOf file cap .answer ≡ ok (count, entry)
     → (vs : List Value) × WellFormed file vs entry × TextsUtf8 file vs
 accepted-texts = texts.accepted-texts
 
-pub bad-text : (file : List ℕ) (cap p : ℕ) → Bytes file → checkOf file cap .answer ≡ error (fault BAD_TEXT p)
-    → (x : Faulty file cap p (fault BAD_TEXT p)) × NotUtf8 (take (length file - 1) file) (ltb 0 (x .missing)) p
-bad-text = texts.bad-text
+pub bad-text-exactly : (file : List ℕ) (cap p : ℕ) → Bytes file → (checkOf file cap .answer ≡ error (fault BAD_TEXT p))
+    ↔ ((x : Faulty file cap p (fault BAD_TEXT p)) × NotUtf8 (take (length file - 1) file) (ltb 0 (x .missing)) p)
+bad-text-exactly = texts.bad-text-exactly
 
-pub text-refused-exactly : (b : List ℕ) (s : State) (out table : List ℕ) → (step (text b) s out table .answer ≡ error BAD_TEXT)
+pub refused-text-exactly : (b : List ℕ) (s : State) (out table : List ℕ) → (step (text b) s out table .answer ≡ error BAD_TEXT)
     ↔ ((BadState s (length out) (length table) → ⊥) × (s .closed ≡ false) × (Utf8 b → ⊥))
-text-refused-exactly = texts.text-refused-exactly
+refused-text-exactly = texts.refused-text-exactly
 
 -- ---- what a query answers, and what it is refused for, on every file
 
@@ -320,13 +323,13 @@ leads-exactly = leads.leads-exactly
 
 -- ---- what this rests on: code points, numbers and tokens, there and back
 
-pub decode-utf8 : (cs : List ℕ) → Each Scalar cs → decode (utf8 cs) ≡ some cs
+pub decode-utf8 : (cs : List ℕ) → Each Encodable cs → decode (utf8 cs) ≡ some cs
 decode-utf8 = utf8-laws.decode-utf8
 
-pub utf8-decode : (s cs : List ℕ) → decode s ≡ some cs → Each Scalar cs × (utf8 cs ≡ s)
+pub utf8-decode : (s cs : List ℕ) → decode s ≡ some cs → Each Encodable cs × (utf8 cs ≡ s)
 utf8-decode = utf8-laws.utf8-decode
 
-pub shortest : (c : ℕ) → Scalar c → {r : Row} → List·Memᴰ r utf8Rows → Holds r c → length (encode c) ≤ length (octets (some r) c)
+pub shortest : (c : ℕ) → Encodable c → {r : Row} → List·Memᴰ r utf8Rows → FitsRow r c → length (encode c) ≤ length (octets (some r) c)
 shortest = utf8-laws.shortest
 
 pub get-put : (k least n : ℕ) (rest : List ℕ) → least ≤ n → n < top k → get k least (put k n ++ rest) ≡ got n rest
@@ -348,6 +351,9 @@ the-ends = sampled.the-ends
 
 pub the-texts : Answered textSamples
 the-texts = sampled.the-texts
+
+pub the-text-calls : map textAnswer textCalls ≡ map (λ (x : TextCall). x .1) textCalls
+the-text-calls = sampled.the-text-calls
 
 pub the-written : map writes written ≡ map expects written
 the-written = lists.the-written

@@ -30,7 +30,7 @@ use Rattle.guarantees.specs.Refused as rows
 use Rattle.guarantees.specs.Refused.{Faulty, RefusedCheck}
 use Rattle.guarantees.specs.Texts.{NotUtf8, TextsUtf8}
 use Rattle.guarantees.proofs.Accepted.{accepted}
-use Rattle.guarantees.proofs.Refused.{numbers, places, fault-exactly}
+use Rattle.guarantees.proofs.Refused.{numbers, places, fault-first, fault-exactly}
 use Rattle.guarantees.proofs.ReadsFile as reads
 use Rattle.guarantees.proofs.Demands as demands
 
@@ -46,7 +46,7 @@ texts-utf8 : (file : List ℕ) (vs : List Value) (entry : ℕ) → WellFormed fi
 texts-utf8 file vs entry w j q t st four =
     let formed = reads.formed file vs entry w (st .before) (st .value) (st .after) (st .values) in
     let sound = token-sound (st .value) formed (st .front) t (st .back) (st .tokens) in
-    subst Utf8 (sym (demands.reports-values file vs entry w .body j q t st (inl four) .1)) (text-exactly (t .body) .0 (sound .text four))
+    (text-exactly (t .body) .0 (sound .text four), demands.reports-values file vs entry w .body j q t st (inl four) .1)
 
 pub accepted-texts : (file : List ℕ) (cap count entry : ℕ) → Bytes file → checkOf file cap .answer ≡ ok (count, entry)
     → (vs : List Value) × WellFormed file vs entry × TextsUtf8 file vs
@@ -54,9 +54,10 @@ accepted-texts file cap count entry b e =
     let a = accepted file cap count entry b e in
     (a .values, a .wellFormed, texts-utf8 file (a .values) entry (a .wellFormed))
 
-pub bad-text : (file : List ℕ) (cap p : ℕ) → Bytes file → checkOf file cap .answer ≡ error (fault BAD_TEXT p)
-    → (x : Faulty file cap p (fault BAD_TEXT p)) × NotUtf8 (take (length file - 1) file) (ltb 0 (x .missing)) p
-bad-text file cap p b e = by-row (fault-exactly file cap (fault BAD_TEXT p) b .0 e) refl
+pub bad-text-exactly : (file : List ℕ) (cap p : ℕ) → Bytes file → (checkOf file cap .answer ≡ error (fault BAD_TEXT p))
+    ↔ ((x : Faulty file cap p (fault BAD_TEXT p)) × NotUtf8 (take (length file - 1) file) (ltb 0 (x .missing)) p)
+bad-text-exactly file cap p b =
+    (λ e. by-row (fault-exactly file cap (fault BAD_TEXT p) b .0 e) refl, λ x. fault-first file cap p (fault BAD_TEXT p) (x .0))
   where
     At : ℕ × Fault → Type 0
     At z = (x : Faulty file cap (z .0) (z .1)) × NotUtf8 (take (length file - 1) file) (ltb 0 (x .missing)) (z .0)
@@ -75,10 +76,10 @@ bad-text file cap p b e = by-row (fault-exactly file cap (fault BAD_TEXT p) b .0
 
 -- ---- in a call
 
-pub text-refused-exactly : (b : List ℕ) (s : State) (out table : List ℕ) → (step (text b) s out table .answer ≡ error BAD_TEXT)
+pub refused-text-exactly : (b : List ℕ) (s : State) (out table : List ℕ) → (step (text b) s out table .answer ≡ error BAD_TEXT)
     ↔ ((BadState s (length out) (length table) → ⊥) × (s .closed ≡ false) × (Utf8 b → ⊥))
 unfolding rule
-text-refused-exactly b s out table = (
+refused-text-exactly b s out table = (
   λ e. by-row (refused-call-exactly (text b) s out table BAD_TEXT .0 e) refl,
   λ h.
       refused-call-exactly (text b) s out table BAD_TEXT .1

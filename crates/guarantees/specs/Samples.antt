@@ -1,8 +1,9 @@
 -- The twelve marked samples of document 01, as one list: a file, a query, and what document 01 answers; the map of 2^63 pairs as document 02 (W-201)
 -- has it, LONG_LIST, 10. Two of the samples ask more than one thing, and have an entry for each.
 --
---   Query            check and depths, each with tables of four words; an item of the value at an offset; the value at an offset
---   SampleAnswer     check's answer and table, and the depths; an offset; a value
+--   Query            check and depths, each with tables of four words; an item of the value at an offset; the value at an offset; where it ends; the
+--                    value of a key in the map at an offset; the body at an offset
+--   SampleAnswer     check's answer and table, and the depths; an offset; a value; a first offset and a length
 --   sampleAnswer file q
 --                    the answer by the definitions that the contracts cite
 --   refused f place  check's error f at `place`, which leaves zeros
@@ -11,8 +12,12 @@
 --   endSamples       W-201: what goes past the region's end, or just reaches it, by the readings of docs/READINGS.md. In order: lengths, the item's among
 --                    them, and before BAD_TEXT (D1, D3, A10); counts of items, pairs and arguments, and one pair that fits (A8, A9, D1); a number, a float
 --                    and the one item of a tag (A10, D2, A5); the greatest n of each kind with a length or count, and one more (A3); queries (B3)
---   textSamples      W-202: a surrogate; then the last second byte that is refused, or taken, and the first that is not, after E0, ED, F0 and F4; a
---                    character that is cut by the body's end (E2); a surrogate as an item, at its own header; reading does not look at a text's bytes (E1)
+--   textSamples      W-202: its surrogate; both sides of each border: 7FF in three bytes and 800; D7FF, DFFF and E000; FFFF in four bytes and 10000; 10FFFF
+--                    and 110000; the ends of the other ranges; bytes that begin no character, and document 01's `42 c3 28 02`; a character that is cut by
+--                    the body's end (E2); a surrogate as an item, at its own header; queries, which do not look at a text's bytes (E1)
+--   TextCall         bytes, and the answer to them as a text
+--   textAnswer c     what a new writer answers, with an output of eight bytes and a table of one word
+--   textCalls        W-202: the same borders
 use Prim.Native.Nat.{ℕ, _-_, _^_}
 use mathlib.Core.Path.{_≡_}
 use mathlib.Core.List.{List, [], _∷_, _++_, map}
@@ -23,24 +28,35 @@ use Rattle.error.specs.Error.{Fault, fault, EMPTY, TRUNC, OVERLONG, RANGE, NEST
 use Rattle.reader_value.specs.Value.{readOf}
 use Rattle.reader_value.specs.declared.Value.{Value}
 use Rattle.reader_value.specs.declared.Value.the-variants.{Integer, Text}
-use Rattle.reader_items.specs.Items.{itemOf}
+use Rattle.reader_items.specs.Items.{skipOf, itemOf}
+use Rattle.reader_body.specs.Body.{bodyPlaceOf}
+use Rattle.reader_lookup.specs.Lookup.{lookupOf}
 use Rattle.checker.specs.Check.{Checked, checked, checkOf}
 use Rattle.depths.specs.Depths.{depthsOf}
+use Rattle.writer.specs.Call.{text}
+use Rattle.writer.specs.Step.{fresh, step}
 
 pub data Query : Type 0 where
   check : Query
   item : ℕ → ℕ → Query
   read : ℕ → Query
+  skip : ℕ → Query
+  lookup : ℕ → List ℕ → Query
+  body : ℕ → Query
 
 pub data SampleAnswer : Type 0 where
   table : Checked → List ℕ → SampleAnswer
   offset : Answer Fault ℕ → SampleAnswer
   value : Answer Fault Value → SampleAnswer
+  part : Answer Fault (ℕ × ℕ) → SampleAnswer
 
 unfoldable pub sampleAnswer : List ℕ → Query → SampleAnswer
 sampleAnswer file check = table (checkOf file 4) (depthsOf file 4 4 .depths)
 sampleAnswer file (item at i) = offset (itemOf file at i)
 sampleAnswer file (read at) = value (readOf file at)
+sampleAnswer file (skip at) = offset (skipOf file at)
+sampleAnswer file (lookup at key) = offset (lookupOf file at key)
+sampleAnswer file (body at) = part (bodyPlaceOf file at)
 
 abbrev refused : ℕ → ℕ → SampleAnswer
 refused f place = table (checked (error (fault f place)) (replicate 4 0)) (replicate 4 0)
@@ -110,6 +126,12 @@ endSamples =
 abbrev one : SampleAnswer
 one = table (checked (ok (1, 0)) (0 ∷ 0 ∷ 0 ∷ 0 ∷ [])) (1 ∷ 0 ∷ 0 ∷ 0 ∷ [])
 
+-- the first and the last character of the other ranges: 0, 7F; 80, 7FF; 1000, CFFF; D000; FFFF; 40000, FFFFF; 100000
+abbrev ends : List ℕ
+ends =
+    0x00 ∷ 0x7f ∷ 0xc2 ∷ 0x80 ∷ 0xdf ∷ 0xbf ∷ 0xe1 ∷ 0x80 ∷ 0x80 ∷ 0xec ∷ 0xbf ∷ 0xbf ∷ 0xed ∷ 0x80 ∷ 0x80 ∷ 0xef ∷ 0xbf ∷ 0xbf
+    ∷ 0xf1 ∷ 0x80 ∷ 0x80 ∷ 0x80 ∷ 0xf3 ∷ 0xbf ∷ 0xbf ∷ 0xbf ∷ 0xf4 ∷ 0x80 ∷ 0x80 ∷ 0x80 ∷ []
+
 abbrev pub textSamples : List Sample
 textSamples =
     (0x43 ∷ 0xed ∷ 0xa0 ∷ 0x80 ∷ 0x03 ∷ [], check, refused BAD_TEXT 0)
@@ -122,7 +144,34 @@ textSamples =
     ∷ (0x44 ∷ 0xf0 ∷ 0x90 ∷ 0x80 ∷ 0x80 ∷ 0x04 ∷ [], check, one)
     ∷ (0x44 ∷ 0xf4 ∷ 0x8f ∷ 0xbf ∷ 0xbf ∷ 0x04 ∷ [], check, one)
     ∷ (0x44 ∷ 0xf4 ∷ 0x90 ∷ 0x80 ∷ 0x80 ∷ 0x04 ∷ [], check, refused BAD_TEXT 0)
+    ∷ (0x4f ∷ 0x0f ∷ (ends ++ (0x1f ∷ [])), check, one)
+    ∷ (0x41 ∷ 0x80 ∷ 0x01 ∷ [], check, refused BAD_TEXT 0)
+    ∷ (0x42 ∷ 0xc1 ∷ 0xbf ∷ 0x02 ∷ [], check, refused BAD_TEXT 0)
+    ∷ (0x44 ∷ 0xf5 ∷ 0x80 ∷ 0x80 ∷ 0x80 ∷ 0x04 ∷ [], check, refused BAD_TEXT 0)
+    ∷ (0x42 ∷ 0xc3 ∷ 0x28 ∷ 0x02 ∷ [], check, refused BAD_TEXT 0)
     ∷ (0x42 ∷ 0xe2 ∷ 0x82 ∷ 0x02 ∷ [], check, refused BAD_TEXT 0)
     ∷ (0x61 ∷ 0x43 ∷ 0xed ∷ 0xa0 ∷ 0x80 ∷ 0x04 ∷ [], check, refused BAD_TEXT 1)
     ∷ (0x43 ∷ 0xed ∷ 0xa0 ∷ 0x80 ∷ 0x03 ∷ [], read 0, value (ok (Text 1 3)))
+    ∷ (0x43 ∷ 0xed ∷ 0xa0 ∷ 0x80 ∷ 0x03 ∷ [], skip 0, offset (ok 4))
+    ∷ (0x43 ∷ 0xed ∷ 0xa0 ∷ 0x80 ∷ 0x03 ∷ [], body 0, part (ok (1, 3)))
+    ∷ (0x71 ∷ 0x43 ∷ 0xed ∷ 0xa0 ∷ 0x80 ∷ 0x10 ∷ 0x00 ∷ [], lookup 0 (0xed ∷ 0xa0 ∷ 0x80 ∷ []), offset (ok 5))
+    ∷ []
+
+abbrev pub TextCall : Type 0
+TextCall = (List ℕ) × Answer ℕ (Unit {0})
+
+unfoldable pub textAnswer : TextCall → Answer ℕ (Unit {0})
+textAnswer c = step (text (c .0)) fresh (replicate 8 0) (0 ∷ []) .answer
+
+abbrev pub textCalls : List TextCall
+textCalls =
+    (0xed ∷ 0xa0 ∷ 0x80 ∷ [], error BAD_TEXT)
+    ∷ (0xe0 ∷ 0x9f ∷ 0xbf ∷ [], error BAD_TEXT)
+    ∷ (0xe0 ∷ 0xa0 ∷ 0x80 ∷ [], ok tt)
+    ∷ (0xed ∷ 0x9f ∷ 0xbf ∷ [], ok tt)
+    ∷ (0xee ∷ 0x80 ∷ 0x80 ∷ [], ok tt)
+    ∷ (0xf0 ∷ 0x8f ∷ 0xbf ∷ 0xbf ∷ [], error BAD_TEXT)
+    ∷ (0xf0 ∷ 0x90 ∷ 0x80 ∷ 0x80 ∷ [], ok tt)
+    ∷ (0xf4 ∷ 0x8f ∷ 0xbf ∷ 0xbf ∷ [], ok tt)
+    ∷ (0xf4 ∷ 0x90 ∷ 0x80 ∷ 0x80 ∷ [], error BAD_TEXT)
     ∷ []

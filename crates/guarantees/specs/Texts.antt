@@ -1,7 +1,7 @@
--- Text is UTF-8 (document 02, W-202), over files and over calls of the writer.
+-- Text is UTF-8 (document 02, W-202), over files.
 --
 --   NotUtf8 s inner q     at q of the region s, as an item if `inner`, is a whole text whose bytes are not UTF-8
---   TextsUtf8 file vs     each text among the values vs of the file and their items, as the body query hands it back, is UTF-8
+--   TextsUtf8 file vs     each text among the values vs of the file and their items is UTF-8, and the body query hands it back
 use Prim.Native.Nat.{ℕ, _/_}
 use mathlib.Core.Path.{_≡_}
 use mathlib.Core.Bool.{Bool}
@@ -22,4 +22,4 @@ pub record NotUtf8 (s : List ℕ) (inner : Bool) (q : ℕ) : Type 0 where
   pub not : Utf8 body → ⊥
 
 abbrev pub TextsUtf8 : List ℕ → List Value → Type 0
-TextsUtf8 file vs = (j q : ℕ) (t : Token) → TokenAt vs j q t → t .kind ≡ 4 → Utf8 (bodyOf file q)
+TextsUtf8 file vs = (j q : ℕ) (t : Token) → TokenAt vs j q t → t .kind ≡ 4 → Utf8 (t .body) × (bodyOf file q ≡ t .body)

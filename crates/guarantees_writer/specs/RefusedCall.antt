@@ -4,7 +4,7 @@
 --
 --   BadState s n m     "w over the output or over 16,777,216; count over the table; items owed with no free word, or with an open start not below w"
 --   Owed l s           "opening or closing while items are owed"
---   BadText l          a text that is not text
+--   BadText l          a text whose bytes are not UTF-8, by the grammar
 --   Listed s table x   "among the listed words and below w"
 --   BadTarget l s table
 --                      a target or close offset that is not

@@ -1,8 +1,8 @@
--- `isText` on examples, and UTF-8 on those of RFC 3629, section 7.
+-- `isText` on examples, and UTF-8 on those of RFC 3629.
 use mathlib.Core.Path.{_≡_, refl}
 use mathlib.Core.Bool.{Bool, true, false}
 use mathlib.Core.List.{List, [], _∷_, map}
-use mathlib.Core.Option.{some, bind}
+use mathlib.Core.Option.{some, none, bind}
 use Prim.Native.Nat.{ℕ}
 use Rattle.utf8.specs.Text.{lead, next, textFrom, isText}
 use Rattle.utf8.specs.Utf8.{rowOf, following, utf8, decodeFrom, decode}
@@ -34,7 +34,7 @@ the-samples : map (λ (x : (List ℕ) × Bool). isText (x .0)) samples ≡ map (
 unfolding textFrom next lead
 the-samples = refl
 
--- code points, and their UTF-8 form
+-- code points, and their UTF-8 form (section 7)
 abbrev examples : List ((List ℕ) × (List ℕ))
 examples =
     (0x41 ∷ 0x2262 ∷ 0x391 ∷ 0x2E ∷ [], 0x41 ∷ 0xE2 ∷ 0x89 ∷ 0xA2 ∷ 0xCE ∷ 0x91 ∷ 0x2E ∷ [])
@@ -47,3 +47,19 @@ the-examples : (map (λ (x : (List ℕ) × (List ℕ)). utf8 (x .0)) examples �
     × (map (λ (x : (List ℕ) × (List ℕ)). decode (x .1)) examples ≡ map (λ (x : (List ℕ) × (List ℕ)). some (x .0)) examples)
 unfolding utf8 following rowOf decodeFrom bind
 the-examples = (refl, refl)
+
+-- bytes that are no UTF-8 form: 0 in two octets, a character as two surrogates (section 3), "/../" with its first point in two octets (section 10), and
+-- "/" in two, three and four octets
+abbrev invalid : List (List ℕ)
+invalid =
+    (0xC0 ∷ 0x80 ∷ [])
+    ∷ (0xED ∷ 0xA1 ∷ 0x8C ∷ 0xED ∷ 0xBE ∷ 0xB4 ∷ [])
+    ∷ (0x2F ∷ 0xC0 ∷ 0xAE ∷ 0x2E ∷ 0x2F ∷ [])
+    ∷ (0xC0 ∷ 0xAF ∷ [])
+    ∷ (0xE0 ∷ 0x80 ∷ 0xAF ∷ [])
+    ∷ (0xF0 ∷ 0x80 ∷ 0x80 ∷ 0xAF ∷ [])
+    ∷ []
+
+the-invalid : map decode invalid ≡ map (λ (s : List ℕ). none) invalid
+unfolding rowOf decodeFrom bind
+the-invalid = refl

@@ -1,7 +1,7 @@
 -- The texts are exactly the UTF-8 forms of code points, by RFC 3629.
 --
 -- In order: the bits of a code point; the rows of the RFC's table; encoded code points are a text (`utf8-text`) and are decoded
--- (`decode-utf8`); decoded ones were encoded (`utf8-decode`); a text is decoded, so that it is encoded code points (`text-exactly`); no row
+-- (`decode-utf8`); decoded ones were encoded (`utf8-decode`); a text is decoded, so that it is encoded code points (`text-exactly`, `isText-exactly`); no row
 -- gives a code point fewer octets (`shortest`).
 use mathlib.Core.Path.{_≡_, refl, sym, ap, subst, _∙_}
 use mathlib.Core.Logic.{_↔_}
@@ -18,9 +18,9 @@ use borrow.Author.Tests.{leb-true, le-leb, lt-leb, not-true}
 use Rattle.prelude.specs.Each.{Each}
 use Rattle.prelude.proofs.Lists.{each-mem}
 use Rattle.prelude.proofs.Tests.{split, pick-elim, and-l, and-r, or-true}
-use Rattle.utf8.specs.Text.{Range, range, continuation, forms, within, Matches, end, byte, Text, empty, character}
-use Rattle.utf8.specs.Utf8.{surrogates, Scalar, Row, row, utf8Rows, rowOf, following, octets, encode, utf8, Holds, Utf8, keep, decodeFrom, decode}
-use Rattle.utf8.proofs.Laws.{within-yes}
+use Rattle.utf8.specs.Text.{Range, range, continuation, forms, within, Matches, end, byte, Text, empty, character, isText}
+use Rattle.utf8.specs.Utf8.{surrogates, Encodable, Row, row, utf8Rows, rowOf, following, octets, encode, utf8, FitsRow, Utf8, keep, decodeFrom, decode}
+use Rattle.utf8.proofs.Laws.{within-yes, text-isText, isText-text}
 
 -- ---- the bits of a code point
 
@@ -36,8 +36,8 @@ decode-following : (r : Row) (c k : ℕ) (s : List ℕ) → decodeFrom r (c / 64
 unfolding decodeFrom following
 decode-following r c zero s = decode-zero r (c / 64 ^ zero) s ∙ ap (λ (n : ℕ). keep r n (decode s)) (div-one c)
 decode-following r c (suc k) s =
-    let bits : c / 64 ^ suc k * 64 + (0x80 + c / 64 ^ k % 64 - 0x80) ≡ c / 64 ^ k = rw (div-pow c k) (omega arith) in
-    rw (within-yes continuation (0x80 + c / 64 ^ k % 64) (omega arith) (omega arith), bits) (decode-following r c k s)
+    let bits : c / 64 ^ suc k * 64 + (0x80 + (c / 64 ^ k) % 64 - 0x80) ≡ c / 64 ^ k = rw (div-pow c k) (omega arith) in
+    rw (within-yes continuation (0x80 + (c / 64 ^ k) % 64) (omega arith) (omega arith), bits) (decode-following r c k s)
 
 -- ---- the rows
 
@@ -93,7 +93,7 @@ record Placed (c : ℕ) : Type 0 where
   in-rows : List·Memᴰ r utf8Rows
   from : r .numbers .lo ≤ c
   to : c ≤ r .numbers .hi
-  holds : Holds r c
+  fits : FitsRow r c
   f : List Range
   in-forms : List·Memᴰ f forms
   matches : Matches f (octets (some r) c)
@@ -122,7 +122,7 @@ matches-fill (r ∷ f) (b ∷ p) h = byte (h .0) (h .1) (matches-fill f p (h .2)
 -- by row n and form k
 abbrev By : ℕ → ℕ → ℕ → Type 0
 By c n k =
-    (n < 4) × (k < 9) × (rowAt n .numbers .lo ≤ c) × (c ≤ rowAt n .numbers .hi) × Holds (rowAt n) c
+    (n < 4) × (k < 9) × (rowAt n .numbers .lo ≤ c) × (c ≤ rowAt n .numbers .hi) × FitsRow (rowAt n) c
     × Fill (getD forms k []) (octets (some (rowAt n)) c)
 
 by : (c n k : ℕ) → By c n k → Placed c
@@ -132,13 +132,13 @@ by c n k h =
       in-rows = mem _ utf8Rows n (h .0);
       from = h .2;
       to = h .3;
-      holds = h .4;
+      fits = h .4;
       f = _;
       in-forms = mem _ forms k (h .1);
       matches = matches-fill _ _ (h .5);
     }
 
-placed : (c : ℕ) → Scalar c → Placed c
+placed : (c : ℕ) → Encodable c → Placed c
 unfolding following
 placed c h =
     split c 0x80 (λ l. by c 0 0 (search needs))
@@ -155,30 +155,30 @@ placed c h =
 encode-is : (c : ℕ) (p : Placed c) → encode c ≡ octets (some (p .r)) c
 encode-is c p = encode-row (p .in-rows) c (p .from) (p .to)
 
-pub utf8-text : (cs : List ℕ) → Each Scalar cs → Text (utf8 cs)
+pub utf8-text : (cs : List ℕ) → Each Encodable cs → Text (utf8 cs)
 unfolding utf8
 utf8-text [] e = empty
 utf8-text (c ∷ cs) e = let p = placed c (e .0) in rw (encode-is c p) (character (p .in-forms) (p .matches) (utf8-text cs (e .1)))
 
-keep-scalar : (r : Row) (c : ℕ) (cs : List ℕ) → r .numbers .lo ≤ c → c ≤ r .numbers .hi → Scalar c → keep r c (some cs) ≡ some (c ∷ cs)
-keep-scalar r c cs l h u =
+keep-encodable : (r : Row) (c : ℕ) (cs : List ℕ) → r .numbers .lo ≤ c → c ≤ r .numbers .hi → Encodable c → keep r c (some cs) ≡ some (c ∷ cs)
+keep-encodable r c cs l h u =
     split c 0xD800
     (λ less. rw (within-yes (r .numbers) c l h, lt-leb 0xD800 c))
     (λ more. split 0xDFFF c
     (λ past. rw (within-yes (r .numbers) c l h, le-leb 0xD800 c, lt-leb c 0xDFFF))
     (λ up. absurd (u .1 more up)))
 
-decode-character : (c : ℕ) (s cs : List ℕ) → Scalar c → decode s ≡ some cs → decode (encode c ++ s) ≡ some (c ∷ cs)
+decode-character : (c : ℕ) (s cs : List ℕ) → Encodable c → decode s ≡ some cs → decode (encode c ++ s) ≡ some (c ∷ cs)
 unfolding bind
 decode-character c s cs u e =
     let p = placed c u in
     let q = p .r in
     let b : ℕ = q .first .lo + c / 64 ^ q .more in
     let bits : b - q .first .lo ≡ c / 64 ^ q .more = omega arith in
-    rw (encode-is c p, first-row (p .in-rows) b (omega arith) (p .holds), bits, decode-following q c (q .more) s, e)
-    (keep-scalar q c cs (p .from) (p .to) u)
+    rw (encode-is c p, first-row (p .in-rows) b (omega arith) (p .fits), bits, decode-following q c (q .more) s, e)
+    (keep-encodable q c cs (p .from) (p .to) u)
 
-pub decode-utf8 : (cs : List ℕ) → Each Scalar cs → decode (utf8 cs) ≡ some cs
+pub decode-utf8 : (cs : List ℕ) → Each Encodable cs → decode (utf8 cs) ≡ some cs
 unfolding utf8
 decode-utf8 [] e = refl
 decode-utf8 (c ∷ cs) e = decode-character c (utf8 cs) cs (e .0) (decode-utf8 cs (e .1))
@@ -208,11 +208,11 @@ record Decoded (r : Row) (v k : ℕ) (s cs : List ℕ) : Type 0 where
   surrogate : 0xD800 ≤ c → c ≤ 0xDFFF → ⊥
   bits : c / 64 ^ k ≡ v
   rest : following k c ++ utf8 ds ≡ s
-  scalars : Each Scalar ds
+  encodable : Each Encodable ds
 
 -- the first octet b, and then s
 begun : (b : ℕ) (s cs : List ℕ) → ((q : Row) (v k : ℕ) → decodeFrom q v k s ≡ some cs → Decoded q v k s cs) → decode (b ∷ s) ≡ some cs
-    → Each Scalar cs × (utf8 cs ≡ b ∷ s)
+    → Each Encodable cs × (utf8 cs ≡ b ∷ s)
 unfolding utf8
 begun b s cs ih e =
     let t = bind-eq-some-iff (rowOf (λ r. r .first) utf8Rows b) (λ r. decodeFrom r (b - r .first .lo) (r .more) s) .0 e in
@@ -220,19 +220,19 @@ begun b s cs ih e =
     let m = rowOf-in (λ r. r .first) b q utf8Rows (t .1) in
     let d = ih q (b - q .first .lo) (q .more) (t .2) in
     let lead : q .first .lo + d .c / 64 ^ q .more ≡ b = rw (d .bits) (omega (arith, m .1)) in
-    let scalar : Scalar (d .c) = (omega (arith, d .to, numbers-last (m .0)), d .surrogate) in
-    rw (d .points) ((scalar, d .scalars), rw (encode-row (m .0) (d .c) (d .from) (d .to), lead, d .rest))
+    let encodable : Encodable (d .c) = (omega (arith, d .to, numbers-last (m .0)), d .surrogate) in
+    rw (d .points) ((encodable, d .encodable), rw (encode-row (m .0) (d .c) (d .from) (d .to), lead, d .rest))
 
 decoded : (r : Row) (v k : ℕ) (s cs : List ℕ) → decodeFrom r v k s ≡ some cs → Decoded r v k s cs
 unfolding decodeFrom following utf8
 decoded r v zero [] cs e =
     keep-by r v (some []) e (λ ds o p l h u.
     let last : ds ≡ [] = sym (Option·some-injective [] ds o) in
-    record { c = v; ds = []; points = rw last at p; from = l; to = h; surrogate = u; bits = div-one v; rest = refl; scalars = tt })
+    record { c = v; ds = []; points = rw last at p; from = l; to = h; surrogate = u; bits = div-one v; rest = refl; encodable = tt })
 decoded r v zero (b ∷ s) cs e =
     keep-by r v _ e (λ ds o p l h u.
     let w = begun b s ds (λ q v₁ k. decoded q v₁ k s ds) o in
-    record { c = v; ds = ds; points = p; from = l; to = h; surrogate = u; bits = div-one v; rest = w .1; scalars = w .0 })
+    record { c = v; ds = ds; points = p; from = l; to = h; surrogate = u; bits = div-one v; rest = w .1; encodable = w .0 })
 decoded r v (suc k) [] cs e = absurd (Option·none-ne-some _ e)
 decoded r v (suc k) (b ∷ s) cs e =
     pick-elim (λ (o : Option (List ℕ)). o ≡ some cs → Decoded r v (suc k) (b ∷ s) cs) (within continuation b)
@@ -240,7 +240,7 @@ decoded r v (suc k) (b ∷ s) cs e =
     let d = decoded r (v * 64 + (b - 0x80)) k s cs e₁ in
     let low : 0x80 ≤ b = leb-true _ _ (and-l _ _ w) in
     let high : b ≤ 0xBF = leb-true _ _ (and-r (leb 0x80 b) _ w) in
-    let octet : 0x80 + d .c / 64 ^ k % 64 ≡ b = rw (d .bits) (omega arith) in
+    let octet : 0x80 + (d .c / 64 ^ k) % 64 ≡ b = rw (d .bits) (omega arith) in
     record {
       c = d .c;
       ds = d .ds;
@@ -250,12 +250,12 @@ decoded r v (suc k) (b ∷ s) cs e =
       surrogate = d .surrogate;
       bits = div-pow (d .c) k ∙ rw (d .bits) (omega arith);
       rest = rw (octet, d .rest);
-      scalars = d .scalars;
+      encodable = d .encodable;
     })
     (λ w e₁. absurd (Option·none-ne-some _ e₁))
     e
 
-pub utf8-decode : (s cs : List ℕ) → decode s ≡ some cs → Each Scalar cs × (utf8 cs ≡ s)
+pub utf8-decode : (s cs : List ℕ) → decode s ≡ some cs → Each Encodable cs × (utf8 cs ≡ s)
 unfolding utf8
 utf8-decode [] cs e = rw (← Option·some-injective _ _ e) (tt, refl)
 utf8-decode (b ∷ s) cs e = begun b s cs (λ q v k. decoded q v k s cs) e
@@ -317,11 +317,11 @@ text-decode (character {s = s} k (byte {r = r} {f = g} {b = b} {p = p} lo hi m) 
     let c : ℕ = value v p in
     let above = value-ge v (r .lo - q .first .lo) m (omega arith) in
     let below = value-le v (r .hi - q .first .lo) m (omega arith) in
-    let scalar : Scalar c = (omega (arith, numbers-last in-rows), no-surrogate _ _ c above below (o .7)) in
+    let encodable : Encodable c = (omega (arith, numbers-last in-rows), no-surrogate _ _ c above below (o .7)) in
     let h = text-decode t in (
       c ∷ h .0,
       rw (first-row in-rows b (omega arith) (omega arith), o .1, gathered q v s m (o .4), h .1)
-          (keep-scalar q c (h .0) (omega arith) (omega arith) scalar),
+          (keep-encodable q c (h .0) (omega arith) (omega arith) encodable),
     )
 
 -- ---- exactly
@@ -332,6 +332,9 @@ text-exactly s = (
   λ u. subst Text (u .2) (utf8-text (u .0) (u .1)),
 )
 
+pub isText-exactly : (s : List ℕ) → (isText s ≡ true) ↔ Utf8 s
+isText-exactly s = (λ e. text-exactly s .0 (isText-text s e), λ u. text-isText (text-exactly s .1 u))
+
 -- ---- the shortest form
 
 length-following : (k c : ℕ) → length (following k c) ≡ k
@@ -340,12 +343,12 @@ length-following zero c = refl
 length-following (suc k) c = ap suc (length-following k c)
 
 -- of two rows, one with a character number and one whose bits can be those of it, the first has no more octets
-fewest : (c : ℕ) {q r : Row} → List·Memᴰ q utf8Rows → List·Memᴰ r utf8Rows → q .numbers .lo ≤ c → Holds r c → q .more ≤ r .more
+fewest : (c : ℕ) {q r : Row} → List·Memᴰ q utf8Rows → List·Memᴰ r utf8Rows → q .numbers .lo ≤ c → FitsRow r c → q .more ≤ r .more
 fewest c {r = r} m k =
-    each-mem (λ q. q .numbers .lo ≤ c → Holds r c → q .more ≤ r .more) utf8Rows
-    (each-mem (λ r. Each (λ q. q .numbers .lo ≤ c → Holds r c → q .more ≤ r .more) utf8Rows) utf8Rows (search needs) k) m
+    each-mem (λ q. q .numbers .lo ≤ c → FitsRow r c → q .more ≤ r .more) utf8Rows
+    (each-mem (λ r. Each (λ q. q .numbers .lo ≤ c → FitsRow r c → q .more ≤ r .more) utf8Rows) utf8Rows (search needs) k) m
 
-pub shortest : (c : ℕ) → Scalar c → {r : Row} → List·Memᴰ r utf8Rows → Holds r c → length (encode c) ≤ length (octets (some r) c)
+pub shortest : (c : ℕ) → Encodable c → {r : Row} → List·Memᴰ r utf8Rows → FitsRow r c → length (encode c) ≤ length (octets (some r) c)
 shortest c u {r} m h =
     let p = placed c u in
     rw (encode-is c p, length-following (p .r .more) c, length-following (r .more) c) (omega (arith, fewest c (p .in-rows) m (p .from) h))

@@ -1,22 +1,22 @@
 -- UTF-8 by RFC 3629, section 3: code points and their octets. No contract cites this file: it says, without the table of
 -- forms, what a text is.
 --
---   surrogates           the code points that UTF-8 does not encode
---   Scalar c             c is a code point that UTF-8 encodes: from 0 to 10FFFF, and no surrogate
+--   surrogates           the code points from D800 to DFFF
+--   Encodable c          UTF-8 encodes the code point c: it is from 0 to 10FFFF, and no surrogate
 --   Row                  a row of section 3's table: the range of its character numbers, the range of its first octet, and how
 --                        many octets 10xxxxxx follow
 --   utf8Rows             the table; 0xxxxxxx is from 00 to 7F, 110xxxxx from C0 to DF, 1110xxxx from E0 to EF, 11110xxx from F0
 --                        to F7
 --   rowOf part rs x      the first row of rs that has x in its range `part`
 --   following k c        k octets 10xxxxxx whose bits x are the lowest 6k bits of c, the highest first
---   octets r c           the octets of the row r whose bits x are c; none without a row
---   encode c             the octets of c, by the row that has c among its character numbers
---   utf8 cs              the UTF-8 form of cs: the octets of each, one after the other
---   Holds r c            the bits x of the row r can be those of c
---   Utf8 s               s is the UTF-8 form of code points that it encodes
---   keep r v cs          v and then cs, if v is among the character numbers of r and no surrogate; else a refusal
---   decodeFrom r v k s   the code points from a character of the row r on whose bits x are v so far, if k more octets of it and
---                        then other characters are in s; a refusal if they are not
+--   FitsRow r c          the bits x of the row r can be those of c: its first octet is then in the row's range
+--   octets r c           the octets of the row r whose bits x are those of c, if they can be; no octets without a row
+--   encode c             the octets of c, by the row that has c among its character numbers; of a surrogate too, which `Utf8` leaves out
+--   utf8 cs              the octets of each of cs, one after the other
+--   Utf8 s               s is the UTF-8 form of some code points: their octets, and UTF-8 encodes each of them
+--   keep r v cs          v and then cs, if v is among the character numbers of r and no surrogate; else, or if cs is one, a refusal
+--   decodeFrom r v k s   s goes on inside a character of the row r: v are its bits so far, and k of its octets are to come; the code
+--                        points from that character on, or a refusal if s is not so
 --   decode s             the code points whose UTF-8 form is s; a refusal if there are none
 use Prim.Native.Nat.{ℕ, zero, suc, _+_, _-_, _*_, _/_, _%_, _^_, _≤_}
 use mathlib.Core.Path.{_≡_}
@@ -30,8 +30,8 @@ use Rattle.utf8.specs.Text.{Range, range, continuation, within}
 abbrev pub surrogates : Range
 surrogates = range 0xD800 0xDFFF
 
-abbrev pub Scalar : ℕ → Type 0
-Scalar c = (c ≤ 0x10FFFF) × (0xD800 ≤ c → c ≤ 0xDFFF → ⊥)
+abbrev pub Encodable : ℕ → Type 0
+Encodable c = (c ≤ 0x10FFFF) × (surrogates .lo ≤ c → c ≤ surrogates .hi → ⊥)
 
 pub record Row : Type 0 where
   pub numbers : Range
@@ -57,7 +57,7 @@ rowOf part (r ∷ rs) x = pick (within (part r) x) (some r) (rowOf part rs x)
 
 unfoldable pub following : ℕ → ℕ → List ℕ
 following zero c = []
-following (suc k) c = (0x80 + c / 64 ^ k % 64) ∷ following k c
+following (suc k) c = (0x80 + (c / 64 ^ k) % 64) ∷ following k c
 
 abbrev pub octets : Option Row → ℕ → List ℕ
 octets none c = []
@@ -70,11 +70,11 @@ unfoldable pub utf8 : List ℕ → List ℕ
 utf8 [] = []
 utf8 (c ∷ cs) = encode c ++ utf8 cs
 
-abbrev pub Holds : Row → ℕ → Type 0
-Holds r c = r .first .lo + c / 64 ^ r .more ≤ r .first .hi
+abbrev pub FitsRow : Row → ℕ → Type 0
+FitsRow r c = r .first .lo + c / 64 ^ r .more ≤ r .first .hi
 
 abbrev pub Utf8 : List ℕ → Type 0
-Utf8 s = (cs : List ℕ) × Each Scalar cs × (utf8 cs ≡ s)
+Utf8 s = (cs : List ℕ) × Each Encodable cs × (utf8 cs ≡ s)
 
 -- ---- from octets to code points
 

@@ -58,8 +58,8 @@ fn lead(b: u8) -> Due
     Due::new(4, 0x80, 0xBF)
 }
 
-// How many bytes the first character of s has; 0 if s begins with none. So s is text if there is one, and the bytes after it
-// are text.
+// How many bytes of s may be passed, 0 if none may: s is text exactly if some may, and the bytes after them are text. They are
+// its first character.
 fn character(s: &[u8]) -> usize
     requires { ⌜ 0 < length (now s) ⌝ }
     ensures within { λ r. ⌜ r ≤ length (now (s .entry)) ⌝ }
