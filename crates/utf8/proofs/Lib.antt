@@ -1,8 +1,8 @@
 -- `isText` decides the grammar
 pub mod Laws
--- a text is the UTF-8 form of code points
+-- the texts are exactly the UTF-8 forms of code points
 pub mod Utf8
 -- the steps of the test, as the code takes them
 mod Steps
--- `isText` on examples
+-- `isText` and UTF-8 on examples
 mod Samples

@@ -10,12 +10,12 @@ use native.Mathlib.Nat.{not-suc-le-zero}
 use native.Mathlib.Numerals.{add-one, sub-one}
 use native.Mathlib.Omega.{arith}
 use lib.Dec.{eqb, leb·zero}
-use Rattle.prelude.specs.Pick.{pick}
-use Rattle.prelude.proofs.Tests.{split}
-use Rattle.prelude.proofs.Parts.{part-from, length-part}
 use lib.ListN.{length, getD, take, drop, replicate, drop-of-length-le}
 use lib.Seq.{drop-cons, drop-drop}
 use borrow.Author.Tests.{le-leb, lt-leb, lt-ltb, le-ltb, ne-eqb, not-true, not-false}
+use Rattle.prelude.specs.Pick.{pick}
+use Rattle.prelude.proofs.Tests.{split}
+use Rattle.prelude.proofs.Parts.{part-from, length-part}
 use Rattle.utf8.specs.Text.{Range, range, continuation, forms, within, lead, next, complete, textFrom, isText}
 use Rattle.utf8.specs.Internal.{ranges, dueOf}
 use Rattle.utf8.specs.declared.Due.{Due}
@@ -68,7 +68,7 @@ continuations (suc n) = refl
 
 -- n ranges are due, the next from lo to hi
 module _ (lo hi : ℕ) where
-  pub next-due : (n b : ℕ) → 0 < n → n < 4 → next (dueOf (due n lo hi)) b ≡ pick (within (range lo hi) b) (dueOf (due (n - 1) 0x80 0xBF)) none
+  next-due : (n b : ℕ) → 0 < n → n < 4 → next (dueOf (due n lo hi)) b ≡ pick (within (range lo hi) b) (dueOf (due (n - 1) 0x80 0xBF)) none
   unfolding dueOf next
   next-due zero b p l = absurd (not-suc-le-zero p)
   next-due (suc n) b p l = let less : n < 4 = omega arith in rw (lt-ltb (suc n) 4, sub-one (suc n), lt-ltb n 4, continuations n)

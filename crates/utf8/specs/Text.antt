@@ -1,8 +1,8 @@
 -- Text (document 01, "Row of a file", with the second bytes of change request W-202): characters of one to four bytes, one
 -- after the other; all else is BAD_TEXT. It is the grammar of RFC 3629, section 4.
 --
---   Range, range a b  the bytes from lo to hi, both included
---   continuation      the bytes after the first of a character
+--   Range, range a b  the numbers from lo to hi, both included
+--   continuation      the bytes after the first of a character; after some first bytes the second is in a narrower range
 --   forms             the forms of a character, a range for each byte: the one table of the rule
 --   Matches f p       p has a byte in each range of f, and no other
 --   Text s            s is a text: no bytes; or bytes that match a form, and then a text

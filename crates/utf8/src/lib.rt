@@ -1,9 +1,9 @@
 // Whether bytes are text (document 01, "Row of a file", and W-202): UTF-8 by RFC 3629.
 ghost use mathlib.Core.Path.{_≡_};
+ghost use mathlib.Core.Bool.{false};
 ghost use Prim.Native.Nat.{_≤_, _<_};
 ghost use lib.Dec.{eqb};
 ghost use lib.ListN.{length, drop};
-ghost use mathlib.Core.Bool.{false};
 ghost use Rattle.prelude.specs.Pick.{pick};
 ghost use Rattle.utf8.specs.Text.{forms, lead, isText};
 ghost use Rattle.utf8.specs.Internal.{dueOf};
