@@ -7,7 +7,8 @@
  * A file is values back to back, the region, and one last byte, which names the value at which a reader starts,
  * the entry. Offsets count from the file's first byte. A value is a header with its numbers, and then a body or
  * items; an item is of a kind that has no items itself. The body of a text is UTF-8 as RFC 3629 has it: characters
- * from U+0000 to U+10FFFF without the surrogates, U+D800 to U+DFFF, each in its shortest form.
+ * from U+0000 to U+10FFFF without the surrogates, U+D800 to U+DFFF, each in its shortest form. It may hold 00 bytes
+ * and other control characters, and has no 00 at its end.
  *
  * Any bytes, offsets, indexes, tables and writer states may be handed in. Each call ends with an answer or an
  * error, and touches no memory but what it is handed; what it answers and leaves there is proved for every input

@@ -1,6 +1,6 @@
 //! Twine plan files, read and written by the verified library `libtwine.a` through its C interface.
 //!
-//! - [`File::check`] checks a whole file, every [`Text`] of which is UTF-8; a [`Node`] is a value or an item of it.
+//! - [`File::check`] checks a whole file, and in one that it accepts every [`Text`] is UTF-8; a [`Node`] is a value or an item of it.
 //! - [`Writer`] writes a file.
 //! - [`query`] asks at any offset of any bytes, checked or not.
 //!

@@ -1,6 +1,6 @@
 //! Queries at any offset of any bytes, checked or not.
 //!
-//! Each returns an answer or an error. First come EMPTY, TOO_LONG and OUTSIDE, then the value's own errors. None looks at the bytes of a
+//! Each returns an answer or an error. First come EMPTY, TOO_LONG and OUTSIDE, then the value's own errors. None tests the bytes of a
 //! text, so that BAD_TEXT never comes. On a checked file, [`Node`](crate::Node) asks them.
 //!
 //! ```

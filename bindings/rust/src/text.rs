@@ -18,7 +18,7 @@ use std::str::Utf8Error;
 /// # Ok::<(), twine::Error>(())
 /// ```
 ///
-/// The [queries](crate::query) do not look at the bytes of a text. In a file that was not checked they may be anything, and a `Text` made from
+/// The [queries](crate::query) do not test the bytes of a text. In a file that was not checked they may be anything, and a `Text` made from
 /// them is a `str` only if they are UTF-8. It can be compared and shown all the same.
 ///
 /// ```
@@ -43,7 +43,7 @@ impl<'a> Text<'a> {
         self.0
     }
 
-    /// The text as a `str`; an error if it is not UTF-8, which a text of a checked file always is.
+    /// The text as a `str`: `Ok` for every text of a checked file; an error if the bytes, from a query, are not UTF-8.
     pub fn to_str(self) -> Result<&'a str, Utf8Error> {
         std::str::from_utf8(self.0)
     }
@@ -58,6 +58,12 @@ impl<'a> Text<'a> {
 impl<'a> From<&'a [u8]> for Text<'a> {
     fn from(bytes: &'a [u8]) -> Text<'a> {
         Text(bytes)
+    }
+}
+
+impl<'a> From<&'a str> for Text<'a> {
+    fn from(text: &'a str) -> Text<'a> {
+        Text(text.as_bytes())
     }
 }
 
@@ -86,7 +92,7 @@ impl fmt::Display for Text<'_> {
     }
 }
 
-/// In quotes, with escapes for what is not UTF-8.
+/// In quotes, as `str::escape_debug`; bytes that are not UTF-8 as `\xNN`.
 impl fmt::Debug for Text<'_> {
     fn fmt(&self, f: &mut fmt::Formatter<'_>) -> fmt::Result {
         f.write_str("\"")?;

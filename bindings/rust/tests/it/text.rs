@@ -130,6 +130,7 @@ fn what_is_not_utf8_is_only_queried() {
     assert_eq!(format!("{text:?}"), r#""a\xed\xa0\x80\"\n""#);
     assert_ne!(text, "a");
     assert_eq!(text, Text::from(&bytes[..]));
+    assert_eq!(Text::from("Gräf").to_str(), Ok("Gräf"));
 
     // a key, itself and followed
     let map = hex("43 ed a0 80 72 41 ff 11 f7 12 05");
