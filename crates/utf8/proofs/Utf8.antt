@@ -162,10 +162,10 @@ utf8-text (c ∷ cs) e = let p = placed c (e .0) in rw (encode-is c p) (characte
 
 keep-encodable : (r : Row) (c : ℕ) (cs : List ℕ) → r .numbers .lo ≤ c → c ≤ r .numbers .hi → Encodable c → keep r c (some cs) ≡ some (c ∷ cs)
 keep-encodable r c cs l h u =
-    split c 0xD800
-    (λ less. rw (within-yes (r .numbers) c l h, lt-leb 0xD800 c))
-    (λ more. split 0xDFFF c
-    (λ past. rw (within-yes (r .numbers) c l h, le-leb 0xD800 c, lt-leb c 0xDFFF))
+    split c (surrogates .lo)
+    (λ less. rw (within-yes (r .numbers) c l h, lt-leb (surrogates .lo) c))
+    (λ more. split (surrogates .hi) c
+    (λ past. rw (within-yes (r .numbers) c l h, le-leb (surrogates .lo) c, lt-leb c (surrogates .hi)))
     (λ up. absurd (u .1 more up)))
 
 decode-character : (c : ℕ) (s cs : List ℕ) → Encodable c → decode s ≡ some cs → decode (encode c ++ s) ≡ some (c ∷ cs)
@@ -187,7 +187,7 @@ decode-utf8 (c ∷ cs) e = decode-character c (utf8 cs) cs (e .0) (decode-utf8 c
 
 -- what `keep` has tested
 keep-by : {X : Type 0} (r : Row) (v : ℕ) (o : Option (List ℕ)) {cs : List ℕ} → keep r v o ≡ some cs
-    → ((ds : List ℕ) → o ≡ some ds → cs ≡ v ∷ ds → r .numbers .lo ≤ v → v ≤ r .numbers .hi → (0xD800 ≤ v → v ≤ 0xDFFF → ⊥) → X) → X
+    → ((ds : List ℕ) → o ≡ some ds → cs ≡ v ∷ ds → r .numbers .lo ≤ v → v ≤ r .numbers .hi → (surrogates .lo ≤ v → v ≤ surrogates .hi → ⊥) → X) → X
 keep-by r v none e k = absurd (Option·none-ne-some _ e)
 keep-by {X} r v (some ds) {cs} e k =
     pick-elim (λ (o : Option (List ℕ)). o ≡ some cs → X) (within (r .numbers) v && not (within surrogates v))
@@ -205,7 +205,7 @@ record Decoded (r : Row) (v k : ℕ) (s cs : List ℕ) : Type 0 where
   points : cs ≡ c ∷ ds
   from : r .numbers .lo ≤ c
   to : c ≤ r .numbers .hi
-  surrogate : 0xD800 ≤ c → c ≤ 0xDFFF → ⊥
+  surrogate : surrogates .lo ≤ c → c ≤ surrogates .hi → ⊥
   bits : c / 64 ^ k ≡ v
   rest : following k c ++ utf8 ds ≡ s
   encodable : Each Encodable ds
@@ -301,7 +301,7 @@ of-row =
     each-mem OfRow forms
     (one, (search needs, (search needs, (search needs, (search needs, (search needs, (search needs, (search needs, (search needs, tt)))))))))
 
-no-surrogate : (low high c : ℕ) → low ≤ c → c ≤ high → leb 0xE000 low || leb high 0xD7FF ≡ true → 0xD800 ≤ c → c ≤ 0xDFFF → ⊥
+no-surrogate : (low high c : ℕ) → low ≤ c → c ≤ high → leb 0xE000 low || leb high 0xD7FF ≡ true → surrogates .lo ≤ c → c ≤ surrogates .hi → ⊥
 no-surrogate low high c a b e l h =
     or-true (leb 0xE000 low) (leb high 0xD7FF) e (λ y. omega (arith, leb-true 0xE000 low y)) (λ y. omega (arith, leb-true high 0xD7FF y))
 
