@@ -194,6 +194,9 @@ pub refused-text-exactly : (b : List ℕ) (s : State) (out table : List ℕ) →
     ↔ ((BadState s (length out) (length table) → ⊥) × (s .closed ≡ false) × (Utf8 b → ⊥))
 refused-text-exactly = texts.refused-text-exactly
 
+pub accepted-text : (b : List ℕ) (s : State) (out table : List ℕ) → step (text b) s out table .answer ≡ ok tt → Utf8 b
+accepted-text = texts.accepted-text
+
 -- ---- what a query answers, and what it is refused for, on every file
 
 pub peek-answers-exactly : (file : List ℕ) (at : ℕ) (h : Head)

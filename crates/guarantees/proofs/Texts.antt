@@ -7,14 +7,16 @@ use Prim.Native.Nat.{ℕ, _-_}
 use native.Mathlib.Omega.{arith}
 use lib.Dec.{ltb}
 use lib.ListN.{length, take}
+use borrow.Author.Tests.{not-false}
 use Rattle.prelude.specs.Answer.{ok, error}
 use Rattle.prelude.specs.Bytes.{Bytes}
 use Rattle.prelude.specs.Each.{Each}
 use Rattle.error.specs.Error.{Fault, fault, BAD_TEXT}
+use Rattle.utf8.specs.Text.{isText}
 use Rattle.utf8.specs.Utf8.{Utf8}
-use Rattle.utf8.proofs.Utf8.{text-exactly}
+use Rattle.utf8.proofs.Utf8.{text-exactly, isText-exactly}
 use Rattle.kind.specs.Kind.{rule}
-use Rattle.token.specs.Token.{Token}
+use Rattle.token.specs.Token.{Token, token}
 use Rattle.values.specs.Values.{Value, tokens, Sound, Item, Formed, WellFormed}
 use Rattle.values.proofs.Members.{each-append}
 use Rattle.checker.specs.Check.{checkOf}
@@ -26,6 +28,7 @@ use Rattle.guarantees_writer.specs.Model.{requestOf}
 use Rattle.guarantees_writer.specs.RefusedCall as refusals
 use Rattle.guarantees_writer.specs.RefusedCall.{BadState, RefusedCall}
 use Rattle.guarantees_writer.proofs.RefusedCall.{refused-call-exactly}
+use Rattle.guarantees_writer.proofs.Calls.{put-by}
 use Rattle.guarantees.specs.Refused as rows
 use Rattle.guarantees.specs.Refused.{Faulty, RefusedCheck}
 use Rattle.guarantees.specs.Texts.{NotUtf8, TextsUtf8}
@@ -95,3 +98,7 @@ refused-text-exactly b s out table = (
     by-row (refusals.target x y z t n) q = absurd (omega arith)
     by-row (refusals.full x y z t n w) q = absurd (omega arith)
     by-row (refusals.room x y z t n w r) q = absurd (omega arith)
+
+pub accepted-text : (b : List ℕ) (s : State) (out table : List ℕ) → step (text b) s out table .answer ≡ ok tt → Utf8 b
+accepted-text b s out table =
+    put-by s out table (λ r. Utf8 b) (token 4 (length b) 0 b) 0 (λ a. isText-exactly b .0 (not-false (isText b) (a .granted .text)))
