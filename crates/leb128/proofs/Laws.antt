@@ -1,9 +1,10 @@
 -- `put` and `get`, one after the other.
 --
--- In order: what was put is got back with the rest untouched (`get-put`); what was got is the shortest form, so it is what
--- would be put (`put-get`); in any form, what is got is below `top`, and the rest is the end of the bytes (`get-ends`).
+-- In order: what was put is got back with the rest untouched, in both modes (`get-put`); what was got in the strict mode is
+-- the shortest form, so it is what would be put (`put-get`); in any form, what is got is below `top`, and the rest is the
+-- end of the bytes (`get-ends`).
 use mathlib.Core.Path.{_≡_, ap}
-use Prim.Native.Nat.{ℕ, zero, suc, _+_, _-_, _*_, _/_, _%_, _≤_, _<_}
+use Prim.Native.Nat.{ℕ, zero, suc, _+_, _-_, _*_, _/_, _%_, _≤_, _<_, zero-le}
 use mathlib.Core.List.{List, [], _∷_, _++_}
 use native.Mathlib.Nat.{one-le-pow}
 use native.Mathlib.Omega.{arith}
@@ -14,19 +15,25 @@ use Rattle.prelude.specs.Answer.{got, guard, then}
 use Rattle.prelude.specs.Bytes.{Bytes}
 use Rattle.prelude.proofs.Tests.{split, facts}
 use Rattle.prelude.proofs.Readers.{guard-by, then-by, bad-got}
-use Rattle.leb128.specs.Leb.{put, get, top, lastOf}
+use Rattle.leb128.specs.Leb.{put, get, top, leastOf, lastOf}
+use Rattle.leb128.specs.declared.Mode.{Mode}
+use Rattle.leb128.specs.declared.Mode.the-variants.{Strict, Tolerant}
 
-pub get-put : (k least n : ℕ) (rest : List ℕ) → least ≤ n → n < top k → get k least (put k n ++ rest) ≡ got n rest
+pub least-one : (mode : Mode) → leastOf mode ≤ 1
+least-one Strict = lit≤ tt
+least-one Tolerant = zero-le
+
+pub get-put : (mode : Mode) (k least n : ℕ) (rest : List ℕ) → least ≤ n → n < top k → get mode k least (put k n ++ rest) ≡ got n rest
 unfolding put get guard then
-get-put zero least n rest l h = let small : n < 2 = omega arith in rw (lt-ltb, le-leb)
-get-put (suc k) least n rest l h =
+get-put mode zero least n rest l h = let small : n < 2 = omega arith in rw (lt-ltb, le-leb)
+get-put mode (suc k) least n rest l h =
     split n 128
     (λ small. rw (lt-ltb, lt-ltb, le-leb))
     (λ large.
     let marked : 128 ≤ n % 128 + 128 = omega arith in
-    let more : 1 ≤ n / 128 = omega arith in
+    let more : leastOf mode ≤ n / 128 = omega (arith, least-one mode) in
     let less : n / 128 < top k = omega arith in
-    rw (le-ltb, le-ltb, get-put k 1 (n / 128) rest more less) (ap (λ m. got m rest) (omega arith)))
+    rw (le-ltb, le-ltb, get-put mode k (leastOf mode) (n / 128) rest more less) (ap (λ m. got m rest) (omega arith)))
 
 -- what a number that was got says about the bytes s and the rest
 pub record Got (k least n : ℕ) (s rest : List ℕ) : Type 0 where
@@ -34,7 +41,7 @@ pub record Got (k least n : ℕ) (s rest : List ℕ) : Type 0 where
   pub above : least ≤ n
   pub below : n < top k
 
-pub put-get : (k least n : ℕ) (s rest : List ℕ) → least ≤ 1 → Bytes s → get k least s ≡ got n rest → Got k least n s rest
+pub put-get : (k least n : ℕ) (s rest : List ℕ) → least ≤ 1 → Bytes s → get Strict k least s ≡ got n rest → Got k least n s rest
 unfolding put get
 put-get zero least n [] rest l h e = bad-got e
 put-get (suc k) least n [] rest l h e = bad-got e
@@ -73,17 +80,17 @@ last-ends k least b n s rest h e =
     let one : suc (length s) - length s ≡ 1 = omega arith in
     rw all (record { below = omega arith; shorter = omega arith; end = rw one }))
 
-pub get-ends : (k least n : ℕ) (s rest : List ℕ) → get k least s ≡ got n rest → Ends k n s rest
+pub get-ends : (mode : Mode) (k least n : ℕ) (s rest : List ℕ) → get mode k least s ≡ got n rest → Ends k n s rest
 unfolding get
-get-ends zero least n [] rest e = bad-got e
-get-ends (suc k) least n [] rest e = bad-got e
-get-ends zero least n (b ∷ s) rest e = guard-by _ _ _ e (λ b< e₁. last-ends 0 least b n s rest (omega facts) e₁)
-get-ends (suc k) least n (b ∷ s) rest e =
+get-ends mode zero least n [] rest e = bad-got e
+get-ends mode (suc k) least n [] rest e = bad-got e
+get-ends mode zero least n (b ∷ s) rest e = guard-by _ _ _ e (λ b< e₁. last-ends 0 least b n s rest (omega facts) e₁)
+get-ends mode (suc k) least n (b ∷ s) rest e =
     split b 128
     (λ small. last-ends (suc k) least b n s rest (omega (arith, one-le-pow k 128 (lit< tt))) (rw lt-ltb at e))
     (λ large.
     then-by _ _ (rw le-ltb at e) (λ m mid e₁ e₂.
-    let g = get-ends k 1 m s mid e₁ in
+    let g = get-ends mode k (leastOf mode) m s mid e₁ in
     let value : b % 128 + 128 * m ≡ n = cc in
     let all : rest ≡ mid = cc in
     let more : suc (length s) - length mid ≡ suc (length s - length mid) = omega (arith, g .shorter) in

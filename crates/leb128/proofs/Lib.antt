@@ -2,6 +2,8 @@
 pub mod Laws
 -- how many bytes `put` yields
 pub mod Sizes
+-- the bytes of a number in each mode
+pub mod Spellings
 -- the steps of `get`, as the code takes them
 mod Steps
 -- the definitions on examples

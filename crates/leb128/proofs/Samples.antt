@@ -5,14 +5,15 @@ use lib.ListN.{length}
 use Rattle.prelude.specs.Answer.{got, bad, guard, then}
 use Rattle.error.specs.Error.{TRUNC, OVERLONG, RANGE}
 use Rattle.leb128.specs.Leb.{get, put}
+use Rattle.leb128.specs.declared.Mode.the-variants.{Strict, Tolerant}
 
-reads : map (get 9 0) ((0xe5 ∷ 0x8e ∷ 0x26 ∷ 7 ∷ []) ∷ (0 ∷ 0 ∷ []) ∷ (255 ∷ 255 ∷ 255 ∷ 255 ∷ 255 ∷ 255 ∷ 255 ∷ 255 ∷ 255 ∷ 1 ∷ []) ∷ [])
+reads : map (get Strict 9 0) ((0xe5 ∷ 0x8e ∷ 0x26 ∷ 7 ∷ []) ∷ (0 ∷ 0 ∷ []) ∷ (255 ∷ 255 ∷ 255 ∷ 255 ∷ 255 ∷ 255 ∷ 255 ∷ 255 ∷ 255 ∷ 1 ∷ []) ∷ [])
     ≡ got 624485 (7 ∷ []) ∷ got 0 (0 ∷ []) ∷ got 0xffff_ffff_ffff_ffff [] ∷ []
 unfolding get guard then
 reads = refl
 
 -- no byte, an incomplete number, a last byte of 0, a tenth byte of 0, 2 and 80, and the end before the tenth
-refuses : map (get 9 0)
+refuses : map (get Strict 9 0)
     ([]
     ∷ (255 ∷ 255 ∷ [])
     ∷ (0x80 ∷ 0 ∷ [])
@@ -24,6 +25,19 @@ refuses : map (get 9 0)
     ≡ bad TRUNC ∷ bad TRUNC ∷ bad OVERLONG ∷ bad OVERLONG ∷ bad RANGE ∷ bad RANGE ∷ bad TRUNC ∷ []
 unfolding get guard then
 refuses = refl
+
+-- padded to two bytes, to five, to ten: 0, 24 and 1; a tenth byte of 2 and of 80, and the end before the tenth
+tolerates : map (get Tolerant 9 0)
+    ((0x80 ∷ 0 ∷ 7 ∷ [])
+    ∷ (0x98 ∷ 0x80 ∷ 0x80 ∷ 0x80 ∷ 0 ∷ [])
+    ∷ (129 ∷ 128 ∷ 128 ∷ 128 ∷ 128 ∷ 128 ∷ 128 ∷ 128 ∷ 128 ∷ 0 ∷ [])
+    ∷ (128 ∷ 128 ∷ 128 ∷ 128 ∷ 128 ∷ 128 ∷ 128 ∷ 128 ∷ 128 ∷ 2 ∷ [])
+    ∷ (128 ∷ 128 ∷ 128 ∷ 128 ∷ 128 ∷ 128 ∷ 128 ∷ 128 ∷ 128 ∷ 128 ∷ [])
+    ∷ (128 ∷ 128 ∷ 128 ∷ 128 ∷ 128 ∷ 128 ∷ 128 ∷ 128 ∷ 128 ∷ [])
+    ∷ [])
+    ≡ got 0 (7 ∷ []) ∷ got 24 [] ∷ got 1 [] ∷ bad RANGE ∷ bad RANGE ∷ bad TRUNC ∷ []
+unfolding get guard then
+tolerates = refl
 
 writes : map (put 9) (0 ∷ 127 ∷ 128 ∷ 624485 ∷ []) ≡ (0 ∷ []) ∷ (127 ∷ []) ∷ (128 ∷ 1 ∷ []) ∷ (0xe5 ∷ 0x8e ∷ 0x26 ∷ []) ∷ []
 unfolding put

@@ -1,13 +1,21 @@
-// LEB128 numbers of up to 64 bits (document 01, "Row of a file"), in the shortest form only.
+// LEB128 numbers of up to 64 bits (document 01, "Row of a file"), written in the shortest form, and read in that form only or in any.
 use error::ErrorKind;
 ghost use mathlib.Core.Path.{_≡_};
 ghost use Prim.Native.Nat.{_+_, _*_, _≤_, _<_, _^_};
 ghost use lib.ListN.{length};
 ghost use Rattle.prelude.specs.Answer.{measured};
 ghost use Rattle.prelude.specs.Bytes.{store, stored, Put};
-ghost use Rattle.leb128.specs.Leb.{put, get};
+ghost use Rattle.leb128.specs.Leb.{put, leastOf, get};
 ghost use Rattle.leb128.specs.Answers.{answerOf};
 ghost use Rattle.leb128.specs.Internal.{last, tenth, raised, valueOf};
+
+// Which numbers are read (document 02, W-203); one choice a call.
+pub enum Mode {
+    // Those in their shortest form; others are OVERLONG.
+    Strict,
+    // Also those in more bytes than they need, up to ten.
+    Tolerant,
+}
 
 // The answer of `get`.
 pub enum GetResult {
@@ -17,13 +25,23 @@ pub enum GetResult {
     Err(ErrorKind),
 }
 
-// A last byte after others.
-fn last_byte(b: u8, left: usize) -> GetResult
-    ensures { λ r. ⌜ answerOf r ≡ last 1 b left ⌝ }
+// A last byte of 0 after others: the number has more bytes than it needs.
+fn padded(left: usize, mode: Mode) -> GetResult
+    ensures { λ r. ⌜ answerOf r ≡ last (leastOf mode) 0 left ⌝ }
 {
-    // OVERLONG: it is 0
+    match mode {
+        // OVERLONG
+        Mode::Strict => GetResult::Err(ErrorKind::Overlong),
+        Mode::Tolerant => GetResult::Ok { value: 0, left },
+    }
+}
+
+// A last byte after others. The mode is looked at only if it is 0, which is rare.
+fn last_byte(b: u8, left: usize, mode: Mode) -> GetResult
+    ensures { λ r. ⌜ answerOf r ≡ last (leastOf mode) b left ⌝ }
+{
     if b < 1 {
-        return GetResult::Err(ErrorKind::Overlong);
+        return padded(left, mode);
     }
     GetResult::Ok {
         value: b as u64,
@@ -32,14 +50,14 @@ fn last_byte(b: u8, left: usize) -> GetResult
 }
 
 // The tenth byte.
-fn tenth_byte(b: u8, left: usize) -> GetResult
-    ensures { λ r. ⌜ answerOf r ≡ tenth 1 b left ⌝ }
+fn tenth_byte(b: u8, left: usize, mode: Mode) -> GetResult
+    ensures { λ r. ⌜ answerOf r ≡ tenth (leastOf mode) b left ⌝ }
 {
     // RANGE: it is over 1
     if 1 < b {
         return GetResult::Err(ErrorKind::Range);
     }
-    last_byte(b, left)
+    last_byte(b, left, mode)
 }
 
 // The answer `high` with its number times `unit`, plus `low`.
@@ -57,9 +75,9 @@ fn with_low(low: u64, unit: u64, high: GetResult) -> GetResult
 }
 
 // Reads the rest of a number after a continuation byte: a byte, and at most k after it, which it calls itself on.
-fn get_from(s: &[u8], k: usize) -> GetResult
+fn get_from(s: &[u8], k: usize, mode: Mode) -> GetResult
     requires { ⌜ k ≤ 8 ⌝ }
-    ensures { λ r. ⌜ answerOf r ≡ measured (get k 1 (now (s .entry))) ⌝ }
+    ensures { λ r. ⌜ answerOf r ≡ measured (get mode k (leastOf mode) (now (s .entry))) ⌝ }
 {
     // TRUNC: a byte is wanted at the end
     if s.len() == 0 {
@@ -68,18 +86,18 @@ fn get_from(s: &[u8], k: usize) -> GetResult
     let b = s[0];
     let left = s.len() - 1;
     if k == 0 {
-        return tenth_byte(b, left);
+        return tenth_byte(b, left, mode);
     }
     if b < 128 {
-        return last_byte(b, left);
+        return last_byte(b, left, mode);
     }
-    with_low((b % 128) as u64, 128, get_from(&s[1..], k - 1))
+    with_low((b % 128) as u64, 128, get_from(&s[1..], k - 1, mode))
 }
 
 // Reads the number at the front of s, of at most ten bytes. A number of one byte is read here, in code that is short
 // enough to be inlined; after a continuation byte `get_from` reads the rest.
-pub fn get(s: &[u8]) -> GetResult
-    ensures { λ r. ⌜ answerOf r ≡ measured (get 9 0 (now (s .entry))) ⌝ }
+pub fn get(s: &[u8], mode: Mode) -> GetResult
+    ensures { λ r. ⌜ answerOf r ≡ measured (get mode 9 0 (now (s .entry))) ⌝ }
 {
     if 0 < s.len() {
         let b = s[0];
@@ -89,7 +107,7 @@ pub fn get(s: &[u8]) -> GetResult
                 left: s.len() - 1,
             };
         }
-        return with_low((b % 128) as u64, 128, get_from(&s[1..], 8));
+        return with_low((b % 128) as u64, 128, get_from(&s[1..], 8, mode));
     }
     // TRUNC: the first byte is wanted at the end
     GetResult::Err(ErrorKind::Trunc)

@@ -45,5 +45,5 @@ pub +get-from-spec : {M : Type 1} → statement M
     (λ c. search needs)
     (λ c. search needs)
     (λ c κs. search needs)
-    (λ c κs. omega (arith, get-small _ _ _ (c .get-from .result) (c .get-from .ensures) 8 (omega arith)))
+    (λ c κs. omega (arith, get-small _ _ _ _ (c .get-from .result) (c .get-from .ensures) 8 (omega arith)))
     (λ c. search (needs, get-step, le-ltb, part-from, c .with-low .ensures, c .before .get-from .ensures)))

@@ -19,6 +19,6 @@ get-spec =
     (λ c. search needs)
     (λ c. search needs)
     (λ c κs. search needs)
-    (λ c κs. omega (arith, get-small _ _ _ (c .get-from .result) (c .get-from .ensures) 8 (omega arith)))
+    (λ c κs. omega (arith, get-small _ _ _ _ (c .get-from .result) (c .get-from .ensures) 8 (omega arith)))
     (λ c. search (needs, get-more, part-from, c .with-low .ensures, c .before .get-from .ensures))
-    (λ c. get-nil _ _ _ (omega arith)))
+    (λ c. get-nil _ _ _ _ (omega arith)))

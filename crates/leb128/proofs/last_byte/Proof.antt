@@ -1,9 +1,8 @@
 -- `leb128::last_byte` meets its contract.
-use Rattle.prelude.proofs.Tests.{ladder}
-use Rattle.leb128.specs.Internal.{last}
+use borrow.Author.Needs.{needs}
+use Rattle.leb128.proofs.Steps.{last-zero, last-more}
 use Rattle.leb128.proofs.last_byte.Statement.{statement}
 use Rattle.leb128.proofs.last_byte.Tie as tie
 
 pub last-byte-spec : {M : Type 1} → statement M
-unfolding last
-last-byte-spec = tie.close (tie.spec (λ c. search ladder) (λ c. search ladder))
+last-byte-spec = tie.close (tie.spec (λ c κs. search needs) (λ c. search (needs, last-zero)) (λ c. search (needs, last-more)))
