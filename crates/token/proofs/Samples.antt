@@ -7,16 +7,17 @@ use lib.ListN.{replicate}
 use Rattle.prelude.specs.Answer.{Res, got, bad, guard, then, orError, _>>_, _>>=_}
 use Rattle.error.specs.Error.{Fault, fault, TRUNC, RESERVED, OVERLONG, RANGE, NESTED, LONG_BODY, LONG_LIST}
 use Rattle.leb128.specs.Leb.{get, put}
+use Rattle.leb128.specs.declared.Mode.the-variants.{Strict, Tolerant}
 use Rattle.kind.specs.Kind.{rule}
 use Rattle.token.specs.Token.{Token, token, putIf, emit}
 use Rattle.token.specs.Scan.{getIf, number, body, scanKind, scan}
 
 -- a token alone, and as an item, at offset 7
 alone : List ℕ → Res Fault Token
-alone s = scan false 7 s
+alone s = scan Strict false 7 s
 
 item : List ℕ → Res Fault Token
-item s = scan true 7 s
+item s = scan Strict true 7 s
 
 -- 42, -27, 42.5, "a", a tag, a variant of many without arguments, a pointer
 tokens : List Token
