@@ -14,10 +14,11 @@ use Rattle.prelude.specs.Answer.{Answer, ok, Res, got, bad}
 use Rattle.prelude.specs.Bytes.{Bytes}
 use Rattle.prelude.proofs.Parts.{bytes-drop}
 use Rattle.error.specs.Error.{Fault}
+use Rattle.leb128.specs.declared.Mode.{Mode}
 use Rattle.kind.specs.Kind.{rule, size, pending}
 use Rattle.token.specs.Token.{Token, emit, Fits}
 use Rattle.token.specs.Scan.{scan}
-use Rattle.token.proofs.Laws.{length-emit, drop-emit, scan-emit, emit-scan}
+use Rattle.token.proofs.Laws.{length-token, drop-emit, scan-emit, emit-scan}
 use Rattle.token.proofs.Ends.{Left, scan-left, scan-item, item-pending}
 use Rattle.scan.specs.Answers.{headOf, scanAt}
 use Rattle.scan.specs.declared.Head.{Head}
@@ -63,9 +64,9 @@ within-left s at h (got t rest) left e =
     })
 within-left s at h (bad f) left e = seen-bad (length s) h f e
 
-pub scan-within : (inner : Bool) (s : List ℕ) (at : ℕ) (h : Head) → ok h ≡ scanAt inner s at → Within s at h
+pub scan-within : (mode : Mode) (inner : Bool) (s : List ℕ) (at : ℕ) (h : Head) → ok h ≡ scanAt mode inner s at → Within s at h
 unfolding scanAt
-scan-within inner s at h e = within-left s at h (scan inner at (drop at s)) (scan-left inner at (drop at s)) e
+scan-within mode inner s at h e = within-left s at h (scan mode inner at (drop at s)) (scan-left mode inner at (drop at s)) e
 
 seen-items : (len : ℕ) (h : Head) (t : Token) (rest : List ℕ) → ok h ≡ headOf len (got t rest) → h .items ≡ pending (rule (t .kind)) (t .n) (t .args)
 unfolding headOf
@@ -94,19 +95,19 @@ head-seen at len t rest h =
     let end : len - length rest ≡ at + length (emit t) = omega arith in
     λ i. ok (record { kind = t .kind; n = t .n; items = pending (rule (t .kind)) (t .n) (t .args); first = first i; end = end i })
 
-pub scanAt-emit : (inner : Bool) (p : List ℕ) (t : Token) (s : List ℕ) → Fits inner t s
-    → scanAt inner (p ++ (emit t ++ s)) (length p) ≡ ok (headAt (length p) t)
+pub scanAt-emit : (mode : Mode) (inner : Bool) (p : List ℕ) (t : Token) (s : List ℕ) → Fits mode inner t s
+    → scanAt mode inner (p ++ (emit t ++ s)) (length p) ≡ ok (headAt (length p) t)
 unfolding scanAt
-scanAt-emit inner p t s f =
-    rw (drop-append-seam p (emit t ++ s), scan-emit inner (length p) t s f)
+scanAt-emit mode inner p t s f =
+    rw (drop-append-seam p (emit t ++ s), scan-emit mode inner (length p) t s f)
     (head-seen (length p) (length (p ++ (emit t ++ s))) t s (simp length-append (omega arith)))
 
 -- what a head that was read at `at` says
-pub record Read (inner : Bool) (s : List ℕ) (at : ℕ) (h : Head) : Type 0 where
+pub record Read (mode : Mode) (inner : Bool) (s : List ℕ) (at : ℕ) (h : Head) : Type 0 where
   pub token : Token
   pub rest : List ℕ
   pub same : drop at s ≡ emit token ++ rest
-  pub fits : Fits inner token rest
+  pub fits : Fits mode inner token rest
   pub head : h ≡ headAt at token
   pub body : take (h .end - h .first) (drop (h .first) s) ≡ token .body
 
@@ -114,20 +115,20 @@ pub record Read (inner : Bool) (s : List ℕ) (at : ℕ) (h : Head) : Type 0 whe
 pub body-read : (s rest : List ℕ) (at : ℕ) (t : Token) → drop at s ≡ emit t ++ rest
     → take (headAt at t .end - headAt at t .first) (drop (headAt at t .first) s) ≡ t .body
 body-read s rest at t same =
-    let long = length-emit (t .kind) (t .n) (t .args) (t .body) in
+    let long = length-token t in
     let own : headAt at t .end - headAt at t .first ≡ length (t .body) = omega arith in
     let start : headAt at t .first ≡ at + (length (emit t) - length (t .body)) = omega arith in
     rw (own, start, ← drop-drop (length (emit t) - length (t .body)) at s, same, drop-emit t rest) (take-append-seam (t .body) rest)
 
-pub emit-scanAt : (inner : Bool) (s : List ℕ) (at : ℕ) (h : Head) → Bytes s → ok h ≡ scanAt inner s at → Read inner s at h
+pub emit-scanAt : (mode : Mode) (inner : Bool) (s : List ℕ) (at : ℕ) (h : Head) → Bytes s → ok h ≡ scanAt mode inner s at → Read mode inner s at h
 unfolding scanAt
-emit-scanAt inner s at h b e = by-cases (scan inner at (drop at s)) refl e
+emit-scanAt mode inner s at h b e = by-cases (scan mode inner at (drop at s)) refl e
   where
-    by-cases : (r : Res Fault Token) → scan inner at (drop at s) ≡ r → ok h ≡ headOf (length s) r → Read inner s at h
+    by-cases : (r : Res Fault Token) → scan mode inner at (drop at s) ≡ r → ok h ≡ headOf (length s) r → Read mode inner s at h
     by-cases (got t rest) q e′ =
-        let r = emit-scan inner at (drop at s) t rest (bytes-drop at s b) q in
+        let r = emit-scan mode inner at (drop at s) t rest (bytes-drop at s b) q in
         let sum = length-append (emit t) rest in
-        let pos = length-emit (t .kind) (t .n) (t .args) (t .body) in
+        let pos = length-token t in
         let all : length s ≡ at + length (emit t) + length rest = omega (arith, ap length (r .same), length-drop at s) in
         let head : h ≡ headAt at t = cc (head-seen at (length s) t rest all) in
         record { token = t; rest = rest; same = r .same; fits = r .fits; head = head; body = rw head (body-read s rest at t (r .same)) }
@@ -136,17 +137,17 @@ emit-scanAt inner s at h b e = by-cases (scan inner at (drop at s)) refl e
 -- ---- items
 
 -- an item also reads as a value, and has no items itself
-pub record Item (s : List ℕ) (at : ℕ) (h : Head) : Type 0 where
-  pub value : ok h ≡ scanAt false s at
+pub record Item (mode : Mode) (s : List ℕ) (at : ℕ) (h : Head) : Type 0 where
+  pub value : ok h ≡ scanAt mode false s at
   pub none : h .items ≡ 0
 
-pub scanAt-item : (s : List ℕ) (at : ℕ) (h : Head) → ok h ≡ scanAt true s at → Item s at h
+pub scanAt-item : (mode : Mode) (s : List ℕ) (at : ℕ) (h : Head) → ok h ≡ scanAt mode true s at → Item mode s at h
 unfolding scanAt
-scanAt-item s at h e = by-cases (scan true at (drop at s)) refl e
+scanAt-item mode s at h e = by-cases (scan mode true at (drop at s)) refl e
   where
-    by-cases : (r : Res Fault Token) → scan true at (drop at s) ≡ r → ok h ≡ headOf (length s) r → Item s at h
+    by-cases : (r : Res Fault Token) → scan mode true at (drop at s) ≡ r → ok h ≡ headOf (length s) r → Item mode s at h
     by-cases (got t rest) q e′ = record {
-      value = e′ ∙ ap (headOf (length s)) (sym (scan-item at (drop at s) t rest q));
-      none = seen-items (length s) h t rest e′ ∙ item-pending at (drop at s) t rest q;
+      value = e′ ∙ ap (headOf (length s)) (sym (scan-item mode at (drop at s) t rest q));
+      none = seen-items (length s) h t rest e′ ∙ item-pending mode at (drop at s) t rest q;
     }
     by-cases (bad f) q e′ = seen-bad _ h f e′

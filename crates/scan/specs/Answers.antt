@@ -12,6 +12,7 @@ use lib.ListN.{length, take, drop}
 use Rattle.prelude.specs.Answer.{Answer, ok, error, Res, got, bad}
 use Rattle.error.specs.Error as errors
 use Rattle.error.specs.Error.{Fault}
+use Rattle.leb128.specs.declared.Mode.{Mode}
 use Rattle.kind.specs.Kind.{rule, pending}
 use Rattle.token.specs.Token.{Token}
 use Rattle.token.specs.Scan.{scan}
@@ -33,8 +34,8 @@ headOf len (got t rest) = ok (record {
 })
 headOf len (bad e) = error e
 
-unfoldable pub scanAt : Bool → List ℕ → ℕ → Answer Fault Head
-scanAt inner s at = headOf (length s) (scan inner at (drop at s))
+unfoldable pub scanAt : Mode → Bool → List ℕ → ℕ → Answer Fault Head
+scanAt mode inner s at = headOf (length s) (scan mode inner at (drop at s))
 
 abbrev pub bodyOn : List ℕ → Head → List ℕ
 bodyOn s h = take (h .end - h .first) (drop (h .first) s)

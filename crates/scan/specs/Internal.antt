@@ -10,6 +10,7 @@ use lib.ListN.{length, drop}
 use Rattle.prelude.specs.Pick.{pick}
 use Rattle.prelude.specs.Answer.{Answer, ok, error, measured}
 use Rattle.error.specs.Error.{Fault, fault}
+use Rattle.leb128.specs.declared.Mode.{Mode}
 use Rattle.kind.specs.Kind.{size, counted, pending}
 use Rattle.kind.specs.declared.Rule.{Rule}
 use Rattle.token.specs.Scan.{getIf, shortage}
@@ -25,5 +26,5 @@ abbrev pub andThen : ℕ → (ℕ → ℕ → Answer Fault Head) → Answer ℕ 
 andThen at f (ok a) = f (a .0) (a .1)
 andThen at f (error e) = error (fault e at)
 
-abbrev pub ranged : List ℕ → ℕ → ℕ → Rule → ℕ → ℕ → Answer Fault Head
-ranged s at k r n left = andThen at (fitted (length s) at k r n) (measured (getIf (r .args) (drop (length s - left) s)))
+abbrev pub ranged : Mode → List ℕ → ℕ → ℕ → Rule → ℕ → ℕ → Answer Fault Head
+ranged mode s at k r n left = andThen at (fitted (length s) at k r n) (measured (getIf mode (r .args) (drop (length s - left) s)))

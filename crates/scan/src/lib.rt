@@ -2,6 +2,7 @@
 use error::Error;
 use error::ErrorKind;
 use leb128::GetResult;
+use leb128::Mode;
 ghost use mathlib.Core.Path.{_≡_};
 ghost use Rattle.scan.specs.Answers.{answerOf, scanAt};
 
@@ -26,8 +27,8 @@ pub enum ScanResult {
 
 // Reads the token at the offset `at` of a region, as an item if `inner` is true. At the region's end and past it:
 // TRUNC, placed at `at`. One function on purpose: returning the answer through a helper costs more than the parse.
-pub fn scan(region: &[u8], at: usize, inner: bool) -> ScanResult
-    ensures { λ r. ⌜ answerOf r ≡ scanAt inner (now (region .entry)) at ⌝ }
+pub fn scan(region: &[u8], at: usize, inner: bool, mode: Mode) -> ScanResult
+    ensures { λ r. ⌜ answerOf r ≡ scanAt mode inner (now (region .entry)) at ⌝ }
 {
     let len = region.len();
     // TRUNC: a token is wanted at the region's end
@@ -57,13 +58,13 @@ pub fn scan(region: &[u8], at: usize, inner: bool) -> ScanResult
         });
     }
     let start = at + 1;
-    match scan_number::number(low, rule.most, &region[start..]) {
+    match scan_number::number(low, rule.most, &region[start..], mode) {
         GetResult::Ok { value, left } => {
             let n = value;
             let first = len - left;
             // items that a second number counts, and no body
             if rule.args {
-                return match leb128::get(&region[first..]) {
+                return match leb128::get(&region[first..], mode) {
                     GetResult::Ok { value, left } => {
                         let after = len - left;
                         // LONG_LIST: the count of arguments exceeds the bytes left

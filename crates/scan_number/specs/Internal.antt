@@ -8,11 +8,12 @@ use lib.Dec.{leb}
 use Rattle.prelude.specs.Pick.{pick}
 use Rattle.prelude.specs.Answer.{Answer, ok, error, measured}
 use Rattle.error.specs.Error.{RANGE}
+use Rattle.leb128.specs.declared.Mode.{Mode}
 use Rattle.token.specs.Scan.{getIf}
 
 abbrev pub inRange : ℕ → ℕ → Answer ℕ (ℕ × ℕ) → Answer ℕ (ℕ × ℕ)
 inRange low most (ok a) = pick (leb (low + a .0) most) (ok (low + a .0, a .1)) (error RANGE)
 inRange low most (error e) = error e
 
-unfoldable pub numbered : ℕ → ℕ → List ℕ → Answer ℕ (ℕ × ℕ)
-numbered low most s = inRange low most (measured (getIf (leb 15 low) s))
+unfoldable pub numbered : Mode → ℕ → ℕ → List ℕ → Answer ℕ (ℕ × ℕ)
+numbered mode low most s = inRange low most (measured (getIf mode (leb 15 low) s))

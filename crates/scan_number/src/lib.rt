@@ -3,6 +3,7 @@ use error::Error;
 use error::ErrorKind;
 use kind::Rule;
 use leb128::GetResult;
+use leb128::Mode;
 ghost use mathlib.Core.Path.{_≡_};
 ghost use Prim.Native.Nat.{_+_, _*_, _≤_, _<_, _^_};
 ghost use lib.Dec.{leb};
@@ -14,9 +15,9 @@ ghost use Rattle.token.specs.Scan as tokens;
 ghost use Rattle.scan_number.specs.Internal.{numbered};
 
 // The number n of a header with this low nibble, if s comes after it, and the bytes left after n.
-pub fn number(low: u8, most: u64, s: &[u8]) -> GetResult
+pub fn number(low: u8, most: u64, s: &[u8], mode: Mode) -> GetResult
     requires { ⌜ (low ≤ most) × (low < 16) ⌝ }
-    ensures { λ r. ⌜ numbers.answerOf r ≡ numbered low most (now (s .entry)) ⌝ }
+    ensures { λ r. ⌜ numbers.answerOf r ≡ numbered mode low most (now (s .entry)) ⌝ }
 {
     if low < kind::EXTENDED as u8 {
         return GetResult::Ok {
@@ -24,7 +25,7 @@ pub fn number(low: u8, most: u64, s: &[u8]) -> GetResult
             left: s.len(),
         };
     }
-    match leb128::get(s) {
+    match leb128::get(s, mode) {
         GetResult::Ok { value, left } => {
             // RANGE: n is over its kind's bound
             if most - kind::EXTENDED < value {

@@ -50,11 +50,11 @@ n w = w .before .value .given .0 .0
 abbrev left : tie.After-known-told → ℕ
 left w = w .before .value .given .0 .1 .0
 
-number : (w : tie.After-known-told) → let a = start (head w) .args in AfterNumber true (a .region .now) (a .at) (rule (head w)) (Ok (n w) (left w))
+number : (w : tie.After-known-told) → let a = start (head w) .args in AfterNumber (a .mode) true (a .region .now) (a .at) (rule (head w)) (Ok (n w) (left w))
 number w =
     let c = head w in
     let m = w .before .before .before in
-    scan-number _ _ _ (ruled c .before .before .if1 .left) (ruled c .rule-of .ensures) (used c) (c .before .before .is-immediate .ensures)
+    scan-number _ _ _ _ (ruled c .before .before .if1 .left) (ruled c .rule-of .ensures) (used c) (c .before .before .is-immediate .ensures)
     (rw (flat c)) (m .number .result) _ (rw part-from at (m .number .ensures)) (w .before .value .given .1)
 
 left-lt : (w : tie.After-known-told) → left w < 2 ^ 63

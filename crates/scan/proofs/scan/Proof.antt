@@ -27,10 +27,11 @@ start c = ruled c .before .before .before .before
 abbrev rule : tie.After-number → Rule
 rule c = ruled c .rule-of .result
 
-first : (c : tie.After-number) (x : GetResult) → c .number .result ≡ x → let a = start c .args in AfterNumber (a .inner) (a .region .now) (a .at) (rule c) x
+first : (c : tie.After-number) (x : GetResult) → c .number .result ≡ x
+    → let a = start c .args in AfterNumber (a .mode) (a .inner) (a .region .now) (a .at) (rule c) x
 first c x is =
     let i = c .before .before .before in
-    scan-number _ _ _ (ruled c .before .before .if1 .left) (ruled c .rule-of .ensures) (i .before .if2 .left) (i .is-immediate .ensures)
+    scan-number _ _ _ _ (ruled c .before .before .if1 .left) (ruled c .rule-of .ensures) (i .before .if2 .left) (i .is-immediate .ensures)
     (c .before .before .if3 .left) (c .number .result) x (rw part-from at (c .number .ensures)) is
 
 -- ---- after n
@@ -44,7 +45,8 @@ n w = w .before .value .given .0 .0
 abbrev left : tie.After-known-told → ℕ
 left w = w .before .value .given .0 .1 .0
 
-number : (w : tie.After-known-told) → let a = start (read w) .args in AfterNumber (a .inner) (a .region .now) (a .at) (rule (read w)) (Ok (n w) (left w))
+number : (w : tie.After-known-told)
+    → let a = start (read w) .args in AfterNumber (a .mode) (a .inner) (a .region .now) (a .at) (rule (read w)) (Ok (n w) (left w))
 number w = first (read w) _ (w .before .value .given .1)
 
 left-lt : (w : tie.After-known-told) → left w < 2 ^ 63
@@ -52,7 +54,7 @@ left-lt w = omega (arith, number w .short, start (read w) .good .0 .1)
 
 second : (c : tie.After-get) (x : GetResult) → c .get .result ≡ x → let w = c .before .before .before in
     let a = start (read w) .args in
-    Counted (a .inner) (a .region .now) (a .at) (getD (a .region .now) (a .at) 0 / 16) (n w) x
+    Counted (a .mode) (a .inner) (a .region .now) (a .at) (getD (a .region .now) (a .at) 0 / 16) (n w) x
 second c x is =
     let e = c .before .before in
     scan-second (number (e .before)) (e .if4 .taken) (c .get .result) x (rw part-from at (c .get .ensures)) is
@@ -72,10 +74,10 @@ scan-spec =
     (λ c. search (scan-past, arith))
     (λ c. search needs)
     (λ c κs. search needs)
-    (λ c. scan-reserved _ _ _ (omega arith) (c .before .before .rule-of .ensures) (c .if2 .taken))
+    (λ c. scan-reserved _ _ _ _ (omega arith) (c .before .before .rule-of .ensures) (c .if2 .taken))
     (λ c κs. search needs)
     (λ c. let e = c .before .before in
-    scan-nested _ _ _ (omega arith) (e .before .before .rule-of .ensures) (e .if2 .left) (c .before .is-immediate .ensures) (c .if3 .taken))
+    scan-nested _ _ _ _ (omega arith) (e .before .before .rule-of .ensures) (e .if2 .left) (c .before .is-immediate .ensures) (c .if3 .taken))
     (λ c. search needs)
     (λ c. search needs)
     (λ c. search needs)
