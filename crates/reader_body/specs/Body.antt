@@ -17,6 +17,7 @@ use lib.ListN.{take, drop}
 use Rattle.prelude.specs.Pick.{pick}
 use Rattle.prelude.specs.Answer.{Answer, ok, error, bind}
 use Rattle.error.specs.Error.{Fault, fault, WRONG_KIND}
+use Rattle.leb128.specs.declared.Mode.{Mode}
 use Rattle.scan.specs.declared.Head.{Head}
 use Rattle.reader_region.specs.Region.{inRegion}
 use Rattle.reader_follow.specs.Follow.{position, followFrom}
@@ -24,18 +25,18 @@ use Rattle.reader_follow.specs.Follow.{position, followFrom}
 abbrev pub bodyPlaceOn : ℕ → Head → Answer Fault (ℕ × ℕ)
 bodyPlaceOn at h = pick (eqb (h .kind) 4 || eqb (h .kind) 5) (ok (h .first, h .end - h .first)) (error (fault WRONG_KIND at))
 
-unfoldable pub bodyPlaceIn : List ℕ → ℕ → Answer Fault (ℕ × ℕ)
-bodyPlaceIn s at = bind (followFrom s (position at 0)) (λ m. bodyPlaceOn (m .place) (m .head))
+unfoldable pub bodyPlaceIn : Mode → List ℕ → ℕ → Answer Fault (ℕ × ℕ)
+bodyPlaceIn mode s at = bind (followFrom mode s (position at 0)) (λ m. bodyPlaceOn (m .place) (m .head))
 
-abbrev pub bodyPlaceOf : List ℕ → ℕ → Answer Fault (ℕ × ℕ)
-bodyPlaceOf file at = inRegion file at (λ s. bodyPlaceIn s at)
+abbrev pub bodyPlaceOf : Mode → List ℕ → ℕ → Answer Fault (ℕ × ℕ)
+bodyPlaceOf mode file at = inRegion file at (λ s. bodyPlaceIn mode s at)
 
 abbrev pub bodyPart : List ℕ → Answer Fault (ℕ × ℕ) → List ℕ
 bodyPart file (ok p) = take (p .1) (drop (p .0) file)
 bodyPart file (error e) = []
 
-abbrev pub bodyOf : List ℕ → ℕ → List ℕ
-bodyOf file at = bodyPart file (bodyPlaceOf file at)
+abbrev pub bodyOf : Mode → List ℕ → ℕ → List ℕ
+bodyOf mode file at = bodyPart file (bodyPlaceOf mode file at)
 
 abbrev pub Placed : ℕ × ℕ → Answer Fault (ℕ × ℕ) → ℕ × ℕ → Type 0
 Placed whole (ok p) part = part ≡ (whole .0, p .0 + whole .1)

@@ -1,6 +1,7 @@
 // The body that a value at an offset of any file is or leads to (document 01, "Questions at an offset").
 use error::Error;
 use error::ErrorKind;
+use leb128::Mode;
 use reader_follow::FollowHeadResult;
 use scan::Head;
 ghost use mathlib.Core.Path.{_≡_};
@@ -35,20 +36,20 @@ fn body_place_on(at: usize, h: Head) -> BodyResult
 }
 
 // Where the bytes are of the text or byte string that the value at `at` is or leads to.
-pub fn body_place(file: &[u8], at: usize) -> BodyResult
-    ensures { λ r. ⌜ bodyAnswer r ≡ bodyPlaceOf (now (file .entry)) at ⌝ }
+pub fn body_place(file: &[u8], at: usize, mode: Mode) -> BodyResult
+    ensures { λ r. ⌜ bodyAnswer r ≡ bodyPlaceOf mode (now (file .entry)) at ⌝ }
 {
-    match reader_follow::follow_head(file, at) {
+    match reader_follow::follow_head(file, at, mode) {
         FollowHeadResult::Ok { at, hops: _, head } => body_place_on(at, head),
         FollowHeadResult::Err(e) => BodyResult::Err(e),
     }
 }
 
 // The same as the part of the file that lies there; no bytes on an error, which `body_place` reports.
-pub fn body(file: &[u8], at: usize) -> &[u8]
-    ensures { λ r. ⌜ Placed (file .entry .ptr) (bodyPlaceOf (now (file .entry)) at) (r .ptr) × (now r ≡ bodyOf (now (file .entry)) at) ⌝ }
+pub fn body(file: &[u8], at: usize, mode: Mode) -> &[u8]
+    ensures { λ r. ⌜ Placed (file .entry .ptr) (bodyPlaceOf mode (now (file .entry)) at) (r .ptr) × (now r ≡ bodyOf mode (now (file .entry)) at) ⌝ }
 {
-    match body_place(file, at) {
+    match body_place(file, at, mode) {
         BodyResult::Ok { first, len } => {
             let end = first + len;
             &file[first..end]

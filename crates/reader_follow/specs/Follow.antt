@@ -18,6 +18,7 @@ use Rattle.prelude.specs.Pick.{pick}
 use Rattle.prelude.specs.Answer.{Answer, ok, error, bind}
 use Rattle.prelude.specs.Loop.{Turn, go, stop, from}
 use Rattle.error.specs.Error.{Fault, fault}
+use Rattle.leb128.specs.declared.Mode.{Mode}
 use Rattle.scan.specs.declared.Head.{Head}
 use Rattle.reader_region.specs.Region.{inRegion, peekIn}
 
@@ -40,18 +41,18 @@ abbrev pub followTurned : Position → Answer Fault Head → Turn Position (Answ
 followTurned p (ok h) = pick (eqb (h .kind) 15) (go (position (p .place - h .n - 1) (p .hops + 1))) (stop (ok (followed (p .place) (p .hops) h)))
 followTurned p (error e) = stop (error e)
 
-unfoldable pub followTurn : List ℕ → Position → Turn Position (Answer Fault Followed)
-followTurn s p = followTurned p (peekIn false s (p .place))
+unfoldable pub followTurn : Mode → List ℕ → Position → Turn Position (Answer Fault Followed)
+followTurn mode s p = followTurned p (peekIn mode false s (p .place))
 
 -- each pointer leads to a lower offset, so the loop stops; `fault 0 0` is never the answer
-unfoldable pub followFrom : List ℕ → Position → Answer Fault Followed
-followFrom s p = from (followTurn s) (λ q. q .place) (error (fault 0 0)) p
+unfoldable pub followFrom : Mode → List ℕ → Position → Answer Fault Followed
+followFrom mode s p = from (followTurn mode s) (λ q. q .place) (error (fault 0 0)) p
 
-abbrev pub followHeadOf : List ℕ → ℕ → Answer Fault Followed
-followHeadOf file at = inRegion file at (λ s. followFrom s (position at 0))
+abbrev pub followHeadOf : Mode → List ℕ → ℕ → Answer Fault Followed
+followHeadOf mode file at = inRegion file at (λ s. followFrom mode s (position at 0))
 
-unfoldable pub followIn : List ℕ → ℕ → Answer Fault (ℕ × ℕ)
-followIn s at = bind (followFrom s (position at 0)) (λ m. ok (m .place, m .hops))
+unfoldable pub followIn : Mode → List ℕ → ℕ → Answer Fault (ℕ × ℕ)
+followIn mode s at = bind (followFrom mode s (position at 0)) (λ m. ok (m .place, m .hops))
 
-abbrev pub followOf : List ℕ → ℕ → Answer Fault (ℕ × ℕ)
-followOf file at = inRegion file at (λ s. followIn s at)
+abbrev pub followOf : Mode → List ℕ → ℕ → Answer Fault (ℕ × ℕ)
+followOf mode file at = inRegion file at (λ s. followIn mode s at)

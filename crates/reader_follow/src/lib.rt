@@ -1,5 +1,6 @@
 // Pointers followed from an offset of any file (document 01, "Questions at an offset").
 use error::Error;
+use leb128::Mode;
 use reader_region::OffsetResult;
 use scan::Head;
 use scan::ScanResult;
@@ -21,13 +22,13 @@ pub enum FollowHeadResult {
 }
 
 // From pointer to pointer, from `at` of a region to a value of another kind.
-pub fn follow_from(region: &[u8], at: usize) -> FollowHeadResult
-    ensures { λ r. ⌜ followHeadAnswer r ≡ followFrom (now (region .entry)) (position at 0) ⌝ }
+pub fn follow_from(region: &[u8], at: usize, mode: Mode) -> FollowHeadResult
+    ensures { λ r. ⌜ followHeadAnswer r ≡ followFrom mode (now (region .entry)) (position at 0) ⌝ }
 {
     let mut q = at;
     let mut hops: usize = 0;
     loop {
-        match reader_region::peek_in(region, q, false) {
+        match reader_region::peek_in(region, q, false, mode) {
             ScanResult::Ok(h) => {
                 if h.kind != kind::KIND_POINTER {
                     return FollowHeadResult::Ok {
@@ -47,20 +48,20 @@ pub fn follow_from(region: &[u8], at: usize) -> FollowHeadResult
 }
 
 // The same from an offset of a file.
-pub fn follow_head(file: &[u8], at: usize) -> FollowHeadResult
-    ensures { λ r. ⌜ followHeadAnswer r ≡ followHeadOf (now (file .entry)) at ⌝ }
+pub fn follow_head(file: &[u8], at: usize, mode: Mode) -> FollowHeadResult
+    ensures { λ r. ⌜ followHeadAnswer r ≡ followHeadOf mode (now (file .entry)) at ⌝ }
 {
     match reader_region::region_len(file.len(), at) {
-        OffsetResult::Ok(n) => follow_from(&file[..n], at),
+        OffsetResult::Ok(n) => follow_from(&file[..n], at, mode),
         OffsetResult::Err(e) => FollowHeadResult::Err(e),
     }
 }
 
 // Follows pointers from the value at `at` to one that is not a pointer. References are not followed.
-pub fn follow(file: &[u8], at: usize) -> FollowResult
-    ensures { λ r. ⌜ followAnswer r ≡ followOf (now (file .entry)) at ⌝ }
+pub fn follow(file: &[u8], at: usize, mode: Mode) -> FollowResult
+    ensures { λ r. ⌜ followAnswer r ≡ followOf mode (now (file .entry)) at ⌝ }
 {
-    match follow_head(file, at) {
+    match follow_head(file, at, mode) {
         FollowHeadResult::Ok { at, hops, head: _ } => FollowResult::Ok { at, hops },
         FollowHeadResult::Err(e) => FollowResult::Err(e),
     }

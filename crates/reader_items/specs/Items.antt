@@ -15,31 +15,32 @@ use lib.ListN.{length}
 use Rattle.prelude.specs.Pick.{pick}
 use Rattle.prelude.specs.Answer.{Answer, ok, error, bind}
 use Rattle.error.specs.Error.{Fault, fault, TRUNC, NO_ITEM, WRONG_KIND}
+use Rattle.leb128.specs.declared.Mode.{Mode}
 use Rattle.kind.specs.Kind.{rule, immediate}
 use Rattle.scan.specs.declared.Head.{Head}
 use Rattle.reader_region.specs.Region.{inRegion, peekIn}
 
-unfoldable pub skipItems : List ℕ → ℕ → ℕ → Answer Fault ℕ
-skipItems s zero at = ok at
-skipItems s (suc k) at = bind (peekIn true s at) (λ h. skipItems s k (h .end))
+unfoldable pub skipItems : Mode → List ℕ → ℕ → ℕ → Answer Fault ℕ
+skipItems mode s zero at = ok at
+skipItems mode s (suc k) at = bind (peekIn mode true s at) (λ h. skipItems mode s k (h .end))
 
-unfoldable pub skipIn : List ℕ → ℕ → Answer Fault ℕ
-skipIn s at = bind (peekIn false s at) (λ h. skipItems s (h .items) (h .end))
+unfoldable pub skipIn : Mode → List ℕ → ℕ → Answer Fault ℕ
+skipIn mode s at = bind (peekIn mode false s at) (λ h. skipItems mode s (h .items) (h .end))
 
-abbrev pub skipOf : List ℕ → ℕ → Answer Fault ℕ
-skipOf file at = inRegion file at (λ s. skipIn s at)
+abbrev pub skipOf : Mode → List ℕ → ℕ → Answer Fault ℕ
+skipOf mode file at = inRegion file at (λ s. skipIn mode s at)
 
 unfoldable pub startsIn : ℕ → ℕ → Answer Fault ℕ
 startsIn len q = pick (ltb q len) (ok q) (error (fault TRUNC len))
 
-unfoldable pub itemOn : List ℕ → ℕ → ℕ → Head → Answer Fault ℕ
-itemOn s at i h =
+unfoldable pub itemOn : Mode → List ℕ → ℕ → ℕ → Head → Answer Fault ℕ
+itemOn mode s at i h =
     pick (immediate (rule (h .kind))) (error (fault WRONG_KIND at))
     (pick (leb (h .items) i) (error (fault NO_ITEM at))
-    (bind (skipItems s i (h .end)) (startsIn (length s))))
+    (bind (skipItems mode s i (h .end)) (startsIn (length s))))
 
-unfoldable pub itemIn : List ℕ → ℕ → ℕ → Answer Fault ℕ
-itemIn s at i = bind (peekIn false s at) (itemOn s at i)
+unfoldable pub itemIn : Mode → List ℕ → ℕ → ℕ → Answer Fault ℕ
+itemIn mode s at i = bind (peekIn mode false s at) (itemOn mode s at i)
 
-abbrev pub itemOf : List ℕ → ℕ → ℕ → Answer Fault ℕ
-itemOf file at i = inRegion file at (λ s. itemIn s at i)
+abbrev pub itemOf : Mode → List ℕ → ℕ → ℕ → Answer Fault ℕ
+itemOf mode file at i = inRegion file at (λ s. itemIn mode s at i)

@@ -1,6 +1,7 @@
 // The end of a value, and its items, at an offset of any file (document 01, "Questions at an offset").
 use error::Error;
 use error::ErrorKind;
+use leb128::Mode;
 use reader_region::OffsetResult;
 use scan::Head;
 use scan::ScanResult;
@@ -9,13 +10,13 @@ ghost use Rattle.reader_region.specs.Answers.{offsetAnswer};
 ghost use Rattle.reader_items.specs.Items.{skipItems, skipOf, startsIn, itemOn, itemOf};
 
 // The offset after `items` items from `at` on.
-fn skip_items(region: &[u8], at: usize, items: u64) -> OffsetResult
-    ensures { λ r. ⌜ offsetAnswer r ≡ skipItems (now (region .entry)) items at ⌝ }
+fn skip_items(region: &[u8], at: usize, items: u64, mode: Mode) -> OffsetResult
+    ensures { λ r. ⌜ offsetAnswer r ≡ skipItems mode (now (region .entry)) items at ⌝ }
 {
     let mut q = at;
     let mut k = items;
     while 0 < k {
-        match reader_region::peek_in(region, q, true) {
+        match reader_region::peek_in(region, q, true, mode) {
             ScanResult::Ok(h) => {
                 q = h.end;
                 k = k - 1;
@@ -29,11 +30,11 @@ fn skip_items(region: &[u8], at: usize, items: u64) -> OffsetResult
 }
 
 // Where the value at `at` ends. Its items are looked at, but not text bytes; a target only has to be 0 or more.
-pub fn skip(file: &[u8], at: usize) -> OffsetResult
-    ensures { λ r. ⌜ offsetAnswer r ≡ skipOf (now (file .entry)) at ⌝ }
+pub fn skip(file: &[u8], at: usize, mode: Mode) -> OffsetResult
+    ensures { λ r. ⌜ offsetAnswer r ≡ skipOf mode (now (file .entry)) at ⌝ }
 {
-    match reader_region::peek(file, at) {
-        ScanResult::Ok(h) => skip_items(reader_region::region(file), h.end, h.items),
+    match reader_region::peek(file, at, mode) {
+        ScanResult::Ok(h) => skip_items(reader_region::region(file), h.end, h.items, mode),
         ScanResult::Err(e) => OffsetResult::Err(e),
     }
 }
@@ -53,8 +54,8 @@ pub fn starts_in(len: usize, q: usize) -> OffsetResult
 }
 
 // The offset of an item of the value at `at` of a region, which has the head h.
-fn item_on(region: &[u8], at: usize, index: usize, h: Head) -> OffsetResult
-    ensures { λ r. ⌜ offsetAnswer r ≡ itemOn (now (region .entry)) at index h ⌝ }
+fn item_on(region: &[u8], at: usize, index: usize, h: Head, mode: Mode) -> OffsetResult
+    ensures { λ r. ⌜ offsetAnswer r ≡ itemOn mode (now (region .entry)) at index h ⌝ }
 {
     let kind = h.kind;
     let rule = kind::rule_of(kind);
@@ -73,7 +74,7 @@ fn item_on(region: &[u8], at: usize, index: usize, h: Head) -> OffsetResult
             place: at,
         });
     }
-    match skip_items(region, h.end, i) {
+    match skip_items(region, h.end, i, mode) {
         OffsetResult::Ok(q) => starts_in(region.len(), q),
         OffsetResult::Err(e) => OffsetResult::Err(e),
     }
@@ -81,11 +82,11 @@ fn item_on(region: &[u8], at: usize, index: usize, h: Head) -> OffsetResult
 
 // The offset of an item of the value at `at`, which is not followed. The time grows with the items before it: for a value
 // that `skip` accepts, a loop over its items asks for item 0, and then, while there are more, calls `skip` on the one before.
-pub fn item(file: &[u8], at: usize, index: usize) -> OffsetResult
-    ensures { λ r. ⌜ offsetAnswer r ≡ itemOf (now (file .entry)) at index ⌝ }
+pub fn item(file: &[u8], at: usize, index: usize, mode: Mode) -> OffsetResult
+    ensures { λ r. ⌜ offsetAnswer r ≡ itemOf mode (now (file .entry)) at index ⌝ }
 {
-    match reader_region::peek(file, at) {
-        ScanResult::Ok(h) => item_on(reader_region::region(file), at, index, h),
+    match reader_region::peek(file, at, mode) {
+        ScanResult::Ok(h) => item_on(reader_region::region(file), at, index, h, mode),
         ScanResult::Err(e) => OffsetResult::Err(e),
     }
 }

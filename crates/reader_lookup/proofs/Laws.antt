@@ -15,6 +15,7 @@ use Rattle.prelude.specs.Loop.{Turn, go, stop, follow}
 use Rattle.prelude.specs.Answer.{Answer, ok, error, bind}
 use Rattle.prelude.proofs.Tests.{and-l, and-r}
 use Rattle.error.specs.Error.{Fault, fault, NO_ITEM}
+use Rattle.leb128.specs.declared.Mode.{Mode}
 use Rattle.reader_lookup.specs.Lookup.{same, pairs}
 use Rattle.reader_lookup.specs.Internal.{orStop, pairAt}
 
@@ -82,20 +83,20 @@ follow-pick : {S R : Type 0} (t : Bool) (x y : Turn S R) (g : S → R) → follo
 follow-pick true x y g = refl
 follow-pick false x y g = refl
 
-module _ (s : List ℕ) (at : ℕ) (key : List ℕ) where
-  pairs-turn : (k q : ℕ) → pairs s at key (suc k) q ≡ follow (pairAt s key q) (pairs s at key k)
+module _ (mode : Mode) (s : List ℕ) (at : ℕ) (key : List ℕ) where
+  pairs-turn : (k q : ℕ) → pairs mode s at key (suc k) q ≡ follow (pairAt mode s key q) (pairs mode s at key k)
   unfolding pairs
   pairs-turn k q = simp (follow-orStop, follow-pick)
 
-  pub pairs-none : (k q : ℕ) → k ≤ 0 → error (fault NO_ITEM at) ≡ pairs s at key k q
+  pub pairs-none : (k q : ℕ) → k ≤ 0 → error (fault NO_ITEM at) ≡ pairs mode s at key k q
   unfolding pairs
   pairs-none zero q h = refl
   pairs-none (suc k) q h = absurd (not-suc-le-zero h)
 
-  pub pairs-next : (k q next : ℕ) → 0 < k → go next ≡ pairAt s key q → pairs s at key (k - 1) next ≡ pairs s at key k q
+  pub pairs-next : (k q next : ℕ) → 0 < k → go next ≡ pairAt mode s key q → pairs mode s at key (k - 1) next ≡ pairs mode s at key k q
   pairs-next zero q next pos e = absurd (not-suc-le-zero pos)
   pairs-next (suc k) q next pos e = rw (sub-one (suc k), pairs-turn k q, ← e)
 
-  pub pairs-stop : (k q : ℕ) (a : Answer Fault ℕ) → 0 < k → stop a ≡ pairAt s key q → a ≡ pairs s at key k q
+  pub pairs-stop : (k q : ℕ) (a : Answer Fault ℕ) → 0 < k → stop a ≡ pairAt mode s key q → a ≡ pairs mode s at key k q
   pairs-stop zero q a pos e = absurd (not-suc-le-zero pos)
   pairs-stop (suc k) q a pos e = rw (pairs-turn k q, ← e)

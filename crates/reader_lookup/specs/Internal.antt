@@ -13,6 +13,7 @@ use Rattle.prelude.specs.Pick.{pick}
 use Rattle.prelude.specs.Answer.{Answer, ok, error}
 use Rattle.prelude.specs.Loop.{Turn, go, stop}
 use Rattle.error.specs.Error.{Fault}
+use Rattle.leb128.specs.declared.Mode.{Mode}
 use Rattle.scan.specs.declared.Head.{Head}
 use Rattle.reader_region.specs.Region.{peekIn}
 use Rattle.reader_region.specs.Answers.{offsetAnswer}
@@ -26,11 +27,11 @@ unfoldable pub orStop : {A S R : Type 0} → Answer Fault A → (A → Turn S (A
 orStop (ok a) f = f a
 orStop (error e) f = stop (error e)
 
-abbrev pub matchKey : List ℕ → List ℕ → ℕ → Head → Turn ℕ (Answer Fault ℕ)
-matchKey s key q h = pick (isKey s key h) (stop (startsIn (length s) q)) (orStop (peekIn true s q) (λ v. go (v .end)))
+abbrev pub matchKey : Mode → List ℕ → List ℕ → ℕ → Head → Turn ℕ (Answer Fault ℕ)
+matchKey mode s key q h = pick (isKey s key h) (stop (startsIn (length s) q)) (orStop (peekIn mode true s q) (λ v. go (v .end)))
 
-abbrev pub pairAt : List ℕ → List ℕ → ℕ → Turn ℕ (Answer Fault ℕ)
-pairAt s key q = orStop (peekIn true s q) (λ h. orStop (followFrom s (position q 0)) (λ m. matchKey s key (h .end) (m .head)))
+abbrev pub pairAt : Mode → List ℕ → List ℕ → ℕ → Turn ℕ (Answer Fault ℕ)
+pairAt mode s key q = orStop (peekIn mode true s q) (λ h. orStop (followFrom mode s (position q 0)) (λ m. matchKey mode s key (h .end) (m .head)))
 
 abbrev pub pairAnswer : PairResult → Turn ℕ (Answer Fault ℕ)
 pairAnswer (Next q) = go q

@@ -17,6 +17,7 @@ use lib.ListN.{length}
 use Rattle.prelude.specs.Pick.{pick}
 use Rattle.prelude.specs.Answer.{Answer, error, bind}
 use Rattle.error.specs.Error.{Fault, fault, NO_ITEM, WRONG_KIND}
+use Rattle.leb128.specs.declared.Mode.{Mode}
 use Rattle.scan.specs.Answers.{bodyOn}
 use Rattle.scan.specs.declared.Head.{Head}
 use Rattle.reader_region.specs.Region.{inRegion, peekIn}
@@ -32,19 +33,19 @@ same (a ∷ s) (b ∷ t) = eqb a b && same s t
 abbrev pub isKey : List ℕ → List ℕ → Head → Bool
 isKey s key h = eqb (h .kind) 4 && same (bodyOn s h) key
 
-unfoldable pub pairs : List ℕ → ℕ → List ℕ → ℕ → ℕ → Answer Fault ℕ
-pairs s at key zero q = error (fault NO_ITEM at)
-pairs s at key (suc k) q =
-    bind (peekIn true s q) (λ h.
-    bind (followFrom s (position q 0)) (λ m.
+unfoldable pub pairs : Mode → List ℕ → ℕ → List ℕ → ℕ → ℕ → Answer Fault ℕ
+pairs mode s at key zero q = error (fault NO_ITEM at)
+pairs mode s at key (suc k) q =
+    bind (peekIn mode true s q) (λ h.
+    bind (followFrom mode s (position q 0)) (λ m.
     pick (isKey s key (m .head)) (startsIn (length s) (h .end))
-    (bind (peekIn true s (h .end)) (λ v. pairs s at key k (v .end)))))
+    (bind (peekIn mode true s (h .end)) (λ v. pairs mode s at key k (v .end)))))
 
-abbrev pub lookupOn : List ℕ → ℕ → List ℕ → Head → Answer Fault ℕ
-lookupOn s at key h = pick (eqb (h .kind) 7) (pairs s at key (h .n) (h .end)) (error (fault WRONG_KIND at))
+abbrev pub lookupOn : Mode → List ℕ → ℕ → List ℕ → Head → Answer Fault ℕ
+lookupOn mode s at key h = pick (eqb (h .kind) 7) (pairs mode s at key (h .n) (h .end)) (error (fault WRONG_KIND at))
 
-unfoldable pub lookupIn : List ℕ → ℕ → List ℕ → Answer Fault ℕ
-lookupIn s at key = bind (peekIn false s at) (lookupOn s at key)
+unfoldable pub lookupIn : Mode → List ℕ → ℕ → List ℕ → Answer Fault ℕ
+lookupIn mode s at key = bind (peekIn mode false s at) (lookupOn mode s at key)
 
-abbrev pub lookupOf : List ℕ → ℕ → List ℕ → Answer Fault ℕ
-lookupOf file at key = inRegion file at (λ s. lookupIn s at key)
+abbrev pub lookupOf : Mode → List ℕ → ℕ → List ℕ → Answer Fault ℕ
+lookupOf mode file at key = inRegion file at (λ s. lookupIn mode s at key)

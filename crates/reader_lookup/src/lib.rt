@@ -1,6 +1,7 @@
 // The value that a map at an offset of any file has for a key (document 01, "Questions at an offset").
 use error::Error;
 use error::ErrorKind;
+use leb128::Mode;
 use reader_follow::FollowHeadResult;
 use reader_region::OffsetResult;
 use scan::Head;
@@ -49,30 +50,30 @@ fn is_key(region: &[u8], key: &[u8], h: Head) -> bool
 
 // A pair whose key, followed, has the head h, and whose value starts at q. If the key differs, the value is read, to find
 // where the next pair starts.
-fn match_key(region: &[u8], key: &[u8], q: usize, h: Head) -> PairResult
+fn match_key(region: &[u8], key: &[u8], q: usize, h: Head, mode: Mode) -> PairResult
     requires { ⌜ (h .first ≤ h .end) × (h .end ≤ length (now region)) ⌝ }
-    ensures { λ r. ⌜ pairAnswer r ≡ matchKey (now (region .entry)) (now (key .entry)) q h ⌝ }
+    ensures { λ r. ⌜ pairAnswer r ≡ matchKey mode (now (region .entry)) (now (key .entry)) q h ⌝ }
 {
     if is_key(region, key, h) {
         return PairResult::Stop(reader_items::starts_in(region.len(), q));
     }
-    match reader_region::peek_in(region, q, true) {
+    match reader_region::peek_in(region, q, true, mode) {
         ScanResult::Ok(v) => PairResult::Next(v.end),
         ScanResult::Err(e) => PairResult::Stop(OffsetResult::Err(e)),
     }
 }
 
 // A pair whose key starts at q.
-fn pair(region: &[u8], key: &[u8], q: usize) -> PairResult
-    ensures { λ r. ⌜ pairAnswer r ≡ pairAt (now (region .entry)) (now (key .entry)) q ⌝ }
+fn pair(region: &[u8], key: &[u8], q: usize, mode: Mode) -> PairResult
+    ensures { λ r. ⌜ pairAnswer r ≡ pairAt mode (now (region .entry)) (now (key .entry)) q ⌝ }
 {
-    match reader_region::peek_in(region, q, true) {
-        ScanResult::Ok(h) => match reader_follow::follow_from(region, q) {
+    match reader_region::peek_in(region, q, true, mode) {
+        ScanResult::Ok(h) => match reader_follow::follow_from(region, q, mode) {
             FollowHeadResult::Ok {
                 at: _,
                 hops: _,
                 head,
-            } => match_key(region, key, h.end, head),
+            } => match_key(region, key, h.end, head, mode),
             FollowHeadResult::Err(e) => PairResult::Stop(OffsetResult::Err(e)),
         },
         ScanResult::Err(e) => PairResult::Stop(OffsetResult::Err(e)),
@@ -80,13 +81,13 @@ fn pair(region: &[u8], key: &[u8], q: usize) -> PairResult
 }
 
 // Looks the key up in the map at `at`, of which `count` pairs are left from `first` on.
-fn pairs(region: &[u8], at: usize, key: &[u8], count: u64, first: usize) -> OffsetResult
-    ensures { λ r. ⌜ offsetAnswer r ≡ pairs (now (region .entry)) at (now (key .entry)) count first ⌝ }
+fn pairs(region: &[u8], at: usize, key: &[u8], count: u64, first: usize, mode: Mode) -> OffsetResult
+    ensures { λ r. ⌜ offsetAnswer r ≡ pairs mode (now (region .entry)) at (now (key .entry)) count first ⌝ }
 {
     let mut k = count;
     let mut q = first;
     while 0 < k {
-        match pair(region, key, q) {
+        match pair(region, key, q, mode) {
             PairResult::Next(next) => {
                 q = next;
                 k = k - 1;
@@ -103,11 +104,11 @@ fn pairs(region: &[u8], at: usize, key: &[u8], count: u64, first: usize) -> Offs
     })
 }
 
-fn lookup_on(region: &[u8], at: usize, key: &[u8], h: Head) -> OffsetResult
-    ensures { λ r. ⌜ offsetAnswer r ≡ lookupOn (now (region .entry)) at (now (key .entry)) h ⌝ }
+fn lookup_on(region: &[u8], at: usize, key: &[u8], h: Head, mode: Mode) -> OffsetResult
+    ensures { λ r. ⌜ offsetAnswer r ≡ lookupOn mode (now (region .entry)) at (now (key .entry)) h ⌝ }
 {
     if h.kind == kind::KIND_MAP {
-        return pairs(region, at, key, h.n, h.end);
+        return pairs(region, at, key, h.n, h.end, mode);
     }
     // WRONG_KIND: not a map
     OffsetResult::Err(Error {
@@ -118,11 +119,11 @@ fn lookup_on(region: &[u8], at: usize, key: &[u8], h: Head) -> OffsetResult
 
 // The offset of the value that a map has for a key: that of the first pair whose key, followed, is a text with these
 // bytes; TRUNC if it would start at the region's end. A fault before it is the answer. The map itself is not followed.
-pub fn lookup(file: &[u8], at: usize, key: &[u8]) -> OffsetResult
-    ensures { λ r. ⌜ offsetAnswer r ≡ lookupOf (now (file .entry)) at (now (key .entry)) ⌝ }
+pub fn lookup(file: &[u8], at: usize, key: &[u8], mode: Mode) -> OffsetResult
+    ensures { λ r. ⌜ offsetAnswer r ≡ lookupOf mode (now (file .entry)) at (now (key .entry)) ⌝ }
 {
-    match reader_region::peek(file, at) {
-        ScanResult::Ok(h) => lookup_on(reader_region::region(file), at, key, h),
+    match reader_region::peek(file, at, mode) {
+        ScanResult::Ok(h) => lookup_on(reader_region::region(file), at, key, h, mode),
         ScanResult::Err(e) => OffsetResult::Err(e),
     }
 }

@@ -15,6 +15,7 @@ use Rattle.prelude.specs.Answer.{Answer, ok, error, bind}
 use Rattle.prelude.proofs.Tests.{pick-elim, and-false, facts}
 use Rattle.prelude.proofs.Readers.{bind-ok, bind-error, bind-ok-by, bind-error-by}
 use Rattle.error.specs.Error.{Fault, fault, LIMIT, BAD_TARGET}
+use Rattle.leb128.specs.declared.Mode.{Mode}
 use Rattle.scan.specs.Answers.{scanAt}
 use Rattle.scan.specs.declared.Head.{Head}
 use Rattle.scan.proofs.Places.{scan-within}
@@ -79,9 +80,9 @@ unfolding bind
 scans q (ok h) = pick-elim (Scans (ok h)) (below q h) (λ e. tt) (λ e. refl)
 scans q (error e) = tt
 
-pub peek-scan : (inner : Bool) (s : List ℕ) (q : ℕ) (h : Head) → ok h ≡ peekIn inner s q → ok h ≡ scanAt inner s q
+pub peek-scan : (mode : Mode) (inner : Bool) (s : List ℕ) (q : ℕ) (h : Head) → ok h ≡ peekIn mode inner s q → ok h ≡ scanAt mode inner s q
 unfolding peekIn
-peek-scan inner s q h e = subst (Scans (scanAt inner s q)) (sym e) (scans q (scanAt inner s q))
+peek-scan mode inner s q h e = subst (Scans (scanAt mode inner s q)) (sym e) (scans q (scanAt mode inner s q))
 
 -- the target of a reference or pointer that was looked at is not below 0
 abbrev pub TargetBelow : ℕ → Answer Fault Head → Type 0
@@ -95,20 +96,20 @@ target-below q (ok h) =
     (λ e k. and-false (leb 14 (h .kind)) (leb q (h .n)) e (λ f. absurd (omega facts)) (λ f. omega facts))
 target-below q (error e) = tt
 
-pub peek-target : (inner : Bool) (s : List ℕ) (q : ℕ) → TargetBelow q (peekIn inner s q)
+pub peek-target : (mode : Mode) (inner : Bool) (s : List ℕ) (q : ℕ) → TargetBelow q (peekIn mode inner s q)
 unfolding peekIn
-peek-target inner s q = target-below q (scanAt inner s q)
+peek-target mode inner s q = target-below q (scanAt mode inner s q)
 
-pub pointer-lt : (inner : Bool) (s : List ℕ) (q : ℕ) (h : Head) → ok h ≡ peekIn inner s q → h .kind ≡ 15 → h .n < q
-pointer-lt inner s q h e k = subst (TargetBelow q) (sym e) (peek-target inner s q) (omega arith)
+pub pointer-lt : (mode : Mode) (inner : Bool) (s : List ℕ) (q : ℕ) (h : Head) → ok h ≡ peekIn mode inner s q → h .kind ≡ 15 → h .n < q
+pointer-lt mode inner s q h e k = subst (TargetBelow q) (sym e) (peek-target mode inner s q) (omega arith)
 
-pub peek-peeked : (inner : Bool) (s : List ℕ) (q : ℕ) (h : Head) → ok h ≡ peekIn inner s q → Peeked s q h
-peek-peeked inner s q h e =
-    let w = scan-within inner s q h (peek-scan inner s q h e) in
-    record { body = w .body; end = w .end; used = w .used; most = w .most; target = subst (TargetBelow q) (sym e) (peek-target inner s q) }
+pub peek-peeked : (mode : Mode) (inner : Bool) (s : List ℕ) (q : ℕ) (h : Head) → ok h ≡ peekIn mode inner s q → Peeked s q h
+peek-peeked mode inner s q h e =
+    let w = scan-within mode inner s q h (peek-scan mode inner s q h e) in
+    record { body = w .body; end = w .end; used = w .used; most = w .most; target = subst (TargetBelow q) (sym e) (peek-target mode inner s q) }
 
 -- the same for a whole file
-pub peekOf-peeked : (file : List ℕ) (at : ℕ) (h : Head) → ok h ≡ peekOf file at → Peeked file at h
-peekOf-peeked file at h e =
-    let l = peek-peeked false (take (length file - 1) file) at h (in-region-same file at _ e) in
+pub peekOf-peeked : (mode : Mode) (file : List ℕ) (at : ℕ) (h : Head) → ok h ≡ peekOf mode file at → Peeked file at h
+peekOf-peeked mode file at h e =
+    let l = peek-peeked mode false (take (length file - 1) file) at h (in-region-same file at _ e) in
     record { body = l .body; end = omega (arith, l .end, length-take (length file - 1) file); used = l .used; most = l .most; target = l .target }

@@ -17,6 +17,7 @@ use lib.ListN.{length, take}
 use Rattle.prelude.specs.Pick.{pick}
 use Rattle.prelude.specs.Answer.{Answer, ok, error, bind}
 use Rattle.error.specs.Error.{Fault, fault, LIMIT, EMPTY, TOO_LONG, OUTSIDE, BAD_TARGET}
+use Rattle.leb128.specs.declared.Mode.{Mode}
 use Rattle.scan.specs.Answers.{scanAt}
 use Rattle.scan.specs.declared.Head.{Head}
 
@@ -33,8 +34,8 @@ inRegion file at k = bind (regionLen (length file) at) (λ n. k (take n file))
 abbrev pub below : ℕ → Head → Bool
 below at h = leb 14 (h .kind) && leb at (h .n)
 
-unfoldable pub peekIn : Bool → List ℕ → ℕ → Answer Fault Head
-peekIn inner s at = bind (scanAt inner s at) (λ h. pick (below at h) (error (fault BAD_TARGET at)) (ok h))
+unfoldable pub peekIn : Mode → Bool → List ℕ → ℕ → Answer Fault Head
+peekIn mode inner s at = bind (scanAt mode inner s at) (λ h. pick (below at h) (error (fault BAD_TARGET at)) (ok h))
 
-abbrev pub peekOf : List ℕ → ℕ → Answer Fault Head
-peekOf file at = inRegion file at (λ s. peekIn false s at)
+abbrev pub peekOf : Mode → List ℕ → ℕ → Answer Fault Head
+peekOf mode file at = inRegion file at (λ s. peekIn mode false s at)

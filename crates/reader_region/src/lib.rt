@@ -2,6 +2,7 @@
 // "Questions at an offset").
 use error::Error;
 use error::ErrorKind;
+use leb128::Mode;
 use scan::Head;
 use scan::ScanResult;
 ghost use mathlib.Core.Path.{_≡_};
@@ -60,10 +61,10 @@ fn check_target(at: usize, h: Head) -> ScanResult
 }
 
 // The head at `at` of a region, as a query looks at it; as an item's if `inner` is true.
-pub fn peek_in(region: &[u8], at: usize, inner: bool) -> ScanResult
-    ensures { λ r. ⌜ scans.answerOf r ≡ peekIn inner (now (region .entry)) at ⌝ }
+pub fn peek_in(region: &[u8], at: usize, inner: bool, mode: Mode) -> ScanResult
+    ensures { λ r. ⌜ scans.answerOf r ≡ peekIn mode inner (now (region .entry)) at ⌝ }
 {
-    match scan::scan(region, at, inner) {
+    match scan::scan(region, at, inner, mode) {
         ScanResult::Ok(h) => check_target(at, h),
         ScanResult::Err(e) => ScanResult::Err(e),
     }
@@ -71,11 +72,11 @@ pub fn peek_in(region: &[u8], at: usize, inner: bool) -> ScanResult
 
 // The head of the value at `at`, with the errors of `read`: its kind and numbers as they are, and where its body or
 // first item starts.
-pub fn peek(file: &[u8], at: usize) -> ScanResult
-    ensures { λ r. ⌜ scans.answerOf r ≡ peekOf (now (file .entry)) at ⌝ }
+pub fn peek(file: &[u8], at: usize, mode: Mode) -> ScanResult
+    ensures { λ r. ⌜ scans.answerOf r ≡ peekOf mode (now (file .entry)) at ⌝ }
 {
     match region_len(file.len(), at) {
-        OffsetResult::Ok(n) => peek_in(&file[..n], at, false),
+        OffsetResult::Ok(n) => peek_in(&file[..n], at, false, mode),
         OffsetResult::Err(e) => ScanResult::Err(e),
     }
 }

@@ -15,6 +15,7 @@ use Rattle.prelude.specs.Answer.{Answer, ok, error, bind}
 use Rattle.prelude.proofs.Tests.{pick-elim}
 use Rattle.prelude.proofs.Tables.{SameRow, same-row}
 use Rattle.error.specs.Error.{Fault}
+use Rattle.leb128.specs.declared.Mode.{Mode}
 use Rattle.little_endian.specs.LittleEndian.{load}
 use Rattle.kind.specs.Kind.{rule, size}
 use Rattle.scan.specs.declared.Head.{Head}
@@ -85,21 +86,21 @@ abbrev pub rowsOf : Answer Fault Value → Answer Fault ValueRow
 rowsOf (ok v) = ok (rowOfValue v)
 rowsOf (error e) = error e
 
-readIn-row : (s : List ℕ) (at : ℕ) → rowsOf (readIn s at) ≡ readRowIn s at
+readIn-row : (mode : Mode) (s : List ℕ) (at : ℕ) → rowsOf (readIn mode s at) ≡ readRowIn mode s at
 unfolding readIn readRowIn bind
-readIn-row s at = by-cases (peekIn false s at) refl
+readIn-row mode s at = by-cases (peekIn mode false s at) refl
   where
-    by-cases : (a : Answer Fault Head) → peekIn false s at ≡ a → rowsOf (bind a (λ h. ok (valueOn s at h))) ≡ bind a (λ h. ok (rowOn s at h))
-    by-cases (ok h) e = ap ok (row-value s at h (scan-within false s at h (peek-scan false s at h (sym e))))
+    by-cases : (a : Answer Fault Head) → peekIn mode false s at ≡ a → rowsOf (bind a (λ h. ok (valueOn s at h))) ≡ bind a (λ h. ok (rowOn s at h))
+    by-cases (ok h) e = ap ok (row-value s at h (scan-within mode false s at h (peek-scan mode false s at h (sym e))))
     by-cases (error e) q = refl
 
-readOf-row : (file : List ℕ) (at : ℕ) → rowsOf (readOf file at) ≡ readRowOf file at
+readOf-row : (mode : Mode) (file : List ℕ) (at : ℕ) → rowsOf (readOf mode file at) ≡ readRowOf mode file at
 unfolding inRegion bind
-readOf-row file at = by-cases (regionLen (length file) at)
+readOf-row mode file at = by-cases (regionLen (length file) at)
   where
-    by-cases : (a : Answer Fault ℕ) → rowsOf (bind a (λ n. readIn (take n file) at)) ≡ bind a (λ n. readRowIn (take n file) at)
-    by-cases (ok n) = readIn-row (take n file) at
+    by-cases : (a : Answer Fault ℕ) → rowsOf (bind a (λ n. readIn mode (take n file) at)) ≡ bind a (λ n. readRowIn mode (take n file) at)
+    by-cases (ok n) = readIn-row mode (take n file) at
     by-cases (error e) = refl
 
-pub rows-read : (file : List ℕ) (at : ℕ) {a : Answer Fault Value} → a ≡ readOf file at → rowsOf a ≡ readRowOf file at
-rows-read file at e = ap rowsOf e ∙ readOf-row file at
+pub rows-read : (mode : Mode) (file : List ℕ) (at : ℕ) {a : Answer Fault Value} → a ≡ readOf mode file at → rowsOf a ≡ readRowOf mode file at
+rows-read mode file at e = ap rowsOf e ∙ readOf-row mode file at

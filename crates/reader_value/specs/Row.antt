@@ -20,6 +20,7 @@ use lib.IntN.{ℤ, pos, negsuc}
 use lib.ListN.{drop, getD}
 use Rattle.prelude.specs.Answer.{Answer, ok, bind}
 use Rattle.error.specs.Error.{Fault}
+use Rattle.leb128.specs.declared.Mode.{Mode}
 use Rattle.little_endian.specs.LittleEndian.{load}
 use Rattle.scan.specs.declared.Head.{Head}
 use Rattle.reader_region.specs.Region.{inRegion, peekIn}
@@ -60,8 +61,8 @@ rowsOn s at h =
 unfoldable pub rowOn : List ℕ → ℕ → Head → ValueRow
 rowOn s at h = getD (rowsOn s at h) (h .kind) (valueRow 0 (pos 2) 0 0)
 
-unfoldable pub readRowIn : List ℕ → ℕ → Answer Fault ValueRow
-readRowIn s at = bind (peekIn false s at) (λ h. ok (rowOn s at h))
+unfoldable pub readRowIn : Mode → List ℕ → ℕ → Answer Fault ValueRow
+readRowIn mode s at = bind (peekIn mode false s at) (λ h. ok (rowOn s at h))
 
-abbrev pub readRowOf : List ℕ → ℕ → Answer Fault ValueRow
-readRowOf file at = inRegion file at (λ s. readRowIn s at)
+abbrev pub readRowOf : Mode → List ℕ → ℕ → Answer Fault ValueRow
+readRowOf mode file at = inRegion file at (λ s. readRowIn mode s at)

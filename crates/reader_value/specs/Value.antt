@@ -16,6 +16,7 @@ use lib.ListN.{drop, getD}
 use Rattle.prelude.specs.Pick.{pick}
 use Rattle.prelude.specs.Answer.{Answer, ok, bind}
 use Rattle.error.specs.Error.{Fault}
+use Rattle.leb128.specs.declared.Mode.{Mode}
 use Rattle.little_endian.specs.LittleEndian.{load}
 use Rattle.scan.specs.declared.Head.{Head}
 use Rattle.reader_region.specs.Region.{inRegion, peekIn}
@@ -52,8 +53,8 @@ valueRows s at h =
 unfoldable pub valueOn : List ℕ → ℕ → Head → Value
 valueOn s at h = getD (valueRows s at h) (h .kind) Null
 
-unfoldable pub readIn : List ℕ → ℕ → Answer Fault Value
-readIn s at = bind (peekIn false s at) (λ h. ok (valueOn s at h))
+unfoldable pub readIn : Mode → List ℕ → ℕ → Answer Fault Value
+readIn mode s at = bind (peekIn mode false s at) (λ h. ok (valueOn s at h))
 
-abbrev pub readOf : List ℕ → ℕ → Answer Fault Value
-readOf file at = inRegion file at (λ s. readIn s at)
+abbrev pub readOf : Mode → List ℕ → ℕ → Answer Fault Value
+readOf mode file at = inRegion file at (λ s. readIn mode s at)

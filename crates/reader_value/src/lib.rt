@@ -1,5 +1,6 @@
 // What the value at an offset of any file is (document 01, "Questions at an offset").
 use error::Error;
+use leb128::Mode;
 use scan::Head;
 use scan::ScanResult;
 ghost use mathlib.Core.Path.{_≡_};
@@ -168,10 +169,10 @@ fn value_on(region: &[u8], at: usize, h: Head) -> Value
 }
 
 // The value at `at`. Neither items nor text bytes are looked at, and a target only has to be 0 or more.
-pub fn read(file: &[u8], at: usize) -> ReadResult
-    ensures { λ r. ⌜ (readAnswer r ≡ readOf (now (file .entry)) at) × (rowAnswer r ≡ readRowOf (now (file .entry)) at) ⌝ }
+pub fn read(file: &[u8], at: usize, mode: Mode) -> ReadResult
+    ensures { λ r. ⌜ (readAnswer r ≡ readOf mode (now (file .entry)) at) × (rowAnswer r ≡ readRowOf mode (now (file .entry)) at) ⌝ }
 {
-    match reader_region::peek(file, at) {
+    match reader_region::peek(file, at, mode) {
         ScanResult::Ok(h) => ReadResult::Ok(value_on(reader_region::region(file), at, h)),
         ScanResult::Err(e) => ReadResult::Err(e),
     }

@@ -12,17 +12,17 @@ body-spec =
     (tie.spec
     (λ c κs. search needs)
     (λ c. search needs)
-    (λ c. omega (arith, body-within _ _ _ _ (rw (c .before .first .given .1) at (c .before .before .before .body-place .ensures))))
+    (λ c. omega (arith, body-within _ _ _ _ _ (rw (c .before .first .given .1) at (c .before .before .before .body-place .ensures))))
     (λ c. search needs)
     (λ c. search needs)
-    (λ c. omega (arith, body-within _ _ _ _ (rw (c .before .first .given .1) at (c .before .before .before .body-place .ensures))))
+    (λ c. omega (arith, body-within _ _ _ _ _ (rw (c .before .first .given .1) at (c .before .before .before .body-place .ensures))))
     (λ c. search needs)
     (λ c. search needs)
     (λ c. search needs)
     (λ c. search needs)
     (λ c. let t = c .before .before in
     let e = rw (t .first .given .1) at (t .before .before .body-place .ensures) in
-    (rw (← e) refl, body-part _ _ _ _ e))
+    (rw (← e) refl, body-part _ _ _ _ _ e))
     (λ c. let t = c .before .before in
     let e = rw (t .e .given .1) at (t .before .before .body-place .ensures) in
-    (rw (← e) refl, body-none _ _ _ e)))
+    (rw (← e) refl, body-none _ _ _ _ e)))

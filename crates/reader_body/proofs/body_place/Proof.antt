@@ -13,7 +13,7 @@ body-place-spec =
     (tie.spec
     (λ c κs. search needs)
     (λ c. search needs)
-    (λ c κs. let t = c .before in followed-within _ _ _ (in-region-same _ _ _ (rw (t .at .given .1) at (t .before .before .follow-head .ensures))) .body)
+    (λ c κs. let t = c .before in followed-within _ _ _ _ (in-region-same _ _ _ (rw (t .at .given .1) at (t .before .before .follow-head .ensures))) .body)
     (λ c. search needs)
     (λ c. let t = c .before .before in in-region-then _ _ _ _ (rw (t .at .given .1) at (t .before .before .follow-head .ensures)) (c .body-place-on .ensures))
     (λ c. let t = c .before in in-region-failed _ _ _ _ (rw (t .e .given .1) at (t .before .before .follow-head .ensures))))

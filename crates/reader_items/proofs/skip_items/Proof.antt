@@ -7,10 +7,10 @@ use Rattle.reader_items.proofs.skip_items.Statement.{statement}
 use Rattle.reader_items.proofs.skip_items.Tie as tie
 
 abbrev Inv-loop : tie.InvT-loop
-Inv-loop region at items q₀ k₀ q k = skipItems region k q ≡ skipItems region items at
+Inv-loop region at items mode q₀ k₀ q k = skipItems mode region k q ≡ skipItems mode region items at
 
 abbrev μ-loop : tie.MeasureT-loop
-μ-loop region at items q₀ k₀ q k = k
+μ-loop region at items mode q₀ k₀ q k = k
 
 pub skip-items-spec : {M : Type 1} → statement M
 skip-items-spec =
@@ -25,9 +25,9 @@ skip-items-spec =
     (λ c. search needs)
     (λ c. let t = c .before in
     let l = t .before .before .before in
-    walk-item _ _ _ _ (l .loop-test .taken) (rw (t .h .given .1) at (t .before .before .peek-in .ensures)) ∙ l .before .loop .inv)
+    walk-item _ _ _ _ _ (l .loop-test .taken) (rw (t .h .given .1) at (t .before .before .peek-in .ensures)) ∙ l .before .loop .inv)
     (λ c. search needs)
     (λ c. let t = c .before in
     let l = t .before .before .before in
-    walk-error _ _ _ _ (l .loop-test .taken) (rw (t .e .given .1) at (t .before .before .peek-in .ensures)) ∙ l .before .loop .inv)
-    (λ c. walk-none _ _ _ (c .loop-test .left) ∙ c .before .loop .inv))
+    walk-error _ _ _ _ _ (l .loop-test .taken) (rw (t .e .given .1) at (t .before .before .peek-in .ensures)) ∙ l .before .loop .inv)
+    (λ c. walk-none _ _ _ _ (c .loop-test .left) ∙ c .before .loop .inv))

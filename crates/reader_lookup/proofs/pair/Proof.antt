@@ -13,7 +13,7 @@ pair-spec =
     (λ c. search needs)
     (λ c κs. search needs)
     (λ c. search needs)
-    (λ c κs. let t = c .before in let w = followed-within _ _ _ (rw (t .head .given .1) at (t .before .before .follow-from .ensures)) in (w .body, w .end))
+    (λ c κs. let t = c .before in let w = followed-within _ _ _ _ (rw (t .head .given .1) at (t .before .before .follow-from .ensures)) in (w .body, w .end))
     (λ c. search needs)
     (λ c. search needs)
     (λ c. let t = c .before .before in

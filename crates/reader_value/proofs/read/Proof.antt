@@ -17,10 +17,10 @@ read-spec =
     (λ c. search needs)
     (λ c κs. search needs)
     (λ c κs. let t = c .before .before in
-    rw (c .region .ensures) (peek-peeked _ _ _ _ (in-region-same _ _ _ (rw (t .h .given .1) at (t .before .before .peek .ensures)))))
+    rw (c .region .ensures) (peek-peeked _ _ _ _ _ (in-region-same _ _ _ (rw (t .h .given .1) at (t .before .before .peek .ensures)))))
     (λ c. search needs)
     (λ c. let t = c .before .before .before in
     let v = ap ok (rw (c .before .region .ensures) at (c .value-on .ensures)) in
     let e = in-region-then _ _ _ _ (rw (t .h .given .1) at (t .before .before .peek .ensures)) v in
-    (e, rows-read _ _ e))
-    (λ c. let t = c .before in let e = in-region-failed _ _ _ _ (rw (t .e .given .1) at (t .before .before .peek .ensures)) in (e, rows-read _ _ e)))
+    (e, rows-read _ _ _ e))
+    (λ c. let t = c .before in let e = in-region-failed _ _ _ _ (rw (t .e .given .1) at (t .before .before .peek .ensures)) in (e, rows-read _ _ _ e)))
