@@ -17,6 +17,7 @@ use Rattle.prelude.proofs.Parts.{length-part}
 use Rattle.error.specs.Error as errors
 use Rattle.error.specs.Error.{Fault, LIMIT}
 use Rattle.error.specs.declared.Error.{Error}
+use Rattle.leb128.specs.declared.Mode.{Mode}
 use Rattle.checker.specs.declared.CheckResult.{CheckResult}
 use Rattle.checker.specs.declared.CheckResult.the-variants.{Ok, Err}
 use Rattle.checker_value.specs.Walk.{between, startsFrom}
@@ -48,13 +49,13 @@ entered t count fits (Err f) (error g) reported = record { reported = cc; fits =
 pub listed-fits : (r : lists.ListResult) (t : List ℕ) (count : ℕ) → r ≡ lists-are.Ok count → Listed r t → count ≤ length t
 listed-fits r t count is l = rw is at l
 
-pub listed-rising : (r : lists.ListResult) (s t : List ℕ) (cap count : ℕ) → r ≡ lists-are.Ok count
-    → listAnswer r t ≡ startsFrom s cap (between 0 []) → Rising (take count t)
-listed-rising r s t cap count is reported = come s cap (take count t) (rw is at reported) .0
+pub listed-rising : (mode : Mode) (r : lists.ListResult) (s t : List ℕ) (cap count : ℕ) → r ≡ lists-are.Ok count
+    → listAnswer r t ≡ startsFrom mode s cap (between 0 []) → Rising (take count t)
+listed-rising mode r s t cap count is reported = come mode s cap (take count t) (rw is at reported) .0
 
-module _ (file t : List ℕ) (cap : ℕ) (some : length file ≡ 0 → ⊥) (short : length file ≤ LIMIT) (r : lists.ListResult)
-    (reported : listAnswer r t ≡ startsFrom (take (length file - 1) file) cap (between 0 [])) where
-  pub check-error : (f : Error) → r ≡ lists-are.Err f → error (errors.faultOf f) ≡ checkIn file cap
+module _ (mode : Mode) (file t : List ℕ) (cap : ℕ) (some : length file ≡ 0 → ⊥) (short : length file ≤ LIMIT) (r : lists.ListResult)
+    (reported : listAnswer r t ≡ startsFrom mode (take (length file - 1) file) cap (between 0 [])) where
+  pub check-error : (f : Error) → r ≡ lists-are.Err f → error (errors.faultOf f) ≡ checkIn mode file cap
   unfolding checkIn
   check-error f is = rw (ne-eqb _ _ some, le-ltb _ _ short) (bind-error _ (rw is at reported))
 
@@ -63,7 +64,7 @@ module _ (file t : List ℕ) (cap : ℕ) (some : length file ≡ 0 → ⊥) (sho
     with-entry : Entered q t (bind (entryAt (length file - 1) (getD file (length file - 1) 0) (take count t)) (λ e. ok (take count t, e)))
     with-entry = entered t count (listed-fits r t count is l) q (entryAt (length file - 1) (getD file (length file - 1) 0) (take count t)) e
 
-    pub check-walk : checkInAnswer q t ≡ checkIn file cap
+    pub check-walk : checkInAnswer q t ≡ checkIn mode file cap
     unfolding checkIn
     check-walk = rw (ne-eqb _ _ some, le-ltb _ _ short) (bind-ok _ (rw is at reported) (with-entry .reported))
 
@@ -78,11 +79,11 @@ pub zeros-after : (t : List ℕ) (count : ℕ) → count ≤ length t
 zeros-after t count h =
     rw (length-part count t, drop-of-length-le (drop count t) {i = length t - count} (rw length-drop (omega arith)), append-nil, length-take-le count t h)
 
-pub check-left : (file t : List ℕ) (cap : ℕ) → length t ≡ cap → (q : CheckResult)
-    → checkInAnswer q t ≡ checkIn file cap → (n : ℕ) → n ≡ keptWords q → keptWords q ≤ length t
-    → (z : List ℕ) → z ≡ replicate (length (take (length t - n) (drop n t))) 0 → checked (checkAnswer q) (putMid n (length t - n) t z) ≡ checkOf file cap
+pub check-left : (mode : Mode) (file t : List ℕ) (cap : ℕ) → length t ≡ cap → (q : CheckResult)
+    → checkInAnswer q t ≡ checkIn mode file cap → (n : ℕ) → n ≡ keptWords q → keptWords q ≤ length t
+    → (z : List ℕ) → z ≡ replicate (length (take (length t - n) (drop n t))) 0 → checked (checkAnswer q) (putMid n (length t - n) t z) ≡ checkOf mode file cap
 unfolding checkOf
-check-left file t cap long q reported n is fits z e = rw (e, is, zeros-after t (keptWords q) fits, ← reported, ← long) (by-cases q fits)
+check-left mode file t cap long q reported n is fits z e = rw (e, is, zeros-after t (keptWords q) fits, ← reported, ← long) (by-cases q fits)
   where
     by-cases : (q : CheckResult) → keptWords q ≤ length t
         → checked (checkAnswer q) (filled (length t) (take (keptWords q) t)) ≡ listed (length t) (checkInAnswer q t)

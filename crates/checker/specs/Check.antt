@@ -16,17 +16,18 @@ use Rattle.prelude.specs.Pick.{pick}
 use Rattle.prelude.specs.Answer.{Answer, ok, error, bind}
 use Rattle.prelude.specs.Search.{among}
 use Rattle.error.specs.Error.{Fault, fault, LIMIT, EMPTY, TOO_LONG, BAD_ENTRY}
+use Rattle.leb128.specs.declared.Mode.{Mode}
 use Rattle.checker_value.specs.Walk.{between, startsFrom}
 
 unfoldable pub entryAt : ℕ → ℕ → List ℕ → Answer Fault ℕ
 entryAt p d done = pick (ltb d p && among (p - d - 1) done) (ok (p - d - 1)) (error (fault BAD_ENTRY p))
 
-unfoldable pub checkIn : List ℕ → ℕ → Answer Fault ((List ℕ) × ℕ)
-checkIn file cap =
+unfoldable pub checkIn : Mode → List ℕ → ℕ → Answer Fault ((List ℕ) × ℕ)
+checkIn mode file cap =
     let p = length file - 1 in
     pick (eqb (length file) 0) (error (fault EMPTY 0))
     (pick (ltb LIMIT (length file)) (error (fault TOO_LONG 0))
-    (bind (startsFrom (take p file) cap (between 0 [])) (λ done.
+    (bind (startsFrom mode (take p file) cap (between 0 [])) (λ done.
     bind (entryAt p (getD file p 0) done) (λ e. ok (done, e)))))
 
 pub record Checked : Type 0 where
@@ -43,5 +44,5 @@ abbrev pub listed : ℕ → Answer Fault ((List ℕ) × ℕ) → Checked
 listed cap (ok r) = checked (ok (length (r .0), r .1)) (filled cap (r .0))
 listed cap (error e) = checked (error e) (replicate cap 0)
 
-unfoldable pub checkOf : List ℕ → ℕ → Checked
-checkOf file cap = listed cap (checkIn file cap)
+unfoldable pub checkOf : Mode → List ℕ → ℕ → Checked
+checkOf mode file cap = listed cap (checkIn mode file cap)

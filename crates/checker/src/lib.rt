@@ -2,6 +2,7 @@
 use checker_starts::ListResult;
 use error::Error;
 use error::ErrorKind;
+use leb128::Mode;
 ghost use mathlib.Core.Path.{_≡_};
 ghost use Prim.Native.Nat.{_≤_, _<_, _^_};
 ghost use lib.ListN.{length};
@@ -42,8 +43,8 @@ fn entry_at(starts: &[u32], p: usize, d: u8) -> CheckResult
 }
 
 // Lists the starts of a file's values in the first words of the table, and finds its entry.
-fn check_in(file: &[u8], starts: &mut [u32]) -> CheckResult
-    ensures { λ r. ⌜ (checkInAnswer r (now (starts .exit)) ≡ checkIn (now (file .entry)) (length (now (starts .entry))))
+fn check_in(file: &[u8], starts: &mut [u32], mode: Mode) -> CheckResult
+    ensures { λ r. ⌜ (checkInAnswer r (now (starts .exit)) ≡ checkIn mode (now (file .entry)) (length (now (starts .entry))))
         × (keptWords r ≤ length (now (starts .exit))) ⌝ }
 {
     let len = file.len();
@@ -60,7 +61,7 @@ fn check_in(file: &[u8], starts: &mut [u32]) -> CheckResult
         });
     }
     let p = len - 1;
-    match checker_starts::list_starts(&file[..p], starts) {
+    match checker_starts::list_starts(&file[..p], starts, mode) {
         ListResult::Ok(count) => entry_at(&starts[..count], p, file[p]),
         ListResult::Err(e) => CheckResult::Err(e),
     }
@@ -79,10 +80,10 @@ fn kept_words(answer: CheckResult) -> usize
 // Checks a file. The table gets the offsets where its values start, in rising order, and 0 in every other word; on an
 // error, 0 in every word. The first start is itself 0, so only the count says how many words are starts. A table
 // with as many words as the file has bytes is never too short. Apart from the table, check takes some 17 KB of stack.
-pub fn check(file: &[u8], starts: &mut [u32]) -> CheckResult
-    ensures { λ r. ⌜ checked (checkAnswer r) (now (starts .exit)) ≡ checkOf (now (file .entry)) (length (now (starts .entry))) ⌝ }
+pub fn check(file: &[u8], starts: &mut [u32], mode: Mode) -> CheckResult
+    ensures { λ r. ⌜ checked (checkAnswer r) (now (starts .exit)) ≡ checkOf mode (now (file .entry)) (length (now (starts .entry))) ⌝ }
 {
-    let answer = check_in(file, starts);
+    let answer = check_in(file, starts, mode);
     let words = kept_words(answer);
     table::zero(&mut starts[words..]);
     answer

@@ -17,6 +17,7 @@ use Rattle.prelude.proofs.Searches.{rising-ge}
 use Rattle.error.specs.Error as errors
 use Rattle.error.specs.Error.{fault, LIMIT, FULL}
 use Rattle.error.specs.declared.Error.{Error}
+use Rattle.leb128.specs.declared.Mode.{Mode}
 use Rattle.table.specs.Blocks.{BLOCK, Counted, Below}
 use Rattle.table.proofs.Blocks.{counted-first, counted-snoc}
 use Rattle.checker_value.specs.declared.ValueResult.{ValueResult}
@@ -26,11 +27,11 @@ use Rattle.checker_value.specs.Internal.{Ends, ChecksValue}
 use Rattle.checker_value.proofs.Walks.{WalkInvariant, invariant-begun, invariant-finished, walk-end, value-full}
 
 -- between two values at `at`, with the starts in the first `count` words of the table t
-pub record TableInvariant (s t : List ℕ) (cap at count : ℕ) : Type 0 where
+pub record TableInvariant (mode : Mode) (s t : List ℕ) (cap at count : ℕ) : Type 0 where
   pub long : length t ≡ cap
   pub fits : count ≤ length t
   pub going : WalkInvariant s cap (between at (take count t))
-  pub leads : startsFrom s cap (between at (take count t)) ≡ startsFrom s cap (between 0 [])
+  pub leads : startsFrom mode s cap (between at (take count t)) ≡ startsFrom mode s cap (between 0 [])
 
 -- the starts are counted for the blocks that begin at `at` or before; each block of the region has a word
 pub record Indexed (s t blocks : List ℕ) (at count : ℕ) : Type 0 where
@@ -40,23 +41,23 @@ pub record Indexed (s t blocks : List ℕ) (at count : ℕ) : Type 0 where
 pub indexed-start : (s t blocks : List ℕ) → length s < length blocks * BLOCK → getD blocks 0 0 ≡ 0 → Indexed s t blocks 0 0
 indexed-start s t blocks h e = record { long = h; counted = counted-first blocks e }
 
-pub known-fits : (s t : List ℕ) (cap at count : ℕ) → TableInvariant s t cap at count → (blocks : List ℕ)
+pub known-fits : (mode : Mode) (s t : List ℕ) (cap at count : ℕ) → TableInvariant mode s t cap at count → (blocks : List ℕ)
     → Indexed s t blocks at count → at / BLOCK + 1 ≤ length blocks
-known-fits s t cap at count a blocks i = omega (arith, a .going .inside, i .long)
+known-fits mode s t cap at count a blocks i = omega (arith, a .going .inside, i .long)
 
 pub indexed-on : (s t u blocks after : List ℕ) (at end count n : ℕ) → Indexed s t blocks at count → length after ≡ length blocks
     → Counted (take (end / BLOCK + 1) after) (take n u) → Indexed s u after end n
 indexed-on s t u blocks after at end count n i same counted = record { long = rw same (i .long); counted = counted }
 
-pub table-start : (s t : List ℕ) → TableInvariant s t (length t) 0 0
-table-start s t = record { long = refl; fits = omega arith; going = invariant-begun s (length t); leads = refl }
+pub table-start : (mode : Mode) (s t : List ℕ) → TableInvariant mode s t (length t) 0 0
+table-start mode s t = record { long = refl; fits = omega arith; going = invariant-begun s (length t); leads = refl }
 
-module _ (s t : List ℕ) (cap at count : ℕ) (a : TableInvariant s t cap at count) where
-  pub table-end : length s ≤ at → ok (take count t) ≡ startsFrom s cap (between 0 [])
-  table-end h = walk-end s cap (between at (take count t)) (rw (le-leb (length s) at h)) ∙ a .leads
+module _ (mode : Mode) (s t : List ℕ) (cap at count : ℕ) (a : TableInvariant mode s t cap at count) where
+  pub table-end : length s ≤ at → ok (take count t) ≡ startsFrom mode s cap (between 0 [])
+  table-end h = walk-end mode s cap (between at (take count t)) (rw (le-leb (length s) at h)) ∙ a .leads
 
-  pub table-full : at < length s → length t ≤ count → error (fault FULL at) ≡ startsFrom s cap (between 0 [])
-  table-full more full = value-full s (take count t) at more cap (omega (arith, a .long, length-take-le count t (a .fits))) ∙ a .leads
+  pub table-full : at < length s → length t ≤ count → error (fault FULL at) ≡ startsFrom mode s cap (between 0 [])
+  table-full more full = value-full mode s (take count t) at more cap (omega (arith, a .long, length-take-le count t (a .fits))) ∙ a .leads
 
   module _ (free : count < length t) where
     word : length (take count t) < cap
@@ -76,8 +77,8 @@ module _ (s t : List ℕ) (cap at count : ℕ) (a : TableInvariant s t cap at co
     pub opened-counted : (blocks : List ℕ) → Indexed s t blocks at count → Counted (take (at / BLOCK + 1) blocks) (take count (set t count at))
     opened-counted blocks i = rw opened (i .counted)
 
-    module _ (r : ValueResult) (reported : ChecksValue r s (take count (set t count at)) at) where
-      pub table-error : (f : Error) → r ≡ results-are.Err f → error (errors.faultOf f) ≡ startsFrom s cap (between 0 [])
+    module _ (r : ValueResult) (reported : ChecksValue mode r s (take count (set t count at)) at) where
+      pub table-error : (f : Error) → r ≡ results-are.Err f → error (errors.faultOf f) ≡ startsFrom mode s cap (between 0 [])
       table-error f is = let e = (rw opened at reported) .0 cap word in rw is at e ∙ a .leads
 
     module _ (end : ℕ) (r : ValueResult) (ends : Ends r (at + 1) (length s)) (is : r ≡ results-are.Ok end) where
@@ -87,7 +88,7 @@ module _ (s t : List ℕ) (cap at count : ℕ) (a : TableInvariant s t cap at co
       pub table-less : length s - end < length s - at
       table-less = let h = table-ends in omega (arith, h .0, h .1)
 
-      pub table-finished : ChecksValue r s (take count (set t count at)) at → TableInvariant s (set t count at) cap end (count + 1)
+      pub table-finished : ChecksValue mode r s (take count (set t count at)) at → TableInvariant mode s (set t count at) cap end (count + 1)
       table-finished reported = let h = table-ends in let e = (rw opened at reported) .0 cap word in record {
         long = length-set t count at ∙ a .long;
         fits = rw length-set (omega (arith, free));

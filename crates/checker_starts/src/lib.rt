@@ -2,6 +2,7 @@
 use checker_value::ValueResult;
 use error::Error;
 use error::ErrorKind;
+use leb128::Mode;
 ghost use mathlib.Core.Path.{_≡_};
 ghost use mathlib.Core.List.{[]};
 ghost use Prim.Native.Nat.{_*_, _≤_, _<_};
@@ -18,9 +19,9 @@ pub enum ListResult {
 }
 
 // Lists the starts of a region's values in the first words of the table, and counts them by blocks of the region.
-fn walk(region: &[u8], starts: &mut [u32], blocks: &mut [u32]) -> ListResult
+fn walk(region: &[u8], starts: &mut [u32], blocks: &mut [u32], mode: Mode) -> ListResult
     requires { ⌜ (length (now region) ≤ LIMIT) × (length (now region) < length (now blocks) * BLOCK) × (getD (now blocks) 0 0 ≡ 0) ⌝ }
-    ensures { λ r. ⌜ (listAnswer r (now (starts .exit)) ≡ startsFrom (now (region .entry)) (length (now (starts .entry))) (between 0 []))
+    ensures { λ r. ⌜ (listAnswer r (now (starts .exit)) ≡ startsFrom mode (now (region .entry)) (length (now (starts .entry))) (between 0 []))
         × (Listed r (now (starts .exit))) ⌝ }
 {
     let mut at: usize = 0;
@@ -38,7 +39,7 @@ fn walk(region: &[u8], starts: &mut [u32], blocks: &mut [u32]) -> ListResult
         // the start of this value, which is listed, and so may be a target, once the value is finished
         starts[count] = at as u32;
         let more = count + 1;
-        match checker_value::check_value(region, &starts[..count], &blocks[..known], at) {
+        match checker_value::check_value(region, &starts[..count], &blocks[..known], at, mode) {
             ValueResult::Ok(end) => {
                 count = more;
                 table::count_blocks(&starts[..count], blocks, known, end / table::BLOCK);
@@ -54,15 +55,15 @@ fn walk(region: &[u8], starts: &mut [u32], blocks: &mut [u32]) -> ListResult
 
 // Lists the starts of a region's values in the first words of the table. A short region has few blocks: for a small
 // file, clearing the large array would take longer than the walk.
-pub fn list_starts(region: &[u8], starts: &mut [u32]) -> ListResult
+pub fn list_starts(region: &[u8], starts: &mut [u32], mode: Mode) -> ListResult
     requires { ⌜ length (now region) < LIMIT ⌝ }
-    ensures { λ r. ⌜ (listAnswer r (now (starts .exit)) ≡ startsFrom (now (region .entry)) (length (now (starts .entry))) (between 0 []))
+    ensures { λ r. ⌜ (listAnswer r (now (starts .exit)) ≡ startsFrom mode (now (region .entry)) (length (now (starts .entry))) (between 0 []))
         × (Listed r (now (starts .exit))) ⌝ }
 {
     if region.len() < table::LONG {
         let mut few = [0u32; table::FEW];
-        return walk(region, starts, &mut few);
+        return walk(region, starts, &mut few, mode);
     }
     let mut blocks = [0u32; table::BLOCKS];
-    walk(region, starts, &mut blocks)
+    walk(region, starts, &mut blocks, mode)
 }

@@ -19,6 +19,7 @@ use Rattle.prelude.specs.Pick.{pick}
 use Rattle.prelude.specs.Answer.{Answer, error}
 use Rattle.error.specs.Error as errors
 use Rattle.error.specs.Error.{Fault}
+use Rattle.leb128.specs.declared.Mode.{Mode}
 use Rattle.checker_value.specs.declared.ValueResult as results
 use Rattle.checker_value.specs.declared.ValueResult.the-variants as results-are
 use Rattle.checker_value.specs.Walk.{Walk, between, startsFrom}
@@ -26,17 +27,18 @@ use Rattle.checker_value.specs.Walk.{Walk, between, startsFrom}
 abbrev pub inValue : ℕ → ℕ → ℕ → List ℕ → Walk
 inValue at start pending done = pick (eqb pending 0) (between at (done ++ (start ∷ []))) (record { at = at; start = start; pending = pending; done = done })
 
-abbrev pub rest : results.ValueResult → List ℕ → ℕ → List ℕ → ℕ → Answer Fault (List ℕ)
-rest (results-are.Ok end) s cap done start = startsFrom s cap (between end (done ++ (start ∷ [])))
-rest (results-are.Err e) s cap done start = error (errors.faultOf e)
+abbrev pub rest : Mode → results.ValueResult → List ℕ → ℕ → List ℕ → ℕ → Answer Fault (List ℕ)
+rest mode (results-are.Ok end) s cap done start = startsFrom mode s cap (between end (done ++ (start ∷ [])))
+rest mode (results-are.Err e) s cap done start = error (errors.faultOf e)
 
 abbrev pub Ends : results.ValueResult → ℕ → ℕ → Type 0
 Ends (results-are.Ok end) at n = (at ≤ end) × (end ≤ n)
 Ends (results-are.Err e) at n = Unit {0}
 
-abbrev pub ChecksItems : results.ValueResult → List ℕ → List ℕ → ℕ → ℕ → Type 0
-ChecksItems r s done at items =
-    ((cap start : ℕ) → rest r s cap done start ≡ startsFrom s cap (inValue at start items done)) × (Ends r at (length s))
+abbrev pub ChecksItems : Mode → results.ValueResult → List ℕ → List ℕ → ℕ → ℕ → Type 0
+ChecksItems mode r s done at items =
+    ((cap start : ℕ) → rest mode r s cap done start ≡ startsFrom mode s cap (inValue at start items done)) × (Ends r at (length s))
 
-abbrev pub ChecksValue : results.ValueResult → List ℕ → List ℕ → ℕ → Type 0
-ChecksValue r s done at = ((cap : ℕ) → length done < cap → rest r s cap done at ≡ startsFrom s cap (between at done)) × (Ends r (at + 1) (length s))
+abbrev pub ChecksValue : Mode → results.ValueResult → List ℕ → List ℕ → ℕ → Type 0
+ChecksValue mode r s done at =
+    ((cap : ℕ) → length done < cap → rest mode r s cap done at ≡ startsFrom mode s cap (between at done)) × (Ends r (at + 1) (length s))

@@ -25,6 +25,7 @@ use Rattle.prelude.specs.Answer.{Answer, ok, error, bind}
 use Rattle.prelude.specs.Loop.{Turn, go, stop, from}
 use Rattle.prelude.specs.Search.{among}
 use Rattle.error.specs.Error.{Fault, fault, BAD_TEXT, BAD_TARGET, FULL}
+use Rattle.leb128.specs.declared.Mode.{Mode}
 use Rattle.utf8.specs.Text.{isText}
 use Rattle.kind.specs.Kind.{due}
 use Rattle.scan.specs.Answers.{scanAt, bodyOn}
@@ -52,10 +53,10 @@ pub record Walk : Type 0 where
 abbrev pub between : ℕ → List ℕ → Walk
 between at done = record { at = at; start = at; pending = 0; done = done }
 
-unfoldable pub nextToken : List ℕ → ℕ → List ℕ → ℕ → ℕ → Answer Fault Head
-nextToken s cap done pending at =
+unfoldable pub nextToken : Mode → List ℕ → ℕ → List ℕ → ℕ → ℕ → Answer Fault Head
+nextToken mode s cap done pending at =
     pick (eqb pending 0 && leb cap (length done)) (error (fault FULL at))
-    (bind (scanAt (ltb 0 pending) s at) (tokenFault s done at))
+    (bind (scanAt mode (ltb 0 pending) s at) (tokenFault s done at))
 
 unfoldable pub walkAfter : Walk → Head → Walk
 walkAfter w h =
@@ -67,9 +68,11 @@ abbrev pub walkTurned : Walk → Answer Fault Head → Turn Walk (Answer Fault (
 walkTurned w (ok h) = go (walkAfter w h)
 walkTurned w (error e) = stop (error e)
 
-unfoldable pub walkTurn : List ℕ → ℕ → Walk → Turn Walk (Answer Fault (List ℕ))
-walkTurn s cap w = pick (eqb (w .pending) 0 && leb (length s) (w .at)) (stop (ok (w .done))) (walkTurned w (nextToken s cap (w .done) (w .pending) (w .at)))
+unfoldable pub walkTurn : Mode → List ℕ → ℕ → Walk → Turn Walk (Answer Fault (List ℕ))
+walkTurn mode s cap w =
+    pick (eqb (w .pending) 0 && leb (length s) (w .at)) (stop (ok (w .done)))
+    (walkTurned w (nextToken mode s cap (w .done) (w .pending) (w .at)))
 
 -- each turn goes on in the region, so the loop stops; `fault 0 0` is never the answer
-unfoldable pub startsFrom : List ℕ → ℕ → Walk → Answer Fault (List ℕ)
-startsFrom s cap w = from (walkTurn s cap) (λ v. length s - v .at) (error (fault 0 0)) w
+unfoldable pub startsFrom : Mode → List ℕ → ℕ → Walk → Answer Fault (List ℕ)
+startsFrom mode s cap w = from (walkTurn mode s cap) (λ v. length s - v .at) (error (fault 0 0)) w

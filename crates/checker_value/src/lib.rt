@@ -1,6 +1,7 @@
 // One value, checked (document 01, "Check and depths"): its token, its text and its target, and its items.
 use error::Error;
 use error::ErrorKind;
+use leb128::Mode;
 use scan::Head;
 use scan::ScanResult;
 ghost use mathlib.Core.Path.{_≡_};
@@ -74,14 +75,15 @@ fn check_items(
     blocks: &[u32],
     from: usize,
     items: u64,
+    mode: Mode,
 ) -> ValueResult
     requires { ⌜ (Rising (now starts)) × (Counted (now blocks) (now starts)) × (from ≤ length (now region)) × (length (now region) ≤ LIMIT) ⌝ }
-    ensures { λ r. ⌜ ChecksItems r (now (region .entry)) (now (starts .entry)) from items ⌝ }
+    ensures { λ r. ⌜ ChecksItems mode r (now (region .entry)) (now (starts .entry)) from items ⌝ }
 {
     let mut at = from;
     let mut pending = items;
     while 0 < pending {
-        match checker_item::scan_item(region, at) {
+        match checker_item::scan_item(region, at, mode) {
             ScanResult::Ok(h) => {
                 if is_bad_text(region, h) {
                     return ValueResult::Err(Error {
@@ -107,11 +109,17 @@ fn check_items(
 }
 
 // Checks the value at `at` with its items, after the values that begin at `starts`, counted by blocks.
-pub fn check_value(region: &[u8], starts: &[u32], blocks: &[u32], at: usize) -> ValueResult
+pub fn check_value(
+    region: &[u8],
+    starts: &[u32],
+    blocks: &[u32],
+    at: usize,
+    mode: Mode,
+) -> ValueResult
     requires { ⌜ (Rising (now starts)) × (Counted (now blocks) (now starts)) × (at < length (now region)) × (length (now region) ≤ LIMIT) ⌝ }
-    ensures { λ r. ⌜ ChecksValue r (now (region .entry)) (now (starts .entry)) at ⌝ }
+    ensures { λ r. ⌜ ChecksValue mode r (now (region .entry)) (now (starts .entry)) at ⌝ }
 {
-    match scan::scan(region, at, false) {
+    match scan::scan(region, at, false, mode) {
         ScanResult::Ok(h) => {
             if is_bad_text(region, h) {
                 return ValueResult::Err(Error {
@@ -125,7 +133,7 @@ pub fn check_value(region: &[u8], starts: &[u32], blocks: &[u32], at: usize) -> 
                     place: at,
                 });
             }
-            check_items(region, starts, blocks, h.end, h.items)
+            check_items(region, starts, blocks, h.end, h.items, mode)
         }
         ScanResult::Err(e) => ValueResult::Err(e),
     }

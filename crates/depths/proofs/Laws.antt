@@ -17,6 +17,7 @@ use Rattle.prelude.proofs.Tests.{pick-elim, facts}
 use Rattle.error.specs.Error as errors
 use Rattle.error.specs.Error.{Fault, fault, LIMIT, FULL}
 use Rattle.error.specs.declared.Error.{Error}
+use Rattle.leb128.specs.declared.Mode.{Mode}
 use Rattle.table.specs.Blocks.{Below}
 use Rattle.checker_value.specs.Walk.{between, startsFrom}
 use Rattle.checker_value.proofs.Walks.{come}
@@ -41,26 +42,26 @@ record Inside (file : List ℕ) (cap : ℕ) (ss : List ℕ) : Type 0 where
   fits : length ss ≤ cap
   starts : Starts (take (length file - 1) file) ss
 
-module _ (file : List ℕ) (cap : ℕ) where
+module _ (mode : Mode) (file : List ℕ) (cap : ℕ) where
   abbrev Finds : Answer Fault ((List ℕ) × ℕ) → Type 0
   Finds (ok r) = Inside file cap (r .0)
   Finds (error f) = Unit {0}
 
-  finds : Finds (checkIn file cap)
+  finds : Finds (checkIn mode file cap)
   unfolding checkIn bind
   finds =
       pick-elim Finds (eqb (length file) 0) (λ t. tt)
       (λ some. pick-elim Finds (ltb LIMIT (length file)) (λ t. tt)
-      (λ short. by-cases (omega (facts, eqb-false (length file) 0 some)) (omega facts) (startsFrom (take (length file - 1) file) cap (between 0 [])) refl))
+      (λ short. by-cases (omega (facts, eqb-false (length file) 0 some)) (omega facts) (startsFrom mode (take (length file - 1) file) cap (between 0 [])) refl))
     where
       by-entry : (ss : List ℕ) → Inside file cap ss → (a : Answer Fault ℕ) → Finds (bind a (λ e. ok (ss, e)))
       by-entry ss i (ok e) = i
       by-entry ss i (error f) = tt
 
-      by-cases : 1 ≤ length file → length file ≤ LIMIT → (a : Answer Fault (List ℕ)) → startsFrom (take (length file - 1) file) cap (between 0 []) ≡ a
+      by-cases : 1 ≤ length file → length file ≤ LIMIT → (a : Answer Fault (List ℕ)) → startsFrom mode (take (length file - 1) file) cap (between 0 []) ≡ a
           → Finds (bind a (λ done. bind (entryAt (length file - 1) (getD file (length file - 1) 0) done) (λ e. ok (done, e))))
       by-cases some short (ok ss) e =
-          let c = come (take (length file - 1) file) cap ss (sym e) in
+          let c = come mode (take (length file - 1) file) cap ss (sym e) in
           by-entry ss (record { some = some; short = short; fits = c .1; starts = record { rising = c .0; inside = c .2 } })
           (entryAt (length file - 1) (getD file (length file - 1) 0) ss)
       by-cases some short (error f) e = tt
@@ -70,23 +71,23 @@ ok-error : {X A : Type 0} {a : A} {f : Fault} → _≡_ {A = Answer Fault A} (ok
 ok-error e = let z : _≡_ {A = ℕ} 0 1 = cc in absurd (omega arith)
 
 -- a file that check accepted, with the table t that it left
-record Found (file t : List ℕ) (cap count entry : ℕ) : Type 0 where
+record Found (mode : Mode) (file t : List ℕ) (cap count entry : ℕ) : Type 0 where
   some : 1 ≤ length file
   short : length file ≤ LIMIT
   long : length t ≡ cap
   fits : count ≤ length t
-  found : checkIn file cap ≡ ok (take count t, entry)
+  found : checkIn mode file cap ≡ ok (take count t, entry)
   table : t ≡ filled cap (take count t)
   starts : Starts (take (length file - 1) file) (take count t)
 
-module _ (file t : List ℕ) (cap : ℕ) (r : CheckResult) (left : checked (checkAnswer r) t ≡ checkOf file cap) where
+module _ (mode : Mode) (file t : List ℕ) (cap : ℕ) (r : CheckResult) (left : checked (checkAnswer r) t ≡ checkOf mode file cap) where
   module _ (count entry : ℕ) (is : r ≡ checks-are.Ok count entry) where
-    accepted : Found file t cap count entry
+    accepted : Found mode file t cap count entry
     unfolding checkOf
-    accepted = by-cases (checkIn file cap) refl (finds file cap) (rw is at left)
+    accepted = by-cases (checkIn mode file cap) refl (finds mode file cap) (rw is at left)
       where
-        by-cases : (a : Answer Fault ((List ℕ) × ℕ)) → checkIn file cap ≡ a → Finds file cap a → checked (ok (count, entry)) t ≡ listed cap a
-            → Found file t cap count entry
+        by-cases : (a : Answer Fault ((List ℕ) × ℕ)) → checkIn mode file cap ≡ a → Finds mode file cap a → checked (ok (count, entry)) t ≡ listed cap a
+            → Found mode file t cap count entry
         by-cases (ok p) e i q =
             let reported : _≡_ {A = Answer Fault (ℕ × ℕ)} (ok (count, entry)) (ok (length (p .0), p .1)) = ap (λ (x : Checked). x .answer) q in
             let both : _≡_ {A = ℕ × ℕ} (count, entry) (length (p .0), p .1) = cc in
@@ -129,30 +130,30 @@ module _ (file t : List ℕ) (cap : ℕ) (r : CheckResult) (left : checked (chec
 
     module _ (room : ℕ) where
       pub depths-full : room < count → (y z : List ℕ) → y ≡ replicate (length t) 0 → z ≡ replicate room 0
-          → deepened (error (fault FULL (getD t room 0))) y z ≡ depthsOf file cap room
+          → deepened (error (fault FULL (getD t room 0))) y z ≡ depthsOf mode file cap room
       unfolding depthsOf
       depths-full h y z ey ez =
           let f = accepted in
           rw (f .found, length-take-le count t (f .fits), lt-ltb room count h, ey, ez, f .long, getD-take count t room 0 h)
 
       pub depths-answer : count ≤ room → (d : List ℕ) → length d ≡ room
-          → take (length (take count t)) d ≡ depthsTo (take (length file - 1) file) (take count t) (length (take count t))
+          → take (length (take count t)) d ≡ depthsTo mode (take (length file - 1) file) (take count t) (length (take count t))
           → (z : List ℕ) → z ≡ replicate (length (take (length d - count) (drop count d))) 0
-          → deepened (ok (count, entry)) t (putMid count (length d - count) d z) ≡ depthsOf file cap room
+          → deepened (ok (count, entry)) t (putMid count (length d - count) d z) ≡ depthsOf mode file cap room
       unfolding depthsOf
       depths-answer h d long reported z ez =
           let f = accepted in
-          let e : take count d ≡ depthsTo (take (length file - 1) file) (take count t) count = rw (length-take-le count t (f .fits)) at reported in
+          let e : take count d ≡ depthsTo mode (take (length file - 1) file) (take count t) count = rw (length-take-le count t (f .fits)) at reported in
           ap (λ x. deepened (ok (count, entry)) x (putMid count (length d - count) d z)) (f .table)
           ∙ rw (f .found, length-take-le count t (f .fits), le-ltb room count h, ez, zeros-after d count (omega arith), e, long)
 
   pub depths-refused : (f : Error) → r ≡ checks-are.Err f → (room : ℕ) (z : List ℕ) → z ≡ replicate room 0
-      → deepened (error (errors.faultOf f)) t z ≡ depthsOf file cap room
+      → deepened (error (errors.faultOf f)) t z ≡ depthsOf mode file cap room
   unfolding checkOf depthsOf
-  depths-refused f is room z zeros = by-cases (checkIn file cap) (rw is at left)
+  depths-refused f is room z zeros = by-cases (checkIn mode file cap) (rw is at left)
     where
       by-cases : (a : Answer Fault ((List ℕ) × ℕ)) → checked (error (errors.faultOf f)) t ≡ listed cap a
-          → deepened (error (errors.faultOf f)) t z ≡ deepen (take (length file - 1) file) cap room a
+          → deepened (error (errors.faultOf f)) t z ≡ deepen mode (take (length file - 1) file) cap room a
       by-cases (ok p) q = ok-error (sym (ap (λ (x : Checked). x .answer) q))
       by-cases (error g) q =
           let words : t ≡ replicate cap 0 = ap (λ (x : Checked). x .starts) q in

@@ -13,6 +13,7 @@ use lib.ListN.{length, take, getD, replicate}
 use Rattle.prelude.specs.Pick.{pick}
 use Rattle.prelude.specs.Answer.{Answer, ok, error}
 use Rattle.error.specs.Error.{Fault, fault, FULL}
+use Rattle.leb128.specs.declared.Mode.{Mode}
 use Rattle.depths_value.specs.Depth.{depthsTo}
 use Rattle.checker.specs.Check.{checkIn, filled}
 
@@ -27,12 +28,12 @@ deepened a t d = record { answer = a; starts = t; depths = d }
 abbrev pub depthsRefused : ℕ → ℕ → Fault → Deepened
 depthsRefused cap room e = deepened (error e) (replicate cap 0) (replicate room 0)
 
-abbrev pub deepen : List ℕ → ℕ → ℕ → Answer Fault ((List ℕ) × ℕ) → Deepened
-deepen s cap room (ok r) =
+abbrev pub deepen : Mode → List ℕ → ℕ → ℕ → Answer Fault ((List ℕ) × ℕ) → Deepened
+deepen mode s cap room (ok r) =
     let ss = r .0 in
     pick (ltb room (length ss)) (depthsRefused cap room (fault FULL (getD ss room 0)))
-    (deepened (ok (length ss, r .1)) (filled cap ss) (filled room (depthsTo s ss (length ss))))
-deepen s cap room (error e) = depthsRefused cap room e
+    (deepened (ok (length ss, r .1)) (filled cap ss) (filled room (depthsTo mode s ss (length ss))))
+deepen mode s cap room (error e) = depthsRefused cap room e
 
-unfoldable pub depthsOf : List ℕ → ℕ → ℕ → Deepened
-depthsOf file cap room = deepen (take (length file - 1) file) cap room (checkIn file cap)
+unfoldable pub depthsOf : Mode → List ℕ → ℕ → ℕ → Deepened
+depthsOf mode file cap room = deepen mode (take (length file - 1) file) cap room (checkIn mode file cap)

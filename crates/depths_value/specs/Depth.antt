@@ -21,6 +21,7 @@ use Rattle.prelude.specs.Answer.{Answer, ok, error}
 use Rattle.prelude.specs.Loop.{Turn, go, stop, from}
 use Rattle.prelude.specs.Search.{rank}
 use Rattle.error.specs.Error.{Fault}
+use Rattle.leb128.specs.declared.Mode.{Mode}
 use Rattle.scan.specs.Answers.{scanAt}
 use Rattle.scan.specs.declared.Head.{Head}
 
@@ -38,19 +39,19 @@ abbrev pub depthTurned : List ℕ → List ℕ → DepthState → Answer Fault H
 depthTurned ss ds w (ok h) = go (depthState (h .end) (max (w .deep) (targetDepth ss ds (w .at) h)))
 depthTurned ss ds w (error e) = stop (w .deep)
 
-unfoldable pub depthTurn : List ℕ → List ℕ → List ℕ → ℕ → DepthState → Turn DepthState ℕ
-depthTurn s ss ds end w = pick (leb end (w .at)) (stop (w .deep)) (depthTurned ss ds w (scanAt false s (w .at)))
+unfoldable pub depthTurn : Mode → List ℕ → List ℕ → List ℕ → ℕ → DepthState → Turn DepthState ℕ
+depthTurn mode s ss ds end w = pick (leb end (w .at)) (stop (w .deep)) (depthTurned ss ds w (scanAt mode false s (w .at)))
 
-unfoldable pub deepestFrom : List ℕ → List ℕ → List ℕ → ℕ → DepthState → ℕ
-deepestFrom s ss ds end w = from (depthTurn s ss ds end) (λ v. length s - v .at) 0 w
+unfoldable pub deepestFrom : Mode → List ℕ → List ℕ → List ℕ → ℕ → DepthState → ℕ
+deepestFrom mode s ss ds end w = from (depthTurn mode s ss ds end) (λ v. length s - v .at) 0 w
 
-abbrev pub deepestIn : List ℕ → List ℕ → List ℕ → ℕ → ℕ → ℕ
-deepestIn s ss ds end at = deepestFrom s ss ds end (depthState at 0)
+abbrev pub deepestIn : Mode → List ℕ → List ℕ → List ℕ → ℕ → ℕ → ℕ
+deepestIn mode s ss ds end at = deepestFrom mode s ss ds end (depthState at 0)
 
 -- value number i ends where the next one starts, and the last at the region's end
-unfoldable pub depthAt : List ℕ → List ℕ → List ℕ → ℕ → ℕ
-depthAt s ss ds i = suc (deepestIn s ss ds (getD ss (suc i) (length s)) (getD ss i 0))
+unfoldable pub depthAt : Mode → List ℕ → List ℕ → List ℕ → ℕ → ℕ
+depthAt mode s ss ds i = suc (deepestIn mode s ss ds (getD ss (suc i) (length s)) (getD ss i 0))
 
-unfoldable pub depthsTo : List ℕ → List ℕ → ℕ → List ℕ
-depthsTo s ss zero = []
-depthsTo s ss (suc k) = let ds = depthsTo s ss k in ds ++ (depthAt s ss ds k ∷ [])
+unfoldable pub depthsTo : Mode → List ℕ → List ℕ → ℕ → List ℕ
+depthsTo mode s ss zero = []
+depthsTo mode s ss (suc k) = let ds = depthsTo mode s ss k in ds ++ (depthAt mode s ss ds k ∷ [])

@@ -1,4 +1,5 @@
 // The depth of one value (document 01, "Check and depths"), from the depths of the values before it.
+use leb128::Mode;
 use scan::Head;
 use scan::ScanResult;
 ghost use mathlib.Core.Path.{_≡_};
@@ -44,14 +45,15 @@ fn deepest(
     before: &[u32],
     start: usize,
     end: usize,
+    mode: Mode,
 ) -> u32
     requires { ⌜ (Rising (now starts)) × (Counted (now blocks) (now starts)) × (start ≤ length (now region)) × (length (now region) ≤ LIMIT) ⌝ }
-    ensures { λ r. ⌜ r ≡ deepestIn (now (region .entry)) (now (starts .entry)) (now (before .entry)) end start ⌝ }
+    ensures { λ r. ⌜ r ≡ deepestIn mode (now (region .entry)) (now (starts .entry)) (now (before .entry)) end start ⌝ }
 {
     let mut at = start;
     let mut deep: u32 = 0;
     while at < end {
-        match scan::scan(region, at, false) {
+        match scan::scan(region, at, false, mode) {
             ScanResult::Ok(h) => {
                 deep = max(deep, target_depth(starts, blocks, before, at, h));
                 at = h.end;
@@ -77,12 +79,19 @@ fn end_of(len: usize, starts: &[u32], i: usize) -> usize
 }
 
 // The depth of value number i; the first i words of the table hold the depths of the values before it.
-pub fn depth_at(region: &[u8], starts: &[u32], blocks: &[u32], depths: &[u32], i: usize) -> u32
+pub fn depth_at(
+    region: &[u8],
+    starts: &[u32],
+    blocks: &[u32],
+    depths: &[u32],
+    i: usize,
+    mode: Mode,
+) -> u32
     requires { ⌜ (i < length (now starts)) × (i ≤ length (now depths)) × (length (now region) ≤ LIMIT) × (Starts (now region) (now starts))
-        × (Counted (now blocks) (now starts)) × (take i (now depths) ≡ depthsTo (now region) (now starts) i) ⌝ }
-    ensures { λ r. ⌜ r ≡ depthAt (now (region .entry)) (now (starts .entry)) (take i (now (depths .entry))) i ⌝ }
+        × (Counted (now blocks) (now starts)) × (take i (now depths) ≡ depthsTo mode (now region) (now starts) i) ⌝ }
+    ensures { λ r. ⌜ r ≡ depthAt mode (now (region .entry)) (now (starts .entry)) (take i (now (depths .entry))) i ⌝ }
 {
     let start = starts[i] as usize;
     let end = end_of(region.len(), starts, i);
-    deepest(region, starts, blocks, &depths[..i], start, end) + 1
+    deepest(region, starts, blocks, &depths[..i], start, end, mode) + 1
 }

@@ -12,11 +12,11 @@ use Rattle.checker_starts.proofs.walk.Statement.{statement}
 use Rattle.checker_starts.proofs.walk.Tie as tie
 
 abbrev Inv-loop : tie.InvT-loop
-Inv-loop region starts₀ blocks₀ at₀ count₀ starts blocks at count =
-    (TableInvariant region starts (length starts₀) at count) × (Indexed region starts blocks at count) × (length blocks ≡ length blocks₀)
+Inv-loop region starts₀ blocks₀ mode at₀ count₀ starts blocks at count =
+    (TableInvariant mode region starts (length starts₀) at count) × (Indexed region starts blocks at count) × (length blocks ≡ length blocks₀)
 
 abbrev μ-loop : tie.MeasureT-loop
-μ-loop region starts₀ blocks₀ at₀ count₀ starts blocks at count = length region - at
+μ-loop region starts₀ blocks₀ mode at₀ count₀ starts blocks at count = length region - at
 
 pub walk-spec : {M : Type 1} → statement M
 walk-spec =
@@ -24,10 +24,10 @@ walk-spec =
     (tie.spec
     Inv-loop
     μ-loop
-    (λ c. let h = c .before .before .before .pre in (table-start _ _, indexed-start _ _ _ (h .1) (h .2), refl))
+    (λ c. let h = c .before .before .before .pre in (table-start _ _ _, indexed-start _ _ _ (h .1) (h .2), refl))
     (λ c. search needs)
     (λ c. search needs)
-    (λ c. let l = c .before in (table-full _ _ _ _ _ (l .before .loop .inv .0) (l .loop-test .taken) (omega arith), tt))
+    (λ c. let l = c .before in (table-full _ _ _ _ _ _ (l .before .loop .inv .0) (l .loop-test .taken) (omega arith), tt))
     (λ c. search needs)
     (λ c. search needs)
     (λ c. search needs)
@@ -50,4 +50,4 @@ walk-spec =
     (λ c. (search (table-error, arith), tt))
     (λ c. search needs)
     (λ c. search needs)
-    (λ c. (table-end _ _ _ _ _ (c .before .loop .inv .0) (c .loop-test .left), search needs)))
+    (λ c. (table-end _ _ _ _ _ _ (c .before .loop .inv .0) (c .loop-test .left), search needs)))

@@ -13,12 +13,12 @@ use Rattle.checker_value.proofs.check_items.Statement.{statement}
 use Rattle.checker_value.proofs.check_items.Tie as tie
 
 abbrev Inv-loop : tie.InvT-loop
-Inv-loop region starts blocks from items at₀ pending₀ at pending =
-    ((cap start : ℕ) → startsFrom region cap (inValue at start pending starts) ≡ startsFrom region cap (inValue from start items starts))
+Inv-loop region starts blocks from items mode at₀ pending₀ at pending =
+    ((cap start : ℕ) → startsFrom mode region cap (inValue at start pending starts) ≡ startsFrom mode region cap (inValue from start items starts))
     × (from ≤ at) × (at ≤ length region)
 
 abbrev μ-loop : tie.MeasureT-loop
-μ-loop region starts blocks from items at₀ pending₀ at pending = pending
+μ-loop region starts blocks from items mode at₀ pending₀ at pending = pending
 
 abbrev done : tie.At-loop Inv-loop μ-loop → List ℕ
 done l = l .before .before .before .before .args .starts .now
@@ -32,21 +32,21 @@ check-items-spec =
     (λ c. (λ cap start. refl, omega arith, search needs))
     (λ c κs. search needs)
     (λ c. search needs)
-    (λ c κs. let w = scan-within _ _ _ _ (rw (c .before .h .given .1) at (c .before .before .before .scan-item .ensures)) in (w .body, w .end))
+    (λ c κs. let w = scan-within _ _ _ _ _ (rw (c .before .h .given .1) at (c .before .before .before .scan-item .ensures)) in (w .body, w .end))
     (λ c. let b = c .before in
     let h = b .before .before in
     let s = h .before .before in
     let l = s .before .before in
-    let e = token-bad-text _ _ (done l) _ _ (s .scan-item .ensures) _ (h .h .given .1) _ (b .is-bad-text .ensures) (c .if1 .taken) in
-    (λ cap start. item-error _ _ _ _ (s .before .loop-test .taken) cap start _ e ∙ l .loop .inv .0 cap start, tt))
+    let e = token-bad-text _ _ _ (done l) _ _ (s .scan-item .ensures) _ (h .h .given .1) _ (b .is-bad-text .ensures) (c .if1 .taken) in
+    (λ cap start. item-error _ _ _ _ _ (s .before .loop-test .taken) cap start _ e ∙ l .loop .inv .0 cap start, tt))
     (λ c κs. search needs)
     (λ c. let g = c .before .before in
     let b = g .before in
     let h = b .before .before in
     let s = h .before .before in
-    let e = token-bad-target _ _ _ _ _ (s .scan-item .ensures) _ (h .h .given .1) _ (b .is-bad-text .ensures)
+    let e = token-bad-target _ _ _ _ _ _ (s .scan-item .ensures) _ (h .h .given .1) _ (b .is-bad-text .ensures)
     (g .if1 .left) _ (c .before .is-bad-target .ensures) (c .if2 .taken) in
-    (λ cap start. item-error _ _ _ _ (s .before .loop-test .taken) cap start _ e ∙ s .before .before .loop .inv .0 cap start, tt))
+    (λ cap start. item-error _ _ _ _ _ (s .before .loop-test .taken) cap start _ e ∙ s .before .before .loop .inv .0 cap start, tt))
     (λ c. search needs)
     (λ c. search needs)
     (λ c. let g = c .before .before in
@@ -54,14 +54,14 @@ check-items-spec =
     let h = b .before .before in
     let s = h .before .before in
     let i = s .before .before .loop .inv in
-    let e = token-taken _ _ _ _ _ (s .scan-item .ensures) _ (h .h .given .1) _ (b .is-bad-text .ensures)
+    let e = token-taken _ _ _ _ _ _ (s .scan-item .ensures) _ (h .h .given .1) _ (b .is-bad-text .ensures)
     (g .if1 .left) _ (c .before .is-bad-target .ensures) (c .if2 .left) in
-    let w = scan-within _ _ _ _ (rw (h .h .given .1) at (s .scan-item .ensures)) in
-    (λ cap start. item-on _ _ _ _ (s .before .loop-test .taken) cap start _ e ∙ i .0 cap start, omega (arith, i .1, w .numbers, w .body), w .end))
+    let w = scan-within _ _ _ _ _ (rw (h .h .given .1) at (s .scan-item .ensures)) in
+    (λ cap start. item-on _ _ _ _ _ (s .before .loop-test .taken) cap start _ e ∙ i .0 cap start, omega (arith, i .1, w .numbers, w .body), w .end))
     (λ c. search needs)
     (λ c. let s = c .before .before .before in
     let l = s .before .before in
-    let e = token-unscanned _ _ (done l) _ _ (s .scan-item .ensures) _ (c .before .e .given .1) in
-    (λ cap start. item-error _ _ _ _ (s .before .loop-test .taken) cap start _ e ∙ l .loop .inv .0 cap start, tt))
+    let e = token-unscanned _ _ _ (done l) _ _ (s .scan-item .ensures) _ (c .before .e .given .1) in
+    (λ cap start. item-error _ _ _ _ _ (s .before .loop-test .taken) cap start _ e ∙ l .loop .inv .0 cap start, tt))
     (λ c. let l = c .before in
-    (λ cap start. items-end _ (done l) _ _ (c .loop-test .left) cap start ∙ l .loop .inv .0 cap start, (l .loop .inv .1, l .loop .inv .2))))
+    (λ cap start. items-end _ _ (done l) _ _ (c .loop-test .left) cap start ∙ l .loop .inv .0 cap start, (l .loop .inv .1, l .loop .inv .2))))

@@ -11,11 +11,11 @@ use Rattle.depths.proofs.depths_to_by.Statement.{statement}
 use Rattle.depths.proofs.depths_to_by.Tie as tie
 
 abbrev Inv-loop : tie.InvT-loop
-Inv-loop region starts blocks depths₀ known i₀ depths i =
-    (i ≤ length starts) × (length depths ≡ length depths₀) × (take i depths ≡ depthsTo region starts i)
+Inv-loop region starts blocks depths₀ mode known i₀ depths i =
+    (i ≤ length starts) × (length depths ≡ length depths₀) × (take i depths ≡ depthsTo mode region starts i)
 
 abbrev μ-loop : tie.MeasureT-loop
-μ-loop region starts blocks depths₀ known i₀ depths i = length starts - i
+μ-loop region starts blocks depths₀ mode known i₀ depths i = length starts - i
 
 pub depths-to-by-spec : {M : Type 1} → statement M
 unfolding depthsTo

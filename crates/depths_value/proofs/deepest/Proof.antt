@@ -10,11 +10,11 @@ use Rattle.depths_value.proofs.deepest.Statement.{statement}
 use Rattle.depths_value.proofs.deepest.Tie as tie
 
 abbrev Inv-loop : tie.InvT-loop
-Inv-loop region starts blocks before start end at₀ deep₀ at deep =
-    (at ≤ length region) × (deepestFrom region starts before end (depthState at deep) ≡ deepestIn region starts before end start)
+Inv-loop region starts blocks before start end mode at₀ deep₀ at deep =
+    (at ≤ length region) × (deepestFrom mode region starts before end (depthState at deep) ≡ deepestIn mode region starts before end start)
 
 abbrev μ-loop : tie.MeasureT-loop
-μ-loop region starts blocks before start end at₀ deep₀ at deep = length region - at
+μ-loop region starts blocks before start end mode at₀ deep₀ at deep = length region - at
 
 pub deepest-spec : {M : Type 1} → statement M
 deepest-spec =
