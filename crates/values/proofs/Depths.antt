@@ -18,6 +18,7 @@ use Rattle.prelude.specs.Search.{among, rank}
 use Rattle.prelude.specs.Each.{Each}
 use Rattle.prelude.proofs.Tests.{split, or-true}
 use Rattle.prelude.proofs.Searches.{rank-getD}
+use Rattle.leb128.specs.declared.Mode.{Mode}
 use Rattle.values.specs.Values.{Value, tokens, bytes, starts, TargetsEarlier, Values}
 use Rattle.values.specs.Paths.{targetsOf, Leads, Path, end, step, Depth, Falling, deepest, depthsFrom, depthsOfValues}
 use Rattle.values.proofs.Members.{each-imp, each-among, among-take}
@@ -110,7 +111,7 @@ number vs x = rank x (starts 0 vs)
 abbrev has-targets : List Value → ℕ → List ℕ
 has-targets vs i = getD (targetsOf 0 vs) i []
 
-module _ (vs : List Value) (ok : Values vs) where
+module _ {mode : Mode} (vs : List Value) (ok : Values mode vs) where
   -- so the value that starts at a target has a lower number
   before : (i : ℕ) → i < length vs → Each (λ x. (number vs x < i) × (getD (starts 0 vs) (number vs x) 0 ≡ x)) (has-targets vs i)
   before i h = each-imp _ _ (λ x m. among-take x (starts 0 vs) i (rising-starts 0 vs) m) (has-targets vs i) (targets-before [] 0 vs i h (ok .targets))

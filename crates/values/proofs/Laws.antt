@@ -16,6 +16,7 @@ use borrow.Author.Tests.{le-leb, lt-leb}
 use Rattle.prelude.specs.Search.{among, Rising}
 use Rattle.prelude.specs.Each.{Each}
 use Rattle.prelude.proofs.Tests.{split}
+use Rattle.leb128.specs.declared.Mode.{Mode}
 use Rattle.kind.specs.Kind.{rule, counted, pending, immediate}
 use Rattle.kind.proofs.Laws.{immediate-none}
 use Rattle.token.specs.Token.{Token, emit, Allowed, Fits}
@@ -141,12 +142,18 @@ immediate-counts t f one =
     let none = immediate-none (t .kind) one in
     rw (none .each, none .single, f .alone (none .args)) (omega arith)
 
-pub fits-item : (t : Token) → Item t → (s : List ℕ) → Fits true t s
-fits-item t i s = record { allowed = i .sound .allowed; flat = rw (i .immediate); room = omega (arith, immediate-counts t (i .sound .allowed) (i .immediate)) }
+pub fits-item : {mode : Mode} (t : Token) → Item mode t → (s : List ℕ) → Fits mode true t s
+fits-item t i s = record {
+  allowed = i .sound .allowed;
+  spelled = i .sound .spelled;
+  flat = rw (i .immediate);
+  room = omega (arith, immediate-counts t (i .sound .allowed) (i .immediate));
+}
 
-pub fits-head : (v : Value) → Formed v → (s : List ℕ) → Fits false (v .head) (bytes (v .items) ++ s)
+pub fits-head : {mode : Mode} (v : Value) → Formed mode v → (s : List ℕ) → Fits mode false (v .head) (bytes (v .items) ++ s)
 fits-head v f s = record {
   allowed = f .head .allowed;
+  spelled = f .head .spelled;
   flat = refl;
   room = omega (arith, f .count, items-room (v .items), length-append (bytes (v .items)) s);
 }

@@ -4,6 +4,8 @@ pub mod Members
 pub mod Laws
 -- a file has at most one reading
 pub mod Unique
+-- what is well formed in the strict mode is so in either
+pub mod Modes
 -- paths go back, and the depths are those of the longest paths
 pub mod Depths
 -- where a value leads, by its tokens

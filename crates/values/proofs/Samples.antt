@@ -7,9 +7,11 @@ use native.Mathlib.Omega.{arith}
 use lib.ListN.{length}
 use Rattle.prelude.specs.Search.{among, rank}
 use Rattle.prelude.specs.Each.{Each}
+use Rattle.leb128.specs.declared.Mode.{Mode}
 use Rattle.kind.specs.Kind.{rule}
 use Rattle.token.specs.Token.{Token, token, putIf, emit, Allowed}
-use Rattle.utf8.specs.Text.{isText, textFrom, next, lead}
+use Rattle.token.proofs.Laws.{spelled-token}
+use Rattle.utf8.specs.Text.{Text, isText, textFrom, next, lead}
 use Rattle.utf8.proofs.Laws.{isText-text}
 use Rattle.values.specs.Values.{Value, bytes, region, starts, Sound, Item, Formed, TargetsEarlier, WellFormed}
 use Rattle.values.specs.Paths.{targets, targetsOf, deepest, depthsFrom, depthsOfValues}
@@ -38,40 +40,43 @@ infixr 5 _&_
 abbrev _&_ : {A B : Type 0} → A → B → A × B
 _&_ a b = (a, b)
 
-plain : (t : Token) → Allowed t → (t .kind ≡ 4 → ⊥) → Sound t
-plain t a n = record { allowed = a; text = λ e. absurd (n e) }
+sound : {mode : Mode} (k n : ℕ) (b : List ℕ) → Allowed (token k n 0 b) → (k ≡ 4 → Text b) → Sound mode (token k n 0 b)
+sound {mode} k n b a t = record { allowed = a; spelled = spelled-token mode k n 0 b a; text = t }
 
-array-head : (n : ℕ) → n < 15 → Sound (token 6 n 0 [])
-unfolding rule
-array-head n h = plain _ (omega arith) (λ e. omega arith)
+plain : {mode : Mode} (k n : ℕ) → Allowed (token k n 0 []) → (k ≡ 4 → ⊥) → Sound mode (token k n 0 [])
+plain k n a other = sound k n [] a (λ e. absurd (other e))
 
-text-item : (b : List ℕ) → length b < 15 → isText b ≡ true → Item (text b)
+array-head : {mode : Mode} (n : ℕ) → n < 15 → Sound mode (token 6 n 0 [])
 unfolding rule
-text-item b h e = record { sound = record { allowed = omega arith; text = λ k. isText-text b e }; immediate = refl }
+array-head n h = plain 6 n (omega arith) (λ e. omega arith)
 
-pointer-item : (n : ℕ) → n < 15 → Item (pointer n)
+text-item : {mode : Mode} (b : List ℕ) → length b < 15 → isText b ≡ true → Item mode (text b)
 unfolding rule
-pointer-item n h = record { sound = plain _ (omega arith) (λ e. omega arith); immediate = refl }
+text-item b h e = record { sound = sound 4 (length b) b (omega arith) (λ k. isText-text b e); immediate = refl }
 
-true-item : Item (token 0 1 0 [])
+pointer-item : {mode : Mode} (n : ℕ) → n < 15 → Item mode (pointer n)
 unfolding rule
-true-item = record { sound = plain _ (omega arith) (λ e. omega arith); immediate = refl }
+pointer-item n h = record { sound = plain 15 n (omega arith) (λ e. omega arith); immediate = refl }
+
+true-item : {mode : Mode} → Item mode (token 0 1 0 [])
+unfolding rule
+true-item = record { sound = plain 0 1 (omega arith) (λ e. omega arith); immediate = refl }
 
 -- an array of one pointer
-pointing : (n : ℕ) → n < 15 → Formed (value (token 6 1 0 []) (pointer n ∷ []))
+pointing : {mode : Mode} (n : ℕ) → n < 15 → Formed mode (value (token 6 1 0 []) (pointer n ∷ []))
 unfolding rule
 pointing n h = record { head = array-head 1 (omega arith); items = pointer-item n h & tt; count = refl }
 
 -- ---- the file
 
-formed : Each Formed hello
+formed : (mode : Mode) → Each (Formed mode) hello
 unfolding rule textFrom next lead
-formed =
+formed mode =
     record { head = (text-item _ (omega arith) refl) .sound; items = tt; count = refl }
     & pointing 6 (omega arith)
     & record { head = array-head 2 (omega arith); items = pointer-item 8 (omega arith) & pointer-item 3 (omega arith) & tt; count = refl }
     & record {
-      head = plain _ (omega arith) (λ e. omega arith);
+      head = plain 7 2 (omega arith) (λ e. omega arith);
       items = text-item _ (omega arith) refl & pointer-item 5 (omega arith) & text-item _ (omega arith) refl & true-item & tt;
       count = refl;
     }
@@ -90,10 +95,17 @@ targeted =
     & (none 7 (omega arith) & none 4 (omega arith) & (λ k. (omega arith, refl)) & none 4 (omega arith) & none 0 (omega arith) & tt)
     & tt
 
-well-formed : WellFormed
+well-formed : {mode : Mode} → WellFormed mode
     (0x45 ∷ 0x68 ∷ 0x65 ∷ 0x6c ∷ 0x6c ∷ 0x6f ∷ 0x61 ∷ 0xf6 ∷ 0x62 ∷ 0xf8 ∷ 0xf3 ∷ 0x72 ∷ 0x41 ∷ 0x61 ∷ 0xf5 ∷ 0x41 ∷ 0x78 ∷ 0x01 ∷ 0x06 ∷ []) hello 11
 unfolding region bytes emit putIf rule starts among
-well-formed = record { short = omega arith; values = record { formed = formed; targets = targeted }; delta = 6; same = refl; named = refl; start = refl }
+well-formed {mode} = record {
+  short = omega arith;
+  values = record { formed = formed mode; targets = targeted };
+  delta = 6;
+  same = refl;
+  named = refl;
+  start = refl;
+}
 
 starts-hello : starts 0 hello ≡ 0 ∷ 6 ∷ 8 ∷ 11 ∷ []
 unfolding starts bytes emit putIf rule
@@ -106,20 +118,20 @@ depths-hello = refl
 -- ---- files without a reading
 
 -- formed values whose references and pointers do not go back to starts
-no-reading : (us : List Value) (d : ℕ) → Each Formed us → (TargetsEarlier [] 0 us → ⊥) → (vs : List Value) (entry : ℕ)
-    → WellFormed (region us ++ (d ∷ [])) vs entry → ⊥
-no-reading us d f wrong vs entry w =
+no-reading : {mode : Mode} (us : List Value) (d : ℕ) → Each (Formed mode) us → (TargetsEarlier [] 0 us → ⊥) → (vs : List Value) (entry : ℕ)
+    → WellFormed mode (region us ++ (d ∷ [])) vs entry → ⊥
+no-reading {mode} us d f wrong vs entry w =
     let same = last-same (region vs) (region us) (w .delta) d (sym (w .same)) in
-    wrong (subst (TargetsEarlier [] 0) (values-same vs us (w .values .formed) f (same .0)) (w .values .targets))
+    wrong (subst (TargetsEarlier [] 0) (values-same mode vs us (w .values .formed) f (same .0)) (w .values .targets))
 
 -- an array that points to itself
-to-itself : (vs : List Value) (entry : ℕ) → WellFormed (0x61 ∷ 0xf0 ∷ 0x01 ∷ []) vs entry → ⊥
+to-itself : {mode : Mode} (vs : List Value) (entry : ℕ) → WellFormed mode (0x61 ∷ 0xf0 ∷ 0x01 ∷ []) vs entry → ⊥
 unfolding region bytes emit putIf rule among
 to-itself vs entry w =
     no-reading (value (token 6 1 0 []) (pointer 0 ∷ []) ∷ []) 0x01 (pointing 0 (omega arith) & tt) (λ b. false≢true (b .0 .1 .0 (omega arith) .1)) vs entry w
 
 -- an array that points below 0, after a value that starts at 0
-below-file : (vs : List Value) (entry : ℕ) → WellFormed (0x01 ∷ 0x61 ∷ 0xf5 ∷ 0x01 ∷ []) vs entry → ⊥
+below-file : {mode : Mode} (vs : List Value) (entry : ℕ) → WellFormed mode (0x01 ∷ 0x61 ∷ 0xf5 ∷ 0x01 ∷ []) vs entry → ⊥
 unfolding region bytes emit putIf rule among
 below-file vs entry w =
     no-reading (value (token 0 1 0 []) [] ∷ value (token 6 1 0 []) (pointer 5 ∷ []) ∷ []) 0x01
