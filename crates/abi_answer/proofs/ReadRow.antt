@@ -15,6 +15,7 @@ use Rattle.prelude.specs.Answer.{Answer, ok, error, bind}
 use Rattle.prelude.proofs.Tests.{pick-elim}
 use Rattle.prelude.proofs.Tables.{SameRow, same-row, getD-coded}
 use Rattle.error.specs.Error.{Fault}
+use Rattle.leb128.specs.declared.Mode.{Mode}
 use Rattle.little_endian.specs.LittleEndian.{load}
 use Rattle.kind.specs.Kind.{rule}
 use Rattle.kind.proofs.Laws.{used-lt}
@@ -88,19 +89,19 @@ module _ (file : List ℕ) (m at : ℕ) (h : Head) (w : Within (take m file) at 
 
 -- ---- at an offset
 
-pub read-row : (file : List ℕ) (at : ℕ) → readC file at ≡ valueC (afterNumbers (peekOf file at)) (readOf file at)
+pub read-row : (mode : Mode) (file : List ℕ) (at : ℕ) → readC mode file at ≡ valueC (afterNumbers (peekOf mode file at)) (readOf mode file at)
 unfolding inRegion readIn bind
-read-row file at = by-region (regionLen (length file) at)
+read-row mode file at = by-region (regionLen (length file) at)
   where
-    by-head : (m : ℕ) (a : Answer Fault Head) → peekIn false (take m file) at ≡ a
+    by-head : (m : ℕ) (a : Answer Fault Head) → peekIn mode false (take m file) at ≡ a
         → headC file at a ≡ valueC (afterNumbers a) (bind a (λ h. ok (valueOn (take m file) at h)))
     by-head m (ok h) e =
-        let w = scan-within false (take m file) at h (peek-scan false (take m file) at h (sym e)) in
+        let w = scan-within mode false (take m file) at h (peek-scan mode false (take m file) at h (sym e)) in
         rows-same file m at h w ∙ ap (wordsC (h .first)) (sym (row-value (take m file) at h w))
     by-head m (error e) q = refl
 
     by-region : (a : Answer Fault ℕ)
-        → headC file at (bind a (λ m. peekIn false (take m file) at))
-        ≡ valueC (afterNumbers (bind a (λ m. peekIn false (take m file) at))) (bind a (λ m. readIn (take m file) at))
-    by-region (ok m) = by-head m (peekIn false (take m file) at) refl
+        → headC file at (bind a (λ m. peekIn mode false (take m file) at))
+        ≡ valueC (afterNumbers (bind a (λ m. peekIn mode false (take m file) at))) (bind a (λ m. readIn mode (take m file) at))
+    by-region (ok m) = by-head m (peekIn mode false (take m file) at) refl
     by-region (error e) = refl

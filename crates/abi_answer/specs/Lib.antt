@@ -1,4 +1,4 @@
--- what the answers are in C
+-- what the mode and the answers are in C
 pub mod Answers
 -- what `twine_read` returns: a row for each kind
 pub mod Read

@@ -22,6 +22,7 @@ use lib.ListN.{drop, getD}
 use Rattle.prelude.specs.Pick.{pick}
 use Rattle.prelude.specs.Answer.{Answer, ok, error}
 use Rattle.error.specs.Error.{Fault}
+use Rattle.leb128.specs.declared.Mode.{Mode}
 use Rattle.little_endian.specs.LittleEndian.{load}
 use Rattle.scan.specs.declared.Head.{Head}
 use Rattle.reader_region.specs.Region.{peekOf}
@@ -68,8 +69,8 @@ abbrev pub headC : List ℕ → ℕ → Answer Fault Head → Reply
 headC file at (ok h) = let r = rowOf file at h in reply 0 (h .kind ∷ r .number ∷ h .first ∷ r .count ∷ [])
 headC file at (error e) = reply (e .number) (e .place ∷ 0 ∷ 0 ∷ 0 ∷ [])
 
-abbrev pub readC : List ℕ → ℕ → Reply
-readC file at = headC file at (peekOf file at)
+abbrev pub readC : Mode → List ℕ → ℕ → Reply
+readC mode file at = headC file at (peekOf mode file at)
 
 abbrev pub wordOf : ℤ → ℕ
 wordOf (pos n) = n

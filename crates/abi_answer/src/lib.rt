@@ -1,5 +1,6 @@
-// The answers of check and of the queries, as C gets them.
+// The mode, as C gives it, and the answers of check and of the queries, as C gets them.
 use checker::CheckResult;
+use leb128::Mode;
 use reader_body::BodyResult;
 use reader_follow::FollowResult;
 use reader_region::OffsetResult;
@@ -14,8 +15,18 @@ ghost use Rattle.reader_follow.specs.Answers.{followAnswer};
 ghost use Rattle.reader_body.specs.Answers.{bodyAnswer};
 ghost use Rattle.checker.specs.Answers.{checkAnswer};
 ghost use Rattle.abi_error.specs.Reply.{reply};
-ghost use Rattle.abi_answer.specs.Answers.{offsetC, pairC};
+ghost use Rattle.abi_answer.specs.Answers.{modeOf, offsetC, pairC};
 ghost use Rattle.abi_answer.specs.Read.{floatBits, rowOf, readC};
+
+// 1 is the tolerant mode, any other number the strict one.
+pub fn mode_of(n: u32) -> Mode
+    ensures { λ r. ⌜ r ≡ modeOf n ⌝ }
+{
+    if n == 1 {
+        return Mode::Tolerant;
+    }
+    Mode::Strict
+}
 
 // An offset and 0.
 pub fn answer_offset(answer: OffsetResult, out: &mut [u64; 2]) -> u32
@@ -147,10 +158,10 @@ fn row_of(file: &[u8], at: usize, h: Head) -> Row
 }
 
 // Kind, number, the offset just after the numbers, and count; an error's place and zeros.
-pub fn read(file: &[u8], at: usize, out: &mut [u64; 4]) -> u32
-    ensures { λ r. ⌜ reply r (now (out .exit)) ≡ readC (now (file .entry)) at ⌝ }
+pub fn read(file: &[u8], at: usize, out: &mut [u64; 4], mode: Mode) -> u32
+    ensures { λ r. ⌜ reply r (now (out .exit)) ≡ readC mode (now (file .entry)) at ⌝ }
 {
-    match reader_region::peek(file, at) {
+    match reader_region::peek(file, at, mode) {
         ScanResult::Ok(h) => {
             let row = row_of(file, at, h);
             *out = [h.kind as u64, row.number, h.first as u64, row.count];

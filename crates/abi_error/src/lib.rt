@@ -4,11 +4,11 @@ ghost use mathlib.Core.Path.{_≡_};
 ghost use Rattle.error.specs.Error as errors;
 ghost use Rattle.abi_error.specs.Reply.{nameC, reply, errorC};
 
-// The version of the C interface. `twine::twine_abi_1` answers it, and has it in its name: a change of a shape raises both.
+// The version of the C interface. `twine::twine_abi_2` answers it, and has it in its name: a change of a shape raises both.
 pub fn abi() -> u32
-    ensures { λ r. ⌜ r ≡ 1 ⌝ }
+    ensures { λ r. ⌜ r ≡ 2 ⌝ }
 {
-    1
+    2
 }
 
 // `error::name_of`: the name, with zeros after it; zeros alone if no error has this number.

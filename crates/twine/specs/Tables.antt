@@ -13,6 +13,7 @@ use Rattle.checker.specs.Check.{checkOf}
 use Rattle.depths.specs.Depths.{depthsOf}
 use Rattle.abi_error.specs.Reply.{Reply}
 use Rattle.abi_answer.specs.Answers.{pairC}
+use Rattle.leb128.specs.declared.Mode.{Mode}
 
 pub record CheckReply : Type 0 where
   pub reply : Reply
@@ -21,8 +22,8 @@ pub record CheckReply : Type 0 where
 abbrev pub checkReply : Reply → List ℕ → CheckReply
 checkReply r t = record { reply = r; starts = t }
 
-abbrev pub checkC : List ℕ → ℕ → CheckReply
-checkC file cap = let c = checkOf file cap in checkReply (pairC (c .answer)) (c .starts)
+abbrev pub checkC : Mode → List ℕ → ℕ → CheckReply
+checkC mode file cap = let c = checkOf mode file cap in checkReply (pairC (c .answer)) (c .starts)
 
 pub record DepthsReply : Type 0 where
   pub reply : Reply
@@ -32,5 +33,5 @@ pub record DepthsReply : Type 0 where
 abbrev pub depthsReply : Reply → List ℕ → List ℕ → DepthsReply
 depthsReply r t d = record { reply = r; starts = t; depths = d }
 
-abbrev pub depthsC : List ℕ → ℕ → ℕ → DepthsReply
-depthsC file cap room = let d = depthsOf file cap room in depthsReply (pairC (d .answer)) (d .starts) (d .depths)
+abbrev pub depthsC : Mode → List ℕ → ℕ → ℕ → DepthsReply
+depthsC mode file cap room = let d = depthsOf mode file cap room in depthsReply (pairC (d .answer)) (d .starts) (d .depths)

@@ -1,6 +1,6 @@
 // The library for C; bindings/c/twine.h is its header. A slice is a pointer and a length in C, an array is a pointer. A
-// call returns an error's number, 0 for none; what else it reports is in an array of the caller. A comment on a
-// function names the Rattle function that it calls.
+// call returns an error's number, 0 for none; what else it reports is in an array of the caller. A mode is a number: 1 is
+// tolerant, any other strict. A comment on a function names the Rattle function that it calls.
 use writer::Scalar;
 ghost use mathlib.Core.Path.{_≡_};
 ghost use lib.ListN.{length};
@@ -12,7 +12,7 @@ ghost use Rattle.writer.specs.Call.{Call};
 ghost use Rattle.writer.specs.Step.{fresh};
 ghost use Rattle.writer.specs.declared.Scalar as Scalar;
 ghost use Rattle.abi_error.specs.Reply.{nameC, reply};
-ghost use Rattle.abi_answer.specs.Answers.{offsetC, pairC};
+ghost use Rattle.abi_answer.specs.Answers.{modeOf, offsetC, pairC};
 ghost use Rattle.twine.specs.Tables.{checkReply, checkC, depthsReply, depthsC};
 ghost use Rattle.abi_answer.specs.Read.{readC};
 ghost use Rattle.abi_writer.specs.Calls.{wordsOf, truth, called, stepC};
@@ -21,8 +21,8 @@ ghost use Rattle.abi_writer.specs.Calls.{wordsOf, truth, called, stepC};
 
 // The version of this interface, also in the name: what was compiled against another version refers to another name, and does not link.
 #[no_mangle]
-pub extern "C" fn twine_abi_1() -> u32
-    ensures { λ r. ⌜ r ≡ 1 ⌝ }
+pub extern "C" fn twine_abi_2() -> u32
+    ensures { λ r. ⌜ r ≡ 2 ⌝ }
 {
     abi_error::abi()
 }
@@ -41,74 +41,96 @@ pub extern "C" fn twine_spell_error(number: u32, name: &mut [u8; 11]) -> u32
 
 // `checker::check`: count and entry.
 #[no_mangle]
-pub extern "C" fn twine_check(file: &[u8], starts: &mut [u32], out: &mut [u64; 2]) -> u32
-    ensures { λ r. ⌜ checkReply (reply r (now (out .exit))) (now (starts .exit)) ≡ checkC (now (file .entry)) (length (now (starts .entry))) ⌝ }
+pub extern "C" fn twine_check(file: &[u8], mode: u32, starts: &mut [u32], out: &mut [u64; 2]) -> u32
+    ensures { λ r. ⌜ checkReply (reply r (now (out .exit))) (now (starts .exit)) ≡ checkC (modeOf mode) (now (file .entry)) (length (now (starts .entry))) ⌝ }
 {
-    abi_answer::answer_entry(checker::check(file, starts), out)
+    abi_answer::answer_entry(checker::check(file, starts, abi_answer::mode_of(mode)), out)
 }
 
 // `depths::depths`: count and entry.
 #[no_mangle]
 pub extern "C" fn twine_depths(
     file: &[u8],
+    mode: u32,
     starts: &mut [u32],
     depths: &mut [u32],
     out: &mut [u64; 2],
 ) -> u32
     ensures { λ r. ⌜ depthsReply (reply r (now (out .exit))) (now (starts .exit)) (now (depths .exit))
-        ≡ depthsC (now (file .entry)) (length (now (starts .entry))) (length (now (depths .entry))) ⌝ }
+        ≡ depthsC (modeOf mode) (now (file .entry)) (length (now (starts .entry))) (length (now (depths .entry))) ⌝ }
 {
-    abi_answer::answer_entry(depths::depths(file, starts, depths), out)
+    abi_answer::answer_entry(
+        depths::depths(file, starts, depths, abi_answer::mode_of(mode)),
+        out,
+    )
 }
 
 // ---- queries
 
 // `reader::peek`: kind, number, the offset just after the numbers, and count; an error's place and zeros.
 #[no_mangle]
-pub extern "C" fn twine_read(file: &[u8], at: usize, out: &mut [u64; 4]) -> u32
-    ensures { λ r. ⌜ reply r (now (out .exit)) ≡ readC (now (file .entry)) at ⌝ }
+pub extern "C" fn twine_read(file: &[u8], mode: u32, at: usize, out: &mut [u64; 4]) -> u32
+    ensures { λ r. ⌜ reply r (now (out .exit)) ≡ readC (modeOf mode) (now (file .entry)) at ⌝ }
 {
-    abi_answer::read(file, at, out)
+    abi_answer::read(file, at, out, abi_answer::mode_of(mode))
 }
 
 // `reader::skip`: the offset just after the value, and 0.
 #[no_mangle]
-pub extern "C" fn twine_skip(file: &[u8], at: usize, out: &mut [u64; 2]) -> u32
-    ensures { λ r. ⌜ reply r (now (out .exit)) ≡ offsetC (skipOf (now (file .entry)) at) ⌝ }
+pub extern "C" fn twine_skip(file: &[u8], mode: u32, at: usize, out: &mut [u64; 2]) -> u32
+    ensures { λ r. ⌜ reply r (now (out .exit)) ≡ offsetC (skipOf (modeOf mode) (now (file .entry)) at) ⌝ }
 {
-    abi_answer::answer_offset(reader::skip(file, at), out)
+    abi_answer::answer_offset(reader::skip(file, at, abi_answer::mode_of(mode)), out)
 }
 
 // `reader::item`: the item's offset, and 0.
 #[no_mangle]
-pub extern "C" fn twine_item(file: &[u8], at: usize, index: usize, out: &mut [u64; 2]) -> u32
-    ensures { λ r. ⌜ reply r (now (out .exit)) ≡ offsetC (itemOf (now (file .entry)) at index) ⌝ }
+pub extern "C" fn twine_item(
+    file: &[u8],
+    mode: u32,
+    at: usize,
+    index: usize,
+    out: &mut [u64; 2],
+) -> u32
+    ensures { λ r. ⌜ reply r (now (out .exit)) ≡ offsetC (itemOf (modeOf mode) (now (file .entry)) at index) ⌝ }
 {
-    abi_answer::answer_offset(reader::item(file, at, index), out)
+    abi_answer::answer_offset(
+        reader::item(file, at, index, abi_answer::mode_of(mode)),
+        out,
+    )
 }
 
 // `reader::follow`: offset and hops.
 #[no_mangle]
-pub extern "C" fn twine_follow(file: &[u8], at: usize, out: &mut [u64; 2]) -> u32
-    ensures { λ r. ⌜ reply r (now (out .exit)) ≡ pairC (followOf (now (file .entry)) at) ⌝ }
+pub extern "C" fn twine_follow(file: &[u8], mode: u32, at: usize, out: &mut [u64; 2]) -> u32
+    ensures { λ r. ⌜ reply r (now (out .exit)) ≡ pairC (followOf (modeOf mode) (now (file .entry)) at) ⌝ }
 {
-    abi_answer::answer_follow(reader::follow(file, at), out)
+    abi_answer::answer_follow(reader::follow(file, at, abi_answer::mode_of(mode)), out)
 }
 
 // `reader::lookup`: the offset of the value, and 0.
 #[no_mangle]
-pub extern "C" fn twine_lookup(file: &[u8], at: usize, key: &[u8], out: &mut [u64; 2]) -> u32
-    ensures { λ r. ⌜ reply r (now (out .exit)) ≡ offsetC (lookupOf (now (file .entry)) at (now (key .entry))) ⌝ }
+pub extern "C" fn twine_lookup(
+    file: &[u8],
+    mode: u32,
+    at: usize,
+    key: &[u8],
+    out: &mut [u64; 2],
+) -> u32
+    ensures { λ r. ⌜ reply r (now (out .exit)) ≡ offsetC (lookupOf (modeOf mode) (now (file .entry)) at (now (key .entry))) ⌝ }
 {
-    abi_answer::answer_offset(reader::lookup(file, at, key), out)
+    abi_answer::answer_offset(
+        reader::lookup(file, at, key, abi_answer::mode_of(mode)),
+        out,
+    )
 }
 
 // `reader::body_place`: first offset and length.
 #[no_mangle]
-pub extern "C" fn twine_body(file: &[u8], at: usize, out: &mut [u64; 2]) -> u32
-    ensures { λ r. ⌜ reply r (now (out .exit)) ≡ pairC (bodyPlaceOf (now (file .entry)) at) ⌝ }
+pub extern "C" fn twine_body(file: &[u8], mode: u32, at: usize, out: &mut [u64; 2]) -> u32
+    ensures { λ r. ⌜ reply r (now (out .exit)) ≡ pairC (bodyPlaceOf (modeOf mode) (now (file .entry)) at) ⌝ }
 {
-    abi_answer::answer_body(reader::body_place(file, at), out)
+    abi_answer::answer_body(reader::body_place(file, at, abi_answer::mode_of(mode)), out)
 }
 
 // ---- the writer's calls: those of `writer::Writer`, on the state that the words stand for

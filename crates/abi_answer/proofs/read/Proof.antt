@@ -12,7 +12,7 @@ read-spec =
     (tie.spec
     (λ c κs. search needs)
     (λ c. search needs)
-    (λ c κs. let t = c .before in peekOf-peeked _ _ _ (rw (t .h .given .1) at (t .before .before .peek .ensures)))
+    (λ c κs. let t = c .before in peekOf-peeked _ _ _ _ (rw (t .h .given .1) at (t .before .before .peek .ensures)))
     (λ c. search needs)
     (λ c. search needs)
     (λ c κs. search needs)

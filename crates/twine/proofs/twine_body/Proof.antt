@@ -11,4 +11,5 @@ twine-body-spec =
     (tie.spec
     (λ c κs. search needs)
     (λ c κs. search needs)
-    (λ c. c .answer-body .ensures ∙ ap pairC (c .before .before .body-place .ensures)))
+    (λ c κs. search needs)
+    (λ c. c .answer-body .ensures ∙ ap pairC (rw (c .before .before .before .mode-of .ensures) at (c .before .before .body-place .ensures))))

@@ -11,4 +11,5 @@ twine-follow-spec =
     (tie.spec
     (λ c κs. search needs)
     (λ c κs. search needs)
-    (λ c. c .answer-follow .ensures ∙ ap pairC (c .before .before .follow .ensures)))
+    (λ c κs. search needs)
+    (λ c. c .answer-follow .ensures ∙ ap pairC (rw (c .before .before .before .mode-of .ensures) at (c .before .before .follow .ensures))))

@@ -11,4 +11,5 @@ twine-item-spec =
     (tie.spec
     (λ c κs. search needs)
     (λ c κs. search needs)
-    (λ c. c .answer-offset .ensures ∙ ap offsetC (c .before .before .item .ensures)))
+    (λ c κs. search needs)
+    (λ c. c .answer-offset .ensures ∙ ap offsetC (rw (c .before .before .before .mode-of .ensures) at (c .before .before .item .ensures))))
