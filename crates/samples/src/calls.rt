@@ -30,6 +30,7 @@ use super::words::parse_hex;
 use super::words::parse_integer;
 use super::words::parse_number;
 use super::words::parse_number32;
+use leb128::Mode;
 use writer::Scalar;
 use writer::WriteResult;
 use writer::Writer;
@@ -190,7 +191,7 @@ fn is_junk_words(part: &[u32], at: usize) -> bool {
 
 fn check_closed(file: &[u8]) {
     let mut starts = [JUNK_WORD; 32];
-    print_check(checker::check(file, &mut starts));
+    print_check(checker::check(file, &mut starts, Mode::Strict));
 }
 
 // What the calls have written and listed.

@@ -27,6 +27,7 @@ mod print;
 mod words;
 
 use calls::call_all_in;
+use leb128::Mode;
 use libc::STDIN_FILENO;
 use parts::JUNK_WORD;
 use parts::lend_words;
@@ -112,7 +113,7 @@ fn answer_tokens(region: &[u8]) {
     let mut at: usize = 0;
     let mut pending: u64 = 0;
     while (at < region.len()) | (0 < pending) {
-        match scan::scan(region, at, 0 < pending) {
+        match scan::scan(region, at, 0 < pending, Mode::Strict) {
             ScanResult::Ok(h) => {
                 print_head(at, h);
                 pending = pending_after(pending, h.items);
@@ -131,16 +132,16 @@ fn answer_tokens(region: &[u8]) {
 fn answer_lookup(file: &[u8], at: usize, s: &[u8]) {
     let mut space = [0u8; 16384];
     let n = parse_hex(s, &mut space);
-    print_offset(reader::lookup(file, at, &space[..n]));
+    print_offset(reader::lookup(file, at, &space[..n], Mode::Strict));
 }
 
 fn answer_body(file: &[u8], at: usize) {
-    print_body_place(reader::body_place(file, at));
-    print_bytes(reader::body(file, at));
+    print_body_place(reader::body_place(file, at, Mode::Strict));
+    print_bytes(reader::body(file, at, Mode::Strict));
 }
 
 fn answer_check(file: &[u8], starts: &mut [u32]) {
-    print_check(checker::check(file, starts));
+    print_check(checker::check(file, starts, Mode::Strict));
     print_text(b":");
     print_table(starts);
 }
@@ -152,7 +153,7 @@ fn answer_check_in(file: &[u8], n: usize) {
 }
 
 fn answer_depths(file: &[u8], starts: &mut [u32], second: &mut [u32]) {
-    print_check(depths::depths(file, starts, second));
+    print_check(depths::depths(file, starts, second, Mode::Strict));
     print_text(b":");
     print_table(starts);
     print_text(b" /");
@@ -172,10 +173,10 @@ fn answer_query(q: Query, args: &[u8], file: &[u8]) {
     let rest = skip_word(args);
     match q {
         Query::Tokens => answer_tokens(file),
-        Query::Read => print_read(reader::read(file, n)),
-        Query::Skip => print_offset(reader::skip(file, n)),
-        Query::Item => print_offset(reader::item(file, n, parse_number(rest))),
-        Query::Follow => print_follow(reader::follow(file, n)),
+        Query::Read => print_read(reader::read(file, n, Mode::Strict)),
+        Query::Skip => print_offset(reader::skip(file, n, Mode::Strict)),
+        Query::Item => print_offset(reader::item(file, n, parse_number(rest), Mode::Strict)),
+        Query::Follow => print_follow(reader::follow(file, n, Mode::Strict)),
         Query::Lookup => answer_lookup(file, n, first_word(rest)),
         Query::Body => answer_body(file, n),
         Query::Check => answer_check_in(file, n),

@@ -4,6 +4,7 @@
 use checker::CheckResult;
 use error::Error;
 use error::ErrorKind;
+use leb128::Mode;
 use libc::STDERR_FILENO;
 use libc::STDIN_FILENO;
 use libc::STDOUT_FILENO;
@@ -63,5 +64,5 @@ fn main() {
     }
     // a value has at least one byte, so these words are never too few
     let mut starts = [0u32; 16384];
-    answer(checker::check(&buffer[..n], &mut starts));
+    answer(checker::check(&buffer[..n], &mut starts, Mode::Strict));
 }
