@@ -16,6 +16,7 @@ use Rattle.prelude.specs.Pick.{pick}
 use Rattle.prelude.specs.Answer.{Answer, ok, error, bind}
 use Rattle.prelude.proofs.Tests.{pick-elim, and-l, and-r, or-true, or-false, facts}
 use Rattle.error.specs.Error.{Fault, fault, LIMIT, BAD_TARGET}
+use Rattle.leb128.specs.declared.Mode.{Mode}
 use Rattle.kind.specs.Kind.{rule, size, immediate}
 use Rattle.scan.specs.Answers.{scanAt, bodyOn}
 use Rattle.scan.specs.declared.Head.{Head}
@@ -80,92 +81,93 @@ module _ {A : Type 0} (k : List ℕ → Answer Fault A) (G : List ℕ → A → 
   pub query-exactly : ((s : List ℕ) → Row (G s) (P s) (k s)) → ((s : List ℕ) (a : Answer Fault A) → Row (G s) (P s) a → k s ≡ a) → Exactly
   query-exactly row is a = (λ e. subst Asked e (query-row row), query-is is a)
 
-module _ (s : List ℕ) where
+module _ (mode : Mode) (s : List ℕ) where
   -- ---- a token
 
   module _ (inner : Bool) (q : ℕ) where
-    same-head : (r : Read s inner q) → headOfWhole s inner q (r .whole) ≡ headOf s r
+    same-head : (r : Read mode s inner q) → headOfWhole mode s inner q (r .whole) ≡ headOf mode s r
     same-head r =
         let kind : r .header / 16 ≡ r .kind = sym (r .kindIs) in
-        let items : headOfWhole s inner q (r .whole) .items ≡ r .items = rw kind (sym (r .itemsAre)) in
-        let first : headOfWhole s inner q (r .whole) .first ≡ r .first = whole-first s inner q (r .whole) ∙ sym (r .firstIs) in
-        let end : headOfWhole s inner q (r .whole) .end ≡ r .end = whole-end s inner q (r .whole) ∙ sym (r .endIs ∙ rw (r .firstIs, r .kindIs)) in
+        let items : headOfWhole mode s inner q (r .whole) .items ≡ r .items = rw kind (sym (r .itemsAre)) in
+        let first : headOfWhole mode s inner q (r .whole) .first ≡ r .first = whole-first mode s inner q (r .whole) ∙ sym (r .firstIs) in
+        let end : headOfWhole mode s inner q (r .whole) .end ≡ r .end = whole-end mode s inner q (r .whole) ∙ sym (r .endIs ∙ rw (r .firstIs, r .kindIs)) in
         λ i. record { kind = kind i; n = r .n; items = items i; first = first i; end = end i }
 
     -- its body is where the head says
-    pub body-read : (r : Read s inner q) → bodyOn s (headOf s r) ≡ r .body
-    body-read r = sym (ap (bodyOn s) (same-head r)) ∙ whole-body s inner q (r .whole)
+    pub body-read : (r : Read mode s inner q) → bodyOn s (headOf mode s r) ≡ r .body
+    body-read r = sym (ap (bodyOn s) (same-head r)) ∙ whole-body mode s inner q (r .whole)
 
-    body-len : (r : Read s inner q) → length (r .body) ≡ r .end - r .first
-    body-len r = let size : length (r .body) ≡ size (rule (r .kind)) (r .n) = rw (r .kindIs) (whole-size s inner q (r .whole)) in omega (arith, r .endIs)
+    body-len : (r : Read mode s inner q) → length (r .body) ≡ r .end - r .first
+    body-len r = let size : length (r .body) ≡ size (rule (r .kind)) (r .n) = rw (r .kindIs) (whole-size mode s inner q (r .whole)) in omega (arith, r .endIs)
 
     abbrev targeted : Head → Answer Fault Head
     targeted h = pick (below q h) (error (fault BAD_TARGET q)) (ok h)
 
-    peek-read : (r : Read s inner q) → peekIn inner s q ≡ ok (headOf s r)
+    peek-read : (r : Read mode s inner q) → peekIn mode inner s q ≡ ok (headOf mode s r)
     unfolding peekIn bind
     peek-read r =
         let above = excluded (leb 14 (r .kind)) (leb q (r .n)) (λ e. lt-leb q (r .n) (omega (arith, r .target (leb-true _ _ e)))) in
-        rw (scanAt-whole s inner q (r .whole) ∙ ap ok (same-head r), above)
+        rw (scanAt-whole mode s inner q (r .whole) ∙ ap ok (same-head r), above)
 
-    peek-refused : {f : Fault} → RefusedRead s inner q f → peekIn inner s q ≡ error f
+    peek-refused : {f : Fault} → RefusedRead mode s inner q f → peekIn mode inner s q ≡ error f
     unfolding peekIn bind
-    peek-refused (queries.head x) = rw (error-of-head s inner q x)
-    peek-refused (queries.target {h} {n} w ref low) = rw (scanAt-whole s inner q w, le-leb _ _ ref, le-leb q n (omega arith))
+    peek-refused (queries.head x) = rw (error-of-head mode s inner q x)
+    peek-refused (queries.target {h} {n} w ref low) = rw (scanAt-whole mode s inner q w, le-leb _ _ ref, le-leb q n (omega arith))
 
     abbrev Peeks : Answer Fault Head → Type 0
-    Peeks = Row (λ h. (r : Read s inner q) × (headOf s r ≡ h)) (RefusedRead s inner q)
+    Peeks = Row (λ h. (r : Read mode s inner q) × (headOf mode s r ≡ h)) (RefusedRead mode s inner q)
 
-    whole-peeks : {h n : ℕ} {b : List ℕ} (w : Whole s inner q h n b) → Peeks (targeted (headOfWhole s inner q w))
+    whole-peeks : {h n : ℕ} {b : List ℕ} (w : Whole mode s inner q h n b) → Peeks (targeted (headOfWhole mode s inner q w))
     whole-peeks {h} {n} w =
         pick-elim Peeks (leb 14 (h / 16) && leb q n)
         (λ e. queries.target w (leb-true _ _ (and-l (leb 14 (h / 16)) _ e)) (leb-true _ _ (and-r (leb 14 (h / 16)) _ e)))
         (λ e.
-        let r : Read s inner q = record {
+        let r : Read mode s inner q = record {
           header = h;
           n = n;
           body = _;
           whole = w;
           kind = h / 16;
           kindIs = refl;
-          items = headOfWhole s inner q w .items;
+          items = headOfWhole mode s inner q w .items;
           itemsAre = refl;
-          first = headOfWhole s inner q w .first;
-          firstIs = whole-first s inner q w;
-          end = headOfWhole s inner q w .end;
-          endIs = whole-end s inner q w ∙ rw (whole-first s inner q w);
+          first = headOfWhole mode s inner q w .first;
+          firstIs = whole-first mode s inner q w;
+          end = headOfWhole mode s inner q w .end;
+          endIs = whole-end mode s inner q w ∙ rw (whole-first mode s inner q w);
           target = λ l. leb-false _ _ (excluded-by (leb 14 (h / 16)) _ e (le-leb _ _ l));
         } in
         (r, refl))
 
-    scans-peeks : (a : Answer Fault Head) → Scans s inner q a → Peeks (bind a targeted)
+    scans-peeks : (a : Answer Fault Head) → Scans mode s inner q a → Peeks (bind a targeted)
     unfolding bind
     scans-peeks (ok h) x = subst (λ h. Peeks (targeted h)) (sym (x .same)) (whole-peeks (x .whole))
     scans-peeks (error f) x = queries.head x
 
-    peeks : Peeks (peekIn inner s q)
+    peeks : Peeks (peekIn mode inner s q)
     unfolding peekIn
-    peeks = scans-peeks (scanAt inner s q) (scanAt-scans s inner q)
+    peeks = scans-peeks (scanAt mode inner s q) (scanAt-scans mode s inner q)
 
-    peek-is : (a : Answer Fault Head) → Peeks a → peekIn inner s q ≡ a
+    peek-is : (a : Answer Fault Head) → Peeks a → peekIn mode inner s q ≡ a
     peek-is (ok h) x = peek-read (x .0) ∙ ap ok (x .1)
     peek-is (error f) x = peek-refused x
 
     -- ---- what is made of a token
 
     module _ {A : Type 0} (k : Head → Answer Fault A) where
-      pub peek-on : (r : Read s inner q) → bind (peekIn inner s q) k ≡ k (headOf s r)
+      pub peek-on : (r : Read mode s inner q) → bind (peekIn mode inner s q) k ≡ k (headOf mode s r)
       unfolding bind
       peek-on r = rw (peek-read r)
 
-      pub peek-fails : {f : Fault} → RefusedRead s inner q f → bind (peekIn inner s q) k ≡ error f
+      pub peek-fails : {f : Fault} → RefusedRead mode s inner q f → bind (peekIn mode inner s q) k ≡ error f
       unfolding bind
       peek-fails x = rw (peek-refused x)
 
-      pub peek-elim : (P : Answer Fault A → Type 0) → ((f : Fault) → RefusedRead s inner q f → P (error f)) → ((r : Read s inner q) → P (k (headOf s r)))
-          → P (bind (peekIn inner s q) k)
+      pub peek-elim : (P : Answer Fault A → Type 0) → ((f : Fault) → RefusedRead mode s inner q f → P (error f))
+          → ((r : Read mode s inner q) → P (k (headOf mode s r)))
+          → P (bind (peekIn mode inner s q) k)
       unfolding bind
-      peek-elim P bads goods = by-cases (peekIn inner s q) peeks
+      peek-elim P bads goods = by-cases (peekIn mode inner s q) peeks
         where
           by-cases : (a : Answer Fault Head) → Peeks a → P (bind a k)
           by-cases (ok h) x = subst (λ h. P (k h)) (x .1) (goods (x .0))
@@ -173,39 +175,39 @@ module _ (s : List ℕ) where
 
   -- ---- items one after the other
 
-  items-read : {k q e : ℕ} → Items s k q e → skipItems s k q ≡ ok e
+  items-read : {k q e : ℕ} → Items mode s k q e → skipItems mode s k q ≡ ok e
   unfolding skipItems
   items-read queries.none = refl
   items-read (queries.next r x) = peek-on true _ _ r ∙ items-read x
 
-  items-stop : (k : ℕ) {i q p : ℕ} {f : Fault} → i < k → Items s i q p → RefusedRead s true p f → skipItems s k q ≡ error f
+  items-stop : (k : ℕ) {i q p : ℕ} {f : Fault} → i < k → Items mode s i q p → RefusedRead mode s true p f → skipItems mode s k q ≡ error f
   unfolding skipItems
   items-stop zero l x y = absurd (omega arith)
   items-stop (suc k) l queries.none y = peek-fails true _ _ y
   items-stop (suc k) l (queries.next r x) y = peek-on true _ _ r ∙ items-stop k (omega arith) x y
 
-  items-refused : {k q : ℕ} {f : Fault} → RefusedItems s k q f → skipItems s k q ≡ error f
+  items-refused : {k q : ℕ} {f : Fault} → RefusedItems mode s k q f → skipItems mode s k q ≡ error f
   items-refused {k} x = items-stop k (x .less) (x .before) (x .refused)
 
   abbrev Walks : ℕ → ℕ → Answer Fault ℕ → Type 0
-  Walks k q = Row (Items s k q) (RefusedItems s k q)
+  Walks k q = Row (Items mode s k q) (RefusedItems mode s k q)
 
-  walks-on : (k q : ℕ) (r : Read s true q) (a : Answer Fault ℕ) → Walks k (r .end) a → Walks (suc k) q a
+  walks-on : (k q : ℕ) (r : Read mode s true q) (a : Answer Fault ℕ) → Walks k (r .end) a → Walks (suc k) q a
   walks-on k q r (ok e) x = queries.next r x
   walks-on k q r (error f) x = record { i = suc (x .i); less = omega (arith, x .less); p = x .p; before = queries.next r (x .before); refused = x .refused }
 
-  walks : (k q : ℕ) → Walks k q (skipItems s k q)
+  walks : (k q : ℕ) → Walks k q (skipItems mode s k q)
   unfolding skipItems
   walks zero q = queries.none
   walks (suc k) q =
       peek-elim true q _ (Walks (suc k) q) (λ f x. record { i = 0; less = omega arith; p = q; before = queries.none; refused = x })
-      (λ r. walks-on k q r (skipItems s k (r .end)) (walks k (r .end)))
+      (λ r. walks-on k q r (skipItems mode s k (r .end)) (walks k (r .end)))
 
   -- what is made of the items
-  walk-elim : {A : Type 0} (P : Answer Fault A → Type 0) (j : ℕ → Answer Fault A) (k q : ℕ) → ((f : Fault) → RefusedItems s k q f → P (error f))
-      → ((e : ℕ) → Items s k q e → P (j e)) → P (bind (skipItems s k q) j)
+  walk-elim : {A : Type 0} (P : Answer Fault A → Type 0) (j : ℕ → Answer Fault A) (k q : ℕ) → ((f : Fault) → RefusedItems mode s k q f → P (error f))
+      → ((e : ℕ) → Items mode s k q e → P (j e)) → P (bind (skipItems mode s k q) j)
   unfolding bind
-  walk-elim P j k q bads goods = by-cases (skipItems s k q) (walks k q)
+  walk-elim P j k q bads goods = by-cases (skipItems mode s k q) (walks k q)
     where
       by-cases : (a : Answer Fault ℕ) → Walks k q a → P (bind a j)
       by-cases (ok e) x = goods e x
@@ -215,28 +217,28 @@ module _ (s : List ℕ) where
 
   module _ (q : ℕ) where
     abbrev Shows : Answer Fault Value → Type 0
-    Shows = Row (λ v. (r : Read s false q) × (valueOn s q (headOf s r) ≡ v)) (RefusedRead s false q)
+    Shows = Row (λ v. (r : Read mode s false q) × (valueOn s q (headOf mode s r) ≡ v)) (RefusedRead mode s false q)
 
-    read-row : Shows (readIn s q)
+    read-row : Shows (readIn mode s q)
     unfolding readIn
     read-row = peek-elim false q _ Shows (λ f x. x) (λ r. (r, refl))
 
-    read-is : (a : Answer Fault Value) → Shows a → readIn s q ≡ a
+    read-is : (a : Answer Fault Value) → Shows a → readIn mode s q ≡ a
     unfolding readIn
     read-is (ok v) x = peek-on false q _ (x .0) ∙ ap ok (x .1)
     read-is (error f) x = peek-fails false q _ x
 
-    skip-row : Row (Skips s q) (RefusedSkip s q) (skipIn s q)
+    skip-row : Row (Skips mode s q) (RefusedSkip mode s q) (skipIn mode s q)
     unfolding skipIn
     skip-row =
-        peek-elim false q _ (Row (Skips s q) (RefusedSkip s q)) (λ f x. queries.value x)
-        (λ r. by-cases r (skipItems s (r .items) (r .end)) (walks (r .items) (r .end)))
+        peek-elim false q _ (Row (Skips mode s q) (RefusedSkip mode s q)) (λ f x. queries.value x)
+        (λ r. by-cases r (skipItems mode s (r .items) (r .end)) (walks (r .items) (r .end)))
       where
-        by-cases : (r : Read s false q) (a : Answer Fault ℕ) → Walks (r .items) (r .end) a → Row (Skips s q) (RefusedSkip s q) a
+        by-cases : (r : Read mode s false q) (a : Answer Fault ℕ) → Walks (r .items) (r .end) a → Row (Skips mode s q) (RefusedSkip mode s q) a
         by-cases r (ok e) x = record { value = r; items = x }
         by-cases r (error f) x = queries.items r x
 
-    skip-is : (a : Answer Fault ℕ) → Row (Skips s q) (RefusedSkip s q) a → skipIn s q ≡ a
+    skip-is : (a : Answer Fault ℕ) → Row (Skips mode s q) (RefusedSkip mode s q) a → skipIn mode s q ≡ a
     unfolding skipIn
     skip-is (ok e) x = peek-on false q _ (x .value) ∙ items-read (x .items)
     skip-is (error f) (queries.value x) = peek-fails false q _ x
@@ -244,9 +246,9 @@ module _ (s : List ℕ) where
 
     module _ (i : ℕ) where
       abbrev Picks : Answer Fault ℕ → Type 0
-      Picks = Row (HasItem s q i) (RefusedItem s q i)
+      Picks = Row (HasItem mode s q i) (RefusedItem mode s q i)
 
-      item-row : Picks (itemIn s q i)
+      item-row : Picks (itemIn mode s q i)
       unfolding itemIn itemOn startsIn
       item-row =
           peek-elim false q _ Picks (λ f x. queries.value x) (λ r.
@@ -257,7 +259,7 @@ module _ (s : List ℕ) where
           pick-elim Picks (ltb p (length s)) (λ e. record { value = r; kind = deep; less = less; before = x; inside = ltb-true _ _ e })
           (λ out. queries.ended r deep less x (ltb-false _ _ out))))))
 
-      item-is : (a : Answer Fault ℕ) → Picks a → itemIn s q i ≡ a
+      item-is : (a : Answer Fault ℕ) → Picks a → itemIn mode s q i ≡ a
       unfolding itemIn itemOn startsIn bind
       item-is (ok p) x =
           let below = lt-leb (x .value .items) i (omega (arith, x .less)) in
@@ -272,31 +274,32 @@ module _ (s : List ℕ) where
   -- ---- following
 
   -- after `met` pointers
-  pub follow-reaches : {q hops p : ℕ} {v : Read s false p} → Reaches s q hops p v → (met : ℕ)
-      → followFrom s (position q met) ≡ ok (followed p (hops + met) (headOf s v))
+  pub follow-reaches : {q hops p : ℕ} {v : Read mode s false p} → Reaches mode s q hops p v → (met : ℕ)
+      → followFrom mode s (position q met) ≡ ok (followed p (hops + met) (headOf mode s v))
   follow-reaches (queries.here {q} r other) met =
       let none : met ≡ 0 + met = omega arith in
-      sym (followFrom-end s q met _ (sym (peek-read false q r)) other) ∙ ap (λ n. ok (followed q n (headOf s r))) none
+      sym (followFrom-end mode s q met _ (sym (peek-read false q r)) other) ∙ ap (λ n. ok (followed q n (headOf mode s r))) none
   follow-reaches (queries.pointer {q} {hops} {p} {v} r k x) met =
       let one-more : hops + (met + 1) ≡ suc hops + met = omega arith in
-      sym (followFrom-pointer s q met _ (sym (peek-read false q r)) k) ∙ follow-reaches x (met + 1) ∙ ap (λ n. ok (followed p n (headOf s v))) one-more
+      sym (followFrom-pointer mode s q met _ (sym (peek-read false q r)) k) ∙ follow-reaches x (met + 1)
+      ∙ ap (λ n. ok (followed p n (headOf mode s v))) one-more
 
-  pub follow-refused : {q : ℕ} {f : Fault} → RefusedFollow s q f → (met : ℕ) → followFrom s (position q met) ≡ error f
-  follow-refused (queries.value x) met = sym (followFrom-error s _ met _ (sym (peek-refused false _ x)))
-  follow-refused (queries.pointer r k x) met = sym (followFrom-pointer s _ met _ (sym (peek-read false _ r)) k) ∙ follow-refused x (met + 1)
+  pub follow-refused : {q : ℕ} {f : Fault} → RefusedFollow mode s q f → (met : ℕ) → followFrom mode s (position q met) ≡ error f
+  follow-refused (queries.value x) met = sym (followFrom-error mode s _ met _ (sym (peek-refused false _ x)))
+  follow-refused (queries.pointer r k x) met = sym (followFrom-pointer mode s _ met _ (sym (peek-read false _ r)) k) ∙ follow-refused x (met + 1)
 
   -- what following from q leads to, after `met` pointers
   record Led (q met : ℕ) (m : Followed) : Type 0 where
     pub hops : ℕ
     pub p : ℕ
-    pub v : Read s false p
-    pub reaches : Reaches s q hops p v
-    pub same : followed p (hops + met) (headOf s v) ≡ m
+    pub v : Read mode s false p
+    pub reaches : Reaches mode s q hops p v
+    pub same : followed p (hops + met) (headOf mode s v) ≡ m
 
   abbrev Follows : ℕ → ℕ → Answer Fault Followed → Type 0
-  Follows q met = Row (Led q met) (RefusedFollow s q)
+  Follows q met = Row (Led q met) (RefusedFollow mode s q)
 
-  follows-on : {q : ℕ} (met : ℕ) (r : Read s false q) → r .kind ≡ 15 → (a : Answer Fault Followed) → Follows (q - r .n - 1) (met + 1) a → Follows q met a
+  follows-on : {q : ℕ} (met : ℕ) (r : Read mode s false q) → r .kind ≡ 15 → (a : Answer Fault Followed) → Follows (q - r .n - 1) (met + 1) a → Follows q met a
   follows-on met r k (ok m) x =
       let one-more : suc (x .hops) + met ≡ x .hops + (met + 1) = omega arith in
       record {
@@ -304,55 +307,57 @@ module _ (s : List ℕ) where
         p = x .p;
         v = x .v;
         reaches = queries.pointer r k (x .reaches);
-        same = ap (λ n. followed (x .p) n (headOf s (x .v))) one-more ∙ x .same;
+        same = ap (λ n. followed (x .p) n (headOf mode s (x .v))) one-more ∙ x .same;
       }
   follows-on met r k (error f) x = queries.pointer r k x
 
   -- .. if following from every offset below does so
-  follow-turn : (q met : ℕ) → ((p : ℕ) → p < q → Follows p (met + 1) (followFrom s (position p (met + 1)))) → Follows q met (followFrom s (position q met))
-  follow-turn q met lower = by-cases (peekIn false s q) refl (peeks false q)
+  follow-turn : (q met : ℕ) → ((p : ℕ) → p < q → Follows p (met + 1) (followFrom mode s (position p (met + 1))))
+      → Follows q met (followFrom mode s (position q met))
+  follow-turn q met lower = by-cases (peekIn mode false s q) refl (peeks false q)
     where
-      by-kind : (r : Read s false q) (t : Bool) → eqb (r .kind) 15 ≡ t → Follows q met (followFrom s (position q met))
+      by-kind : (r : Read mode s false q) (t : Bool) → eqb (r .kind) 15 ≡ t → Follows q met (followFrom mode s (position q met))
       by-kind r true e =
           let k = eqb-true (r .kind) 15 e in
           let down : q - r .n - 1 < q = omega (arith, r .target (omega arith)) in
-          subst (Follows q met) (followFrom-pointer s q met _ (sym (peek-read false q r)) k)
-          (follows-on met r k (followFrom s (position (q - r .n - 1) (met + 1))) (lower (q - r .n - 1) down))
+          subst (Follows q met) (followFrom-pointer mode s q met _ (sym (peek-read false q r)) k)
+          (follows-on met r k (followFrom mode s (position (q - r .n - 1) (met + 1))) (lower (q - r .n - 1) down))
       by-kind r false e =
           let other = eqb-false (r .kind) 15 e in
           let none : 0 + met ≡ met = omega arith in
-          subst (Follows q met) (followFrom-end s q met _ (sym (peek-read false q r)) other)
-          (record { hops = 0; p = q; v = r; reaches = queries.here r other; same = ap (λ n. followed q n (headOf s r)) none })
+          subst (Follows q met) (followFrom-end mode s q met _ (sym (peek-read false q r)) other)
+          (record { hops = 0; p = q; v = r; reaches = queries.here r other; same = ap (λ n. followed q n (headOf mode s r)) none })
 
-      by-cases : (a : Answer Fault Head) → peekIn false s q ≡ a → Peeks false q a → Follows q met (followFrom s (position q met))
+      by-cases : (a : Answer Fault Head) → peekIn mode false s q ≡ a → Peeks false q a → Follows q met (followFrom mode s (position q met))
       by-cases (ok h) e x = by-kind (x .0) _ refl
-      by-cases (error f) e x = subst (Follows q met) (followFrom-error s q met f (sym e)) (queries.value x)
+      by-cases (error f) e x = subst (Follows q met) (followFrom-error mode s q met f (sym e)) (queries.value x)
 
-  follows : (most q met : ℕ) → q < most → Follows q met (followFrom s (position q met))
+  follows : (most q met : ℕ) → q < most → Follows q met (followFrom mode s (position q met))
   follows zero q met l = absurd (omega arith)
   follows (suc most) q met l = follow-turn q met (λ p down. follows most p (met + 1) (omega arith))
 
   -- what is made of where it leads
-  pub follow-elim : {A : Type 0} (P : Answer Fault A → Type 0) (j : Followed → Answer Fault A) (q : ℕ) → ((f : Fault) → RefusedFollow s q f → P (error f))
-      → ((hops p : ℕ) (v : Read s false p) → Reaches s q hops p v → P (j (followed p hops (headOf s v)))) → P (bind (followFrom s (position q 0)) j)
+  pub follow-elim : {A : Type 0} (P : Answer Fault A → Type 0) (j : Followed → Answer Fault A) (q : ℕ) → ((f : Fault) → RefusedFollow mode s q f → P (error f))
+      → ((hops p : ℕ) (v : Read mode s false p) → Reaches mode s q hops p v → P (j (followed p hops (headOf mode s v))))
+      → P (bind (followFrom mode s (position q 0)) j)
   unfolding bind
-  follow-elim P j q bads goods = by-cases (followFrom s (position q 0)) (follows (suc q) q 0 (omega arith))
+  follow-elim P j q bads goods = by-cases (followFrom mode s (position q 0)) (follows (suc q) q 0 (omega arith))
     where
       by-cases : (a : Answer Fault Followed) → Follows q 0 a → P (bind a j)
       by-cases (ok m) x =
           let none : x .hops ≡ x .hops + 0 = omega arith in
-          subst (λ m. P (j m)) (ap (λ n. followed (x .p) n (headOf s (x .v))) none ∙ x .same) (goods (x .hops) (x .p) (x .v) (x .reaches))
+          subst (λ m. P (j m)) (ap (λ n. followed (x .p) n (headOf mode s (x .v))) none ∙ x .same) (goods (x .hops) (x .p) (x .v) (x .reaches))
       by-cases (error f) x = bads f x
 
   module _ (q : ℕ) where
     abbrev Ends : Answer Fault (ℕ × ℕ) → Type 0
-    Ends = Row (λ r. (v : Read s false (r .0)) × Reaches s q (r .1) (r .0) v) (RefusedFollow s q)
+    Ends = Row (λ r. (v : Read mode s false (r .0)) × Reaches mode s q (r .1) (r .0) v) (RefusedFollow mode s q)
 
-    follow-row : Ends (followIn s q)
+    follow-row : Ends (followIn mode s q)
     unfolding followIn
     follow-row = follow-elim Ends _ q (λ f x. x) (λ hops p v x. (v, x))
 
-    follow-is : (a : Answer Fault (ℕ × ℕ)) → Ends a → followIn s q ≡ a
+    follow-is : (a : Answer Fault (ℕ × ℕ)) → Ends a → followIn mode s q ≡ a
     unfolding followIn bind
     follow-is (ok r) x = let none : r .1 + 0 ≡ r .1 = omega arith in rw (follow-reaches (x .1) 0) (ap (λ n. ok (r .0, n)) none)
     follow-is (error f) x = rw (follow-refused x 0)
@@ -360,9 +365,9 @@ module _ (s : List ℕ) where
     -- ---- the query for a body
 
     abbrev Bodies : Answer Fault (ℕ × ℕ) → Type 0
-    Bodies = Row (λ r. HasBody s q (r .0) (r .1)) (RefusedBody s q)
+    Bodies = Row (λ r. HasBody mode s q (r .0) (r .1)) (RefusedBody mode s q)
 
-    body-row : Bodies (bodyPlaceIn s q)
+    body-row : Bodies (bodyPlaceIn mode s q)
     unfolding bodyPlaceIn
     body-row =
         follow-elim Bodies _ q (λ f x. queries.follow x) (λ hops p v x.
@@ -382,7 +387,7 @@ module _ (s : List ℕ) where
     has-body k (inl e) = rw e
     has-body k (inr e) = rw e
 
-    body-is : (a : Answer Fault (ℕ × ℕ)) → Bodies a → bodyPlaceIn s q ≡ a
+    body-is : (a : Answer Fault (ℕ × ℕ)) → Bodies a → bodyPlaceIn mode s q ≡ a
     unfolding bodyPlaceIn bind
     body-is (ok r) x =
         let len : x .value .end - x .value .first ≡ r .1 = sym (x .lenIs ∙ body-len false _ (x .value)) in
@@ -393,57 +398,61 @@ module _ (s : List ℕ) where
 
 -- ---- both ways
 
-module _ (file : List ℕ) (at : ℕ) where
-  peek-exactly : Exactly (λ s. peekIn false s at) (λ s h. (r : Read s false at) × (headOf s r ≡ h)) (λ s. RefusedRead s false at) file at
-  peek-exactly = query-exactly _ _ _ file at (λ s. peeks s false at) (λ s. peek-is s false at)
+module _ (mode : Mode) (file : List ℕ) (at : ℕ) where
+  peek-exactly : Exactly (λ s. peekIn mode false s at) (λ s h. (r : Read mode s false at) × (headOf mode s r ≡ h)) (λ s. RefusedRead mode s false at) file at
+  peek-exactly = query-exactly _ _ _ file at (λ s. peeks mode s false at) (λ s. peek-is mode s false at)
 
-  pub peek-answers-exactly : (h : Head) → (peekOf file at ≡ ok h) ↔ AnsweredQuery file at (λ s. (r : Read s false at) × (headOf s r ≡ h))
+  pub peek-answers-exactly : (h : Head) → (peekOf mode file at ≡ ok h) ↔ AnsweredQuery file at (λ s. (r : Read mode s false at) × (headOf mode s r ≡ h))
   peek-answers-exactly h = peek-exactly (ok h)
 
-  pub peek-refused-exactly : (f : Fault) → (peekOf file at ≡ error f) ↔ RefusedQuery file at (λ s. RefusedRead s false at) f
+  pub peek-refused-exactly : (f : Fault) → (peekOf mode file at ≡ error f) ↔ RefusedQuery file at (λ s. RefusedRead mode s false at) f
   peek-refused-exactly f = peek-exactly (error f)
 
-  read-exactly : Exactly (λ s. readIn s at) (λ s v. (r : Read s false at) × (valueOn s at (headOf s r) ≡ v)) (λ s. RefusedRead s false at) file at
-  read-exactly = query-exactly _ _ _ file at (λ s. read-row s at) (λ s. read-is s at)
+  read-exactly : Exactly (λ s. readIn mode s at) (λ s v. (r : Read mode s false at) × (valueOn s at (headOf mode s r) ≡ v))
+      (λ s. RefusedRead mode s false at) file at
+  read-exactly = query-exactly _ _ _ file at (λ s. read-row mode s at) (λ s. read-is mode s at)
 
-  pub read-answers-exactly : (v : Value) → (readOf file at ≡ ok v) ↔ AnsweredQuery file at (λ s. (r : Read s false at) × (valueOn s at (headOf s r) ≡ v))
+  pub read-answers-exactly : (v : Value) → (readOf mode file at ≡ ok v)
+      ↔ AnsweredQuery file at (λ s. (r : Read mode s false at) × (valueOn s at (headOf mode s r) ≡ v))
   read-answers-exactly v = read-exactly (ok v)
 
-  pub read-refused-exactly : (f : Fault) → (readOf file at ≡ error f) ↔ RefusedQuery file at (λ s. RefusedRead s false at) f
+  pub read-refused-exactly : (f : Fault) → (readOf mode file at ≡ error f) ↔ RefusedQuery file at (λ s. RefusedRead mode s false at) f
   read-refused-exactly f = read-exactly (error f)
 
-  skip-exactly : Exactly (λ s. skipIn s at) (λ s. Skips s at) (λ s. RefusedSkip s at) file at
-  skip-exactly = query-exactly _ _ _ file at (λ s. skip-row s at) (λ s. skip-is s at)
+  skip-exactly : Exactly (λ s. skipIn mode s at) (λ s. Skips mode s at) (λ s. RefusedSkip mode s at) file at
+  skip-exactly = query-exactly _ _ _ file at (λ s. skip-row mode s at) (λ s. skip-is mode s at)
 
-  pub skip-answers-exactly : (e : ℕ) → (skipOf file at ≡ ok e) ↔ AnsweredQuery file at (λ s. Skips s at e)
+  pub skip-answers-exactly : (e : ℕ) → (skipOf mode file at ≡ ok e) ↔ AnsweredQuery file at (λ s. Skips mode s at e)
   skip-answers-exactly e = skip-exactly (ok e)
 
-  pub skip-refused-exactly : (f : Fault) → (skipOf file at ≡ error f) ↔ RefusedQuery file at (λ s. RefusedSkip s at) f
+  pub skip-refused-exactly : (f : Fault) → (skipOf mode file at ≡ error f) ↔ RefusedQuery file at (λ s. RefusedSkip mode s at) f
   skip-refused-exactly f = skip-exactly (error f)
 
-  item-exactly : (i : ℕ) → Exactly (λ s. itemIn s at i) (λ s. HasItem s at i) (λ s. RefusedItem s at i) file at
-  item-exactly i = query-exactly _ _ _ file at (λ s. item-row s at i) (λ s. item-is s at i)
+  item-exactly : (i : ℕ) → Exactly (λ s. itemIn mode s at i) (λ s. HasItem mode s at i) (λ s. RefusedItem mode s at i) file at
+  item-exactly i = query-exactly _ _ _ file at (λ s. item-row mode s at i) (λ s. item-is mode s at i)
 
-  pub item-answers-exactly : (i p : ℕ) → (itemOf file at i ≡ ok p) ↔ AnsweredQuery file at (λ s. HasItem s at i p)
+  pub item-answers-exactly : (i p : ℕ) → (itemOf mode file at i ≡ ok p) ↔ AnsweredQuery file at (λ s. HasItem mode s at i p)
   item-answers-exactly i p = item-exactly i (ok p)
 
-  pub item-refused-exactly : (i : ℕ) (f : Fault) → (itemOf file at i ≡ error f) ↔ RefusedQuery file at (λ s. RefusedItem s at i) f
+  pub item-refused-exactly : (i : ℕ) (f : Fault) → (itemOf mode file at i ≡ error f) ↔ RefusedQuery file at (λ s. RefusedItem mode s at i) f
   item-refused-exactly i f = item-exactly i (error f)
 
-  follow-exactly : Exactly (λ s. followIn s at) (λ s r. (v : Read s false (r .0)) × Reaches s at (r .1) (r .0) v) (λ s. RefusedFollow s at) file at
-  follow-exactly = query-exactly _ _ _ file at (λ s. follow-row s at) (λ s. follow-is s at)
+  follow-exactly : Exactly (λ s. followIn mode s at) (λ s r. (v : Read mode s false (r .0)) × Reaches mode s at (r .1) (r .0) v)
+      (λ s. RefusedFollow mode s at) file at
+  follow-exactly = query-exactly _ _ _ file at (λ s. follow-row mode s at) (λ s. follow-is mode s at)
 
-  pub follow-answers-exactly : (p hops : ℕ) → (followOf file at ≡ ok (p, hops)) ↔ AnsweredQuery file at (λ s. (v : Read s false p) × Reaches s at hops p v)
+  pub follow-answers-exactly : (p hops : ℕ) → (followOf mode file at ≡ ok (p, hops))
+      ↔ AnsweredQuery file at (λ s. (v : Read mode s false p) × Reaches mode s at hops p v)
   follow-answers-exactly p hops = follow-exactly (ok (p, hops))
 
-  pub follow-refused-exactly : (f : Fault) → (followOf file at ≡ error f) ↔ RefusedQuery file at (λ s. RefusedFollow s at) f
+  pub follow-refused-exactly : (f : Fault) → (followOf mode file at ≡ error f) ↔ RefusedQuery file at (λ s. RefusedFollow mode s at) f
   follow-refused-exactly f = follow-exactly (error f)
 
-  body-exactly : Exactly (λ s. bodyPlaceIn s at) (λ s r. HasBody s at (r .0) (r .1)) (λ s. RefusedBody s at) file at
-  body-exactly = query-exactly _ _ _ file at (λ s. body-row s at) (λ s. body-is s at)
+  body-exactly : Exactly (λ s. bodyPlaceIn mode s at) (λ s r. HasBody mode s at (r .0) (r .1)) (λ s. RefusedBody mode s at) file at
+  body-exactly = query-exactly _ _ _ file at (λ s. body-row mode s at) (λ s. body-is mode s at)
 
-  pub body-answers-exactly : (first len : ℕ) → (bodyPlaceOf file at ≡ ok (first, len)) ↔ AnsweredQuery file at (λ s. HasBody s at first len)
+  pub body-answers-exactly : (first len : ℕ) → (bodyPlaceOf mode file at ≡ ok (first, len)) ↔ AnsweredQuery file at (λ s. HasBody mode s at first len)
   body-answers-exactly first len = body-exactly (ok (first, len))
 
-  pub body-refused-exactly : (f : Fault) → (bodyPlaceOf file at ≡ error f) ↔ RefusedQuery file at (λ s. RefusedBody s at) f
+  pub body-refused-exactly : (f : Fault) → (bodyPlaceOf mode file at ≡ error f) ↔ RefusedQuery file at (λ s. RefusedBody mode s at) f
   body-refused-exactly f = body-exactly (error f)

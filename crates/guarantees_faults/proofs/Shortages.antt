@@ -17,6 +17,7 @@ use Rattle.prelude.specs.Pick.{pick}
 use Rattle.prelude.specs.Search.{among}
 use Rattle.prelude.proofs.Tests.{pick-elim, or-true, facts}
 use Rattle.error.specs.Error.{Fault, fault, TRUNC, LONG_LIST}
+use Rattle.leb128.specs.declared.Mode.{Mode}
 use Rattle.kind.specs.Kind.{rule, table, reserved, size, counted}
 use Rattle.kind.specs.declared.Rule.{Rule}
 use Rattle.token.specs.Scan.{shortage}
@@ -113,7 +114,7 @@ exceeds-shortage at first (faults.pairs is l) = rw is
 exceeds-shortage at first (faults.arguments is l) = rw is
 
 -- so a body or count that exceeds the bytes left is a float that is cut, or a length or count of `Exceeds`, and nothing else
-pub shortage-exactly : {s : List ℕ} {inner : Bool} {q h n a : ℕ} {m : List ℕ} → Counted s inner q h n a m
+pub shortage-exactly : {mode : Mode} {s : List ℕ} {inner : Bool} {q h n a : ℕ} {m : List ℕ} → Counted mode s inner q h n a m
     → (length m < size (rule (h / 16)) n + counted (rule (h / 16)) n a)
     ↔ (((h / 16 ≡ 3) × (length m < 4 + 4 * n)) ⊎ ((e : ℕ) × Exceeds (h / 16) n a (length m) e))
 shortage-exactly {h = h} {n} {a} {m} c = (

@@ -1,4 +1,5 @@
--- What a token is refused for (document 01, "Numbers of refusal", and document 02, W-201), by the bytes and the kind table alone; nothing here reads.
+-- What a token is refused for (document 01, "Numbers of refusal", and document 02, W-201 and W-203), by the bytes and the kind table alone; nothing here
+-- reads.
 -- Which kinds have a length or a count, and what it measures, is said kind by kind, and not by the table.
 --
 -- The rows of `RefusedToken`, and in them those of `RefusedHead`, are in the paper's order: "the first fault wins. Within a value: FULL, RESERVED,
@@ -7,14 +8,16 @@
 -- and that no row above it applies: `HasWord`, `Header`, `Usable`, `Numbered`, `Counted` and `Whole` gather, step by step, what was not refused.
 --
 --   GoesOn b             b is a continuation byte
---   Number s n rest      the bytes s are the number n in its shortest form, and then `rest`
---   BadNumber s e        s begins with no number, for the reason e
---   NumberIf w s n rest  the same as `Number` if w is true; else there is none, and n is 0
+--   Number mode s n rest the bytes s are the number n, in the strict mode in its shortest form, and then `rest`
+--   BadNumber mode s e   s begins with no number, for the reason e; OVERLONG in the strict mode alone
+--   NumberIf mode w s n rest
+--                        the same as `Number` if w is true; else there is none, and n is 0
+--   overlongIn mode      OVERLONG in the strict mode; none in the tolerant one
 --   longErrors           LONG_BODY and LONG_LIST
 --   Exceeds k n a left e the length or count that a token of kind k announces, by n or by the argument count a, exceeds the `left` bytes after its numbers,
 --                        or half of them if it counts pairs; the error is e
 --
--- A token is wanted at the offset q of the region s, and if `inner` is true, as an item.
+-- A token is wanted at the offset q of the region s, and if `inner` is true, as an item; its numbers are read in `mode`.
 --
 --   Header h m           a header h is at q, the bytes m after it; its kind is h / 16 and its low nibble h % 16
 --   Usable h m           .. and its kind and low nibble are in use, and it is an immediate if an item is wanted
@@ -39,6 +42,8 @@ use Rattle.prelude.specs.Search.{among}
 use Rattle.prelude.specs.Each.{Each}
 use Rattle.error.specs.Error.{Fault, fault, TRUNC, RESERVED, OVERLONG, RANGE, NESTED, BAD_TEXT, BAD_TARGET, FULL, LONG_BODY, LONG_LIST}
 use Rattle.leb128.specs.Leb.{value}
+use Rattle.leb128.specs.declared.Mode.{Mode}
+use Rattle.leb128.specs.declared.Mode.the-variants.{Strict, Tolerant}
 use Rattle.utf8.specs.Text.{Text}
 use Rattle.kind.specs.Kind.{rule, size, counted, immediate}
 
@@ -48,22 +53,26 @@ use Rattle.kind.specs.Kind.{rule, size, counted, immediate}
 abbrev pub GoesOn : ℕ → Type 0
 GoesOn b = 128 ≤ b
 
--- a number of the bytes p and a last byte b: at most ten, a tenth of at most 1, a last one of 0 only as the first
-pub data Number : List ℕ → ℕ → List ℕ → Type 0 where
-  number : (p : List ℕ) (b : ℕ) (rest : List ℕ) → Each GoesOn p → b < 128 → length p ≤ 9 → (length p ≡ 9 → b ≤ 1) → (1 ≤ length p → 1 ≤ b)
-      → Number (p ++ (b ∷ rest)) (value (p ++ (b ∷ []))) rest
+-- a number of the bytes p and a last byte b: at most ten, a tenth of at most 1, and in the strict mode a last one of 0 only as the first
+pub data Number (mode : Mode) : List ℕ → ℕ → List ℕ → Type 0 where
+  number : (p : List ℕ) (b : ℕ) (rest : List ℕ) → Each GoesOn p → b < 128 → length p ≤ 9 → (length p ≡ 9 → b ≤ 1)
+      → (mode ≡ Strict → 1 ≤ length p → 1 ≤ b) → Number mode (p ++ (b ∷ rest)) (value (p ++ (b ∷ []))) rest
 
-pub data BadNumber : List ℕ → ℕ → Type 0 where
+pub data BadNumber (mode : Mode) : List ℕ → ℕ → Type 0 where
   -- the region ends inside the number
-  cut : {s : List ℕ} → Each GoesOn s → length s < 10 → BadNumber s TRUNC
+  cut : {s : List ℕ} → Each GoesOn s → length s < 10 → BadNumber mode s TRUNC
   -- its tenth byte is over 1
-  tenth : (p : List ℕ) (b : ℕ) (rest : List ℕ) → Each GoesOn p → length p ≡ 9 → 2 ≤ b → BadNumber (p ++ (b ∷ rest)) RANGE
-  -- its last byte is 0 and not the first
-  padded : (p rest : List ℕ) → Each GoesOn p → length p ≤ 9 → 1 ≤ length p → BadNumber (p ++ (0 ∷ rest)) OVERLONG
+  tenth : (p : List ℕ) (b : ℕ) (rest : List ℕ) → Each GoesOn p → length p ≡ 9 → 2 ≤ b → BadNumber mode (p ++ (b ∷ rest)) RANGE
+  -- its last byte is 0 and not the first, which the tolerant mode takes
+  padded : mode ≡ Strict → (p rest : List ℕ) → Each GoesOn p → length p ≤ 9 → 1 ≤ length p → BadNumber mode (p ++ (0 ∷ rest)) OVERLONG
 
-pub data NumberIf : Bool → List ℕ → ℕ → List ℕ → Type 0 where
-  none : {s : List ℕ} → NumberIf false s 0 s
-  some : {s : List ℕ} {n : ℕ} {rest : List ℕ} → Number s n rest → NumberIf true s n rest
+pub data NumberIf (mode : Mode) : Bool → List ℕ → ℕ → List ℕ → Type 0 where
+  none : {s : List ℕ} → NumberIf mode false s 0 s
+  some : {s : List ℕ} {n : ℕ} {rest : List ℕ} → Number mode s n rest → NumberIf mode true s n rest
+
+abbrev pub overlongIn : Mode → List ℕ
+overlongIn Strict = OVERLONG ∷ []
+overlongIn Tolerant = []
 
 -- ---- lengths and counts
 
@@ -81,7 +90,7 @@ pub data Exceeds (k n a left : ℕ) : ℕ → Type 0 where
 
 -- ---- a token
 
-module _ (s : List ℕ) (inner : Bool) (q : ℕ) where
+module _ (mode : Mode) (s : List ℕ) (inner : Bool) (q : ℕ) where
   abbrev pub Header : ℕ → List ℕ → Type 0
   Header h m = drop q s ≡ h ∷ m
 
@@ -95,14 +104,14 @@ module _ (s : List ℕ) (inner : Bool) (q : ℕ) where
     pub after : List ℕ
     pub usable : Usable h after
     pub more : ℕ
-    pub number : NumberIf (leb 15 (h % 16)) after more m
+    pub number : NumberIf mode (leb 15 (h % 16)) after more m
     pub sum : n ≡ h % 16 + more
     pub most : n ≤ rule (h / 16) .most
 
   pub record Counted (h n a : ℕ) (m : List ℕ) : Type 0 where
     pub after : List ℕ
     pub numbered : Numbered h n after
-    pub count : NumberIf (rule (h / 16) .args) after a m
+    pub count : NumberIf mode (rule (h / 16) .args) after a m
 
   pub record Whole (h n : ℕ) (b : List ℕ) : Type 0 where
     pub args : ℕ
@@ -120,12 +129,12 @@ module _ (s : List ℕ) (inner : Bool) (q : ℕ) where
     nested : {h : ℕ} {m : List ℕ} → Header h m → h % 16 < rule (h / 16) .lows → inner ≡ true → immediate (rule (h / 16)) ≡ false
         → RefusedHead (fault NESTED q)
     -- the number: TRUNC, RANGE of the tenth byte, OVERLONG
-    number : {h : ℕ} {m : List ℕ} {e : ℕ} → Usable h m → 15 ≤ h % 16 → BadNumber m e → RefusedHead (fault e q)
+    number : {h : ℕ} {m : List ℕ} {e : ℕ} → Usable h m → 15 ≤ h % 16 → BadNumber mode m e → RefusedHead (fault e q)
     -- n over its kind's bound, which is at most 2^64-1
-    over : {h v : ℕ} {m rest : List ℕ} → Usable h m → NumberIf (leb 15 (h % 16)) m v rest → rule (h / 16) .most < h % 16 + v
+    over : {h v : ℕ} {m rest : List ℕ} → Usable h m → NumberIf mode (leb 15 (h % 16)) m v rest → rule (h / 16) .most < h % 16 + v
         → RefusedHead (fault RANGE q)
     -- the second number likewise
-    second : {h n : ℕ} {m : List ℕ} {e : ℕ} → Numbered h n m → rule (h / 16) .args ≡ true → BadNumber m e → RefusedHead (fault e q)
+    second : {h n : ℕ} {m : List ℕ} {e : ℕ} → Numbered h n m → rule (h / 16) .args ≡ true → BadNumber mode m e → RefusedHead (fault e q)
     -- the region ends inside a float's body, of 4 bytes or of 8
     float : {h n a : ℕ} {m : List ℕ} → Counted h n a m → h / 16 ≡ 3 → length m < 4 + 4 * n → RefusedHead (fault TRUNC q)
     -- a length or count exceeds the bytes left; the bytes after the numbers begin at its place p
@@ -137,7 +146,7 @@ module _ (s : List ℕ) (inner : Bool) (q : ℕ) where
 
 -- ---- a token in check's walk
 
-module _ (s : List ℕ) (cap : ℕ) (done : List ℕ) (pending q : ℕ) where
+module _ (mode : Mode) (s : List ℕ) (cap : ℕ) (done : List ℕ) (pending q : ℕ) where
   abbrev pub HasWord : Type 0
   HasWord = pending ≡ 0 → length done < cap
 
@@ -145,8 +154,8 @@ module _ (s : List ℕ) (cap : ℕ) (done : List ℕ) (pending q : ℕ) where
     -- one value more than the table has words
     full : pending ≡ 0 → cap ≤ length done → RefusedToken (fault FULL q)
     -- what its header, numbers and counts say; an item is wanted if items are pending
-    head : {f : Fault} → HasWord → RefusedHead s (ltb 0 pending) q f → RefusedToken f
-    text : {h n : ℕ} {b : List ℕ} → HasWord → Whole s (ltb 0 pending) q h n b → h / 16 ≡ 4 → (Text b → ⊥) → RefusedToken (fault BAD_TEXT q)
+    head : {f : Fault} → HasWord → RefusedHead mode s (ltb 0 pending) q f → RefusedToken f
+    text : {h n : ℕ} {b : List ℕ} → HasWord → Whole mode s (ltb 0 pending) q h n b → h / 16 ≡ 4 → (Text b → ⊥) → RefusedToken (fault BAD_TEXT q)
     -- a reference or pointer whose target is below 0, or not the start of a value that ended before
-    target : {h n : ℕ} {b : List ℕ} → HasWord → Whole s (ltb 0 pending) q h n b → (h / 16 ≡ 4 → Text b) → 14 ≤ h / 16
+    target : {h n : ℕ} {b : List ℕ} → HasWord → Whole mode s (ltb 0 pending) q h n b → (h / 16 ≡ 4 → Text b) → 14 ≤ h / 16
         → (n < q → among (q - n - 1) done ≡ false) → RefusedToken (fault BAD_TARGET q)

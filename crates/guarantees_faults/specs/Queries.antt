@@ -45,6 +45,7 @@ use mathlib.Core.Logic.{_⊎_}
 use mathlib.Core.List.{List}
 use lib.ListN.{length, take}
 use Rattle.error.specs.Error.{Fault, fault, LIMIT, EMPTY, TOO_LONG, TRUNC, BAD_TARGET, OUTSIDE, NO_ITEM, WRONG_KIND}
+use Rattle.leb128.specs.declared.Mode.{Mode}
 use Rattle.kind.specs.Kind.{rule, size, pending, immediate}
 use Rattle.scan.specs.declared.Head.{Head}
 use Rattle.guarantees_faults.specs.Faults.{Whole, RefusedHead}
@@ -62,7 +63,7 @@ pub data RefusedQuery (file : List ℕ) (at : ℕ) (P : List ℕ → Fault → T
   outside : 1 ≤ length file → length file ≤ LIMIT → length file - 1 ≤ at → RefusedQuery file at P (fault OUTSIDE at)
   inside : {f : Fault} → length file ≤ LIMIT → at < length file - 1 → P (take (length file - 1) file) f → RefusedQuery file at P f
 
-module _ (s : List ℕ) where
+module _ (mode : Mode) (s : List ℕ) where
   -- ---- a token
 
   -- a target is not below 0
@@ -70,7 +71,7 @@ module _ (s : List ℕ) where
     pub header : ℕ
     pub n : ℕ
     pub body : List ℕ
-    pub whole : Whole s inner q header n body
+    pub whole : Whole mode s inner q header n body
     pub kind : ℕ
     pub kindIs : kind ≡ header / 16
     pub items : ℕ
@@ -85,8 +86,8 @@ module _ (s : List ℕ) where
   headOf r = record { kind = r .kind; n = r .n; items = r .items; first = r .first; end = r .end }
 
   pub data RefusedRead (inner : Bool) (q : ℕ) : Fault → Type 0 where
-    head : {f : Fault} → RefusedHead s inner q f → RefusedRead inner q f
-    target : {h n : ℕ} {b : List ℕ} → Whole s inner q h n b → 14 ≤ h / 16 → q ≤ n → RefusedRead inner q (fault BAD_TARGET q)
+    head : {f : Fault} → RefusedHead mode s inner q f → RefusedRead inner q f
+    target : {h n : ℕ} {b : List ℕ} → Whole mode s inner q h n b → 14 ≤ h / 16 → q ≤ n → RefusedRead inner q (fault BAD_TARGET q)
 
   -- ---- items
 
