@@ -11,7 +11,7 @@ use Rattle.error.specs.Error.{LIMIT}
 use Rattle.utf8.specs.Text.{isText}
 use Rattle.kind.specs.Kind.{rule, pending, due}
 use Rattle.kind.specs.declared.Rule.{Rule}
-use Rattle.token.specs.Token.{Token, putIf, emit}
+use Rattle.token.specs.Token.{Token, token, putIf, emit}
 use Rattle.token.proofs.Laws.{length-emit}
 use Rattle.writer_refusal.specs.Refusal.{limit, room, isListed, refusalOf}
 use Rattle.writer_refusal.specs.declared.State.{State}
@@ -57,16 +57,17 @@ module _ (t : Token) (x : ℕ) (s : State) (out table : List ℕ) (g : Bool) (h 
       })
 
 -- what `fit` returns, by what it learns of the flags, the size, the items left, and the answer
-pub fit-is : (t : Token) (x : ℕ) (s : State) (out table : List ℕ) (g : Bool) (row : Rule) (q : CallFlags) (answer : WriteAnswer) (size left : ℕ)
-    → t .kind < 16 → row ≡ rule (t .kind) → ArgumentTest g (t .kind) (t .body) x s table → q ≡ tokenFlagsBy row (t .kind) g
-    → size ≡ 1 + length (putIf (leb 15 (t .n)) (t .n - 15)) + length (putIf (row .args) (t .args)) + length (t .body)
-    → left ≡ due (s .pending) (limit (pending row (t .n) (t .args)))
+pub fit-is : (k n a : ℕ) (b : List ℕ) (x : ℕ) (s : State) (out table : List ℕ) (g : Bool) (row : Rule) (q : CallFlags) (answer : WriteAnswer) (size left : ℕ)
+    → k < 16 → row ≡ rule k → ArgumentTest g k b x s table → q ≡ tokenFlagsBy row k g
+    → size ≡ 1 + length (putIf (leb 15 n) (n - 15)) + length (putIf (row .args) a) + length b
+    → left ≡ due (s .pending) (limit (pending row n a))
     → answerOf answer ≡ refusalOf q (ltb (room s (length out)) (size + left)) s (length out) (length table)
-    → FitOf t x s out table (record { answer = answer; second = row .args; size = size; left = left })
-fit-is t x s out table g row q answer size left k r h i z l f =
-    let size-is : size ≡ length (emit t) = z ∙ rw (r, length-emit (t .kind) (t .n) (t .args) (t .body)) in
+    → FitOf (token k n a b) x s out table (record { answer = answer; second = row .args; size = size; left = left })
+fit-is k n a b x s out table g row q answer size left small r h i z l f =
+    let t = token k n a b in
+    let size-is : size ≡ length (emit t) = z ∙ rw (r, length-emit k n a b) in
     record {
-      kind = k;
+      kind = small;
       answer = rw (i, size-is, l, r, room-limit s t (length out)) at f ∙ flags-same t x s out table g h;
       second = rw r refl;
       size = size-is;
