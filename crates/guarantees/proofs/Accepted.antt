@@ -11,6 +11,7 @@ use native.Mathlib.Omega.{arith}
 use lib.ListN.{length, length-append}
 use Rattle.prelude.specs.Answer.{ok}
 use Rattle.prelude.specs.Bytes.{Bytes}
+use Rattle.leb128.specs.declared.Mode.{Mode}
 use Rattle.values.specs.Values.{Value, region, starts, Values}
 use Rattle.values.proofs.Laws.{length-starts}
 use Rattle.checker_value.specs.Walk.{between, startsFrom}
@@ -25,23 +26,23 @@ use Rattle.guarantees.proofs.Ends.{Ends, walk-ends}
 -- ---- a region that was walked to its end
 
 -- s is values, with a word for each; `done` are their starts
-pub record Listed (s : List ℕ) (cap : ℕ) (done : List ℕ) : Type 0 where
+pub record Listed (mode : Mode) (s : List ℕ) (cap : ℕ) (done : List ℕ) : Type 0 where
   pub values : List Value
-  pub formed : Values values
+  pub formed : Values mode values
   pub same : s ≡ region values
   pub starts : done ≡ starts 0 values
   pub room : length values ≤ cap
 
-module _ (s : List ℕ) (cap : ℕ) (b : Bytes s) where
-  pub walked-ends : Ends s cap (WalkedValues s) (startsFrom s cap (between 0 []))
+module _ (mode : Mode) (s : List ℕ) (cap : ℕ) (b : Bytes s) where
+  pub walked-ends : Ends mode s cap (WalkedValues mode s) (startsFrom mode s cap (between 0 []))
   unfolding region starts
   walked-ends =
-      walk-ends s cap (WalkedValues s) (λ w h e i. after-walked s cap w h (taken-next s cap w h b e) i)
+      walk-ends mode s cap (WalkedValues mode s) (λ w h e i. after-walked s cap w h (taken-next mode s cap w h b e) i)
       (idle {vs = []} s (record { formed = tt; targets = tt }) refl)
 
-  pub walked-region : (done : List ℕ) → ok done ≡ startsFrom s cap (between 0 []) → Listed s cap done
+  pub walked-region : (done : List ℕ) → ok done ≡ startsFrom mode s cap (between 0 []) → Listed mode s cap done
   walked-region done e =
-      let r = subst (Ends s cap (WalkedValues s)) (sym e) walked-ends in
+      let r = subst (Ends mode s cap (WalkedValues mode s)) (sym e) walked-ends in
       let p = walked-between s (r .walk) (r .between) (r .holds) in
       let long = length-append (region (p .values)) (p .rest) in
       let none : p .rest ≡ [] = length-nil (p .rest) (omega (arith, r .end, p .at, ap length (p .same))) in
@@ -59,13 +60,13 @@ module _ (s : List ℕ) (cap : ℕ) (b : Bytes s) where
 
 -- ---- the file that is accepted
 
-pub accepted : (file : List ℕ) (cap count entry : ℕ) → Bytes file → checkOf file cap .answer ≡ ok (count, entry)
-    → Accepted file cap count entry (checkOf file cap .starts)
+pub accepted : {mode : Mode} (file : List ℕ) (cap count entry : ℕ) → Bytes file → checkOf mode file cap .answer ≡ ok (count, entry)
+    → Accepted mode file cap count entry (checkOf mode file cap .starts)
 unfolding checkOf
-accepted file cap count entry b e =
-    answer-ok cap count entry (checkIn file cap) e (λ done found n.
-    found-ok file cap done entry found (λ w walked named start.
-    let l = walked-region (w .region) cap (bytes-whole file w b) done walked in
+accepted {mode} file cap count entry b e =
+    answer-ok cap count entry (checkIn mode file cap) e (λ done found n.
+    found-ok mode file cap done entry found (λ w walked named start.
+    let l = walked-region mode (w .region) cap (bytes-whole file w b) done walked in
     record {
       values = l .values;
       wellFormed = record {
@@ -81,10 +82,10 @@ accepted file cap count entry b e =
       listed = rw (← found) (ap (filled cap) (l .starts));
     }))
 
-pub accepts-exactly : (file : List ℕ) (cap count entry : ℕ) (table : List ℕ) → Bytes file
-    → (checkOf file cap ≡ checked (ok (count, entry)) table) ↔ Accepted file cap count entry table
-accepts-exactly file cap count entry table b = (
-  λ e. subst (Accepted file cap count entry) (ap (λ (c : Checked). c .starts) e)
+pub accepts-exactly : (mode : Mode) (file : List ℕ) (cap count entry : ℕ) (table : List ℕ) → Bytes file
+    → (checkOf mode file cap ≡ checked (ok (count, entry)) table) ↔ Accepted mode file cap count entry table
+accepts-exactly mode file cap count entry table b = (
+  λ e. subst (Accepted mode file cap count entry) (ap (λ (c : Checked). c .starts) e)
       (accepted file cap count entry b (ap (λ (c : Checked). c .answer) e)),
   λ a. accepts file (a .values) entry cap (a .wellFormed) (a .room) ∙ rw (a .counted, a .listed),
 )

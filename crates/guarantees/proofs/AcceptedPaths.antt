@@ -6,6 +6,7 @@ use Prim.Native.Nat.{ℕ}
 use native.Mathlib.Omega.{arith}
 use Rattle.prelude.specs.Answer.{ok}
 use Rattle.prelude.specs.Bytes.{Bytes}
+use Rattle.leb128.specs.declared.Mode.{Mode}
 use Rattle.values.specs.Values.{starts}
 use Rattle.values.specs.Paths.{depthsOfValues}
 use Rattle.values.proofs.Depths.{acyclic, length-depths, depth-is}
@@ -16,7 +17,8 @@ use Rattle.guarantees.proofs.Accepted.{accepted}
 use Rattle.guarantees.proofs.Hops.{hops}
 use Rattle.guarantees.proofs.Depths.{depths-accept}
 
-pub accepted-paths : (file : List ℕ) (cap count entry : ℕ) → Bytes file → checkOf file cap .answer ≡ ok (count, entry) → AcceptedPaths file count entry
+pub accepted-paths : {mode : Mode} (file : List ℕ) (cap count entry : ℕ) → Bytes file → checkOf mode file cap .answer ≡ ok (count, entry)
+    → AcceptedPaths mode file count entry
 accepted-paths file cap count entry b e =
     let a = accepted file cap count entry b e in
     let vs = a .values in

@@ -16,10 +16,12 @@ use borrow.Author.Tests.{le-leb, lt-leb}
 use Rattle.prelude.specs.Each.{Each}
 use Rattle.prelude.proofs.Tests.{split}
 use Rattle.error.specs.Error.{LIMIT}
+use Rattle.leb128.specs.declared.Mode.the-variants.{Strict}
 use Rattle.utf8.proofs.Laws.{isText-text}
 use Rattle.kind.specs.Kind.{rule, immediate}
 use Rattle.kind.proofs.Laws.{used-lt}
 use Rattle.token.specs.Token.{emit, Allowed}
+use Rattle.token.proofs.Laws.{spelled-token}
 use Rattle.values.specs.Values.{tokens, bytes, region, starts, Sound, Item, Formed, HasTarget, HasTargets, TargetsEarlier, Values}
 use Rattle.values.proofs.Members.{each-imp}
 use Rattle.writer.specs.Call.{Call}
@@ -33,7 +35,7 @@ use Rattle.guarantees_writer.proofs.History.{moveAs, move-request}
 use Rattle.guarantees_writer.proofs.Errors.{AllowedMove, allowed-move}
 
 abbrev pub AllowedPart : Part → Type 0
-AllowedPart p = Sound (formOf 0 p)
+AllowedPart p = Sound Strict (formOf 0 p)
 
 -- ---- the parts of calls
 
@@ -44,10 +46,9 @@ allowed-request (ends e) a = search arith
 
 pub allowed-given : (c : Call) → Given c → Clear (addedBy (requestOf c)) → AllowedPart (addedBy (requestOf c))
 unfolding formOf
-allowed-given c g clear = record {
-  allowed = allowed-request (requestOf c) (rw (move-request c 0) at (allowed-move c 0 g (omega arith)));
-  text = λ four. isText-text _ (clear four);
-}
+allowed-given c g clear =
+    let allowed = allowed-request (requestOf c) (rw (move-request c 0) at (allowed-move c 0 g (omega arith))) in
+    record { allowed = allowed; spelled = spelled-token Strict _ _ _ _ allowed; text = λ four. isText-text _ (clear four) }
 
 pub invariant-given : (cs : List Call) → Each Given cs → (n m : ℕ) → ModelInvariant AllowedPart (modelRun cs emptyModel n m .model)
 invariant-given cs g n m = invariant-run AllowedPart cs (each-imp Given _ allowed-given cs g) n m
@@ -62,22 +63,20 @@ rule-far k far used =
     split k 15 (λ l. let e : k ≡ 14 = omega arith in rw e) (λ l. let e : k ≡ 15 = omega arith in rw e)
 
 module _ (q : ℕ) (p : Part) where
-  sound-form : q ≤ LIMIT → AllowedPart p → Sound (formOf q p)
+  sound-form : q ≤ LIMIT → AllowedPart p → Sound Strict (formOf q p)
   unfolding formOf rule
   sound-form short f =
       split (p .kind) 14
-      (λ near. let same : formOf 0 p ≡ formOf q p = rw (lt-leb 14 (p .kind) near) in subst Sound same f)
+      (λ near. let same : formOf 0 p ≡ formOf q p = rw (lt-leb 14 (p .kind) near) in subst (Sound Strict) same f)
       (λ far. let r = rule-far (p .kind) far (omega (arith, f .allowed .low)) in
-      record {
-        allowed = record {
-          low = rw r (omega arith);
-          most = rw (r, le-leb 14 (p .kind) far) (omega arith);
-          alone = f .allowed .alone;
-          count = f .allowed .count;
-          sized = let none = rw r at (f .allowed .sized) in rw r (omega arith);
-        };
-        text = f .text;
-      })
+      let allowed : Allowed (formOf q p) = record {
+        low = rw r (omega arith);
+        most = rw (r, le-leb 14 (p .kind) far) (omega arith);
+        alone = f .allowed .alone;
+        count = f .allowed .count;
+        sized = let none = rw r at (f .allowed .sized) in rw r (omega arith);
+      } in
+      record { allowed = allowed; spelled = spelled-token Strict _ _ _ _ allowed; text = f .text })
 
   pub target-form : 14 ≤ p .kind → p .number < q → (formOf q p .n < q) × (q - formOf q p .n - 1 ≡ p .number)
   unfolding formOf
@@ -99,7 +98,7 @@ module _ (before : List ModelValue) where
       (less, rw target (f .names far))
 
   items-fit : (q : ℕ) (ps : List Part) → Each (λ p. Fit AllowedPart before p × (immediate (rule (p .kind)) ≡ true)) ps → at ≤ q
-      → q + length (bytes (formsOf q ps)) ≤ LIMIT → Each Item (formsOf q ps) × HasTargets done q (formsOf q ps)
+      → q + length (bytes (formsOf q ps)) ≤ LIMIT → Each (Item Strict) (formsOf q ps) × HasTargets done q (formsOf q ps)
   unfolding formsOf bytes formOf
   items-fit q [] f h short = (tt, tt)
   items-fit q (p ∷ ps) f h short =
@@ -109,7 +108,7 @@ module _ (before : List ModelValue) where
       ((record { sound = sound-form q p (omega arith) (f .0 .0 .own); immediate = f .0 .1 }, more .0), (has-target-form q p (f .0 .0) h, more .1))
 
   value-fit : (v : ModelValue) → GoodValue AllowedPart before v → pendingIn v ≡ 0 → at + length (bytes (tokens (valueAt at v))) ≤ LIMIT
-      → Formed (valueAt at v) × HasTargets done at (tokens (valueAt at v))
+      → Formed Strict (valueAt at v) × HasTargets done at (tokens (valueAt at v))
   unfolding bytes formOf
   value-fit v g none short =
       let q = at + length (emit (formOf at (v .head))) in
@@ -126,7 +125,7 @@ module _ (before : List ModelValue) where
 -- ---- values
 
 finished-values : (before vs : List ModelValue) → Finished AllowedPart before vs → endOf before + length (region (valuesAt (endOf before) vs)) ≤ LIMIT
-    → Each Formed (valuesAt (endOf before) vs) × TargetsEarlier (starts 0 (valuesAt 0 before)) (endOf before) (valuesAt (endOf before) vs)
+    → Each (Formed Strict) (valuesAt (endOf before) vs) × TargetsEarlier (starts 0 (valuesAt 0 before)) (endOf before) (valuesAt (endOf before) vs)
 unfolding valuesAt region
 finished-values before [] f short = (tt, tt)
 finished-values before (v ∷ vs) f short =
@@ -137,7 +136,7 @@ finished-values before (v ∷ vs) f short =
     let more = (rw (next, starts-snoc before v) at (finished-values (before ++ (v ∷ [])) vs (f .1))) (omega arith) in
     ((here .0, more .0), (here .1, more .1))
 
-pub invariant-values : (b : Model) → ModelInvariant AllowedPart b → Values (valuesAt 0 (b .finished))
+pub invariant-values : (b : Model) → ModelInvariant AllowedPart b → Values Strict (valuesAt 0 (b .finished))
 unfolding valuesAt region starts
 invariant-values b k =
     let all = finished-values [] (b .finished) (k .finished) (omega (arith, end-le (b .finished) (b .stage), k .short)) in

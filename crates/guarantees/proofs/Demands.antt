@@ -13,7 +13,10 @@ use Rattle.prelude.specs.Answer.{ok, error}
 use Rattle.prelude.specs.Bytes.{Bytes}
 use Rattle.prelude.specs.Each.{Each}
 use Rattle.error.specs.Error.{CLOSED}
+use Rattle.leb128.specs.declared.Mode.{Mode}
+use Rattle.leb128.specs.declared.Mode.the-variants.{Strict}
 use Rattle.values.specs.Values.{Value, WellFormed}
+use Rattle.values.proofs.Modes.{well-formed-of-strict}
 use Rattle.checker.specs.Check.{checkOf}
 use Rattle.writer.specs.Call.{Call, close}
 use Rattle.writer.specs.Step.{fresh}
@@ -44,8 +47,8 @@ use Rattle.guarantees.proofs.ReadsBack.{model-reads-back}
 
 -- ---- written again
 
--- for every accepted file, with an output at least as long and a word for each value
-pub rewrites : (file : List ℕ) (cap count entry : ℕ) → Bytes file → checkOf file cap .answer ≡ ok (count, entry)
+-- for every file that the strict mode accepts, with an output at least as long and a word for each value
+pub rewrites : (file : List ℕ) (cap count entry : ℕ) → Bytes file → checkOf Strict file cap .answer ≡ ok (count, entry)
     → (out table : List ℕ) → length file ≤ length out → count ≤ length table → Rewritten file entry out table
 rewrites file cap count entry b e out table long words =
     let a = accepted file cap count entry b e in
@@ -60,7 +63,7 @@ rewrites file cap count entry b e out table long words =
       written = h .1 .written ∙ ap length (m .1);
       same = h .1 .bytes ∙ m .1;
       listed = h .1 .starts ∙ m .2;
-      read = rewrites-read file vs entry (a .wellFormed);
+      read = λ mode. rewrites-read mode file vs entry (well-formed-of-strict mode (a .wellFormed));
     }
 
 -- ---- read back
@@ -96,9 +99,10 @@ module _ (cs more : List Call) (e : ℕ) (out table : List ℕ) where
     ended = ap (λ (k : ModelRan). k .model) (modelRun-append cs (close e ∷ more) emptyModel n m) ∙ rw answered (ended-same e b n m more)
 
     -- for every list of calls with an accepted close among them, whatever came before it and after it: the output's first w
-    -- bytes are a file that is read back as the model's finished values
-    pub reads-back : Each Given cs → let r = runs all fresh out table in ReadsBack b e (modelRun all emptyModel n m .model) (take (r .writer .written) (r .out))
-    reads-back given = rw (history all out table .1 .bytes, ended) (model-reads-back cs given n m e answered)
+    -- bytes are a file that is read back, in either mode, as the model's finished values
+    pub reads-back : (mode : Mode) → Each Given cs
+        → let r = runs all fresh out table in ReadsBack mode b e (modelRun all emptyModel n m .model) (take (r .writer .written) (r .out))
+    reads-back mode given = rw (history all out table .1 .bytes, ended) (model-reads-back mode cs given n m e answered)
 
     pub closed-after : Each (λ v. v ≡ error CLOSED) (drop (length cs + 1) (runs all fresh out table .answers))
     unfolding modelRun
@@ -128,13 +132,13 @@ after-calls cs out table = record {
   inC = runs-words cs fresh out table;
   targets = targets-earlier cs out table;
   formed = formed-so-far cs out table;
-  readsBack = λ before more e same. rw same (reads-back before more e out table);
+  readsBack = λ mode before more e same. rw same (λ accepted. reads-back before more e out table accepted mode);
   closed = λ before more e same. rw same (closed-after before more e out table);
 }
 
 -- ---- a well-formed file
 
-pub reports-values : (file : List ℕ) (vs : List Value) (entry : ℕ) → WellFormed file vs entry → ReportsValues file vs
+pub reports-values : {mode : Mode} (file : List ℕ) (vs : List Value) (entry : ℕ) → WellFormed mode file vs entry → ReportsValues mode file vs
 reports-values file vs entry w = record {
   read = reads-token file vs entry w;
   body = reads-body file vs entry w;

@@ -20,6 +20,7 @@ use Rattle.prelude.proofs.Tests.{pick-elim, split, and-l, and-r}
 use Rattle.prelude.proofs.Parts.{bytes-front}
 use Rattle.prelude.proofs.Readers.{bind-ok-by, bind-error-by}
 use Rattle.error.specs.Error.{Fault, fault, LIMIT, EMPTY, TOO_LONG, BAD_ENTRY}
+use Rattle.leb128.specs.declared.Mode.{Mode}
 use Rattle.checker_value.specs.Walk.{between, startsFrom}
 use Rattle.checker.specs.Check.{entryAt, checkIn, listed}
 
@@ -47,10 +48,10 @@ pub data AtOnce (file : List ℕ) (f : Fault) : Type 0 where
   empty : length file ≡ 0 → f ≡ fault EMPTY 0 → AtOnce file f
   long : LIMIT < length file → f ≡ fault TOO_LONG 0 → AtOnce file f
 
-pub at-once : (file : List ℕ) (f : Fault) (cap : ℕ) → AtOnce file f → error f ≡ checkIn file cap
+pub at-once : (mode : Mode) (file : List ℕ) (f : Fault) (cap : ℕ) → AtOnce file f → error f ≡ checkIn mode file cap
 unfolding checkIn
-at-once file f cap (empty z e) = rw (e, eq-eqb (length file) 0 z)
-at-once file f cap (long l e) = rw (e, ne-eqb (length file) 0 (λ z. omega arith), lt-ltb _ _ l)
+at-once mode file f cap (empty z e) = rw (e, eq-eqb (length file) 0 z)
+at-once mode file f cap (long l e) = rw (e, ne-eqb (length file) 0 (λ z. omega arith), lt-ltb _ _ l)
 
 pub data Shape (file : List ℕ) : Type 0 where
   refused : (f : Fault) → AtOnce file f → Shape file
@@ -66,10 +67,10 @@ shape file =
 abbrev pub entered : ℕ → ℕ → List ℕ → Answer Fault ((List ℕ) × ℕ)
 entered p d done = bind (entryAt p d done) (λ e. ok (done, e))
 
-checkIn-region : (s : List ℕ) (d cap : ℕ) → length (s ++ (d ∷ [])) ≤ LIMIT
-    → checkIn (s ++ (d ∷ [])) cap ≡ bind (startsFrom s cap (between 0 [])) (entered (length s) d)
+checkIn-region : (mode : Mode) (s : List ℕ) (d cap : ℕ) → length (s ++ (d ∷ [])) ≤ LIMIT
+    → checkIn mode (s ++ (d ∷ [])) cap ≡ bind (startsFrom mode s cap (between 0 [])) (entered (length s) d)
 unfolding checkIn
-checkIn-region s d cap short =
+checkIn-region mode s d cap short =
     let n : length (s ++ (d ∷ [])) ≡ length s + 1 = length-append s (d ∷ []) in
     let p : length s + 1 - 1 ≡ length s = omega arith in
     rw (n, ne-eqb (length s + 1) 0 (λ z. omega arith), le-ltb LIMIT (length s + 1) (omega arith), p, take-append-seam, getD-append-seam)
@@ -86,8 +87,9 @@ module _ (file : List ℕ) (w : Whole file) where
   pub bytes-whole : Bytes file → Bytes (w .region)
   bytes-whole b = bytes-front (w .region) (w .delta ∷ []) (subst Bytes (w .same) b)
 
-  pub checkIn-whole : (cap : ℕ) → checkIn file cap ≡ bind (startsFrom (w .region) cap (between 0 [])) (entered (length (w .region)) (w .delta))
-  checkIn-whole cap = ap (λ f. checkIn f cap) (w .same) ∙ checkIn-region (w .region) (w .delta) cap (rw (w .same) at (w .short))
+  pub checkIn-whole : (mode : Mode) (cap : ℕ)
+      → checkIn mode file cap ≡ bind (startsFrom mode (w .region) cap (between 0 [])) (entered (length (w .region)) (w .delta))
+  checkIn-whole mode cap = ap (λ f. checkIn mode f cap) (w .same) ∙ checkIn-region mode (w .region) (w .delta) cap (rw (w .same) at (w .short))
 
 -- ---- the entry
 
@@ -138,37 +140,37 @@ pub answer-error : (cap : ℕ) (f : Fault) (a : Answer Fault ((List ℕ) × ℕ)
 answer-error cap f (ok r) e = let z : _≡_ {A = ℕ} 0 1 = cc in absurd (omega arith)
 answer-error cap f (error g) e = cc
 
-module _ {X : Type 0} (file : List ℕ) (cap : ℕ) where
+module _ (mode : Mode) {X : Type 0} (file : List ℕ) (cap : ℕ) where
   -- an accepted file: the starts that the walk yielded, and the entry
-  pub found-ok : (done : List ℕ) (entry : ℕ) → ok (done, entry) ≡ checkIn file cap
-      → ((w : Whole file) → ok done ≡ startsFrom (w .region) cap (between 0 []) → entry + w .delta + 1 ≡ length (w .region)
+  pub found-ok : (done : List ℕ) (entry : ℕ) → ok (done, entry) ≡ checkIn mode file cap
+      → ((w : Whole file) → ok done ≡ startsFrom mode (w .region) cap (between 0 []) → entry + w .delta + 1 ≡ length (w .region)
       → among entry done ≡ true → X)
       → X
   found-ok done entry e k = by-shape (shape file)
     where
       by-shape : Shape file → X
-      by-shape (refused f a) = let q = e ∙ sym (at-once file f cap a) in let z : _≡_ {A = ℕ} 0 1 = cc in absurd (omega arith)
+      by-shape (refused f a) = let q = e ∙ sym (at-once mode file f cap a) in let z : _≡_ {A = ℕ} 0 1 = cc in absurd (omega arith)
       by-shape (read w) =
-          bind-ok-by (startsFrom (w .region) cap (between 0 [])) _ (e ∙ checkIn-whole file w cap) (λ found walked q.
+          bind-ok-by (startsFrom mode (w .region) cap (between 0 [])) _ (e ∙ checkIn-whole file w mode cap) (λ found walked q.
           let (same, named, start) = entered-answer (length (w .region)) (w .delta) found _ q in
           k w (rw same walked) named (rw same start))
 
 -- where a file failed: at once, in the walk, or after it
-pub data Failed (file : List ℕ) (cap : ℕ) (f : Fault) : Type 0 where
-  early : AtOnce file f → Failed file cap f
-  walking : (w : Whole file) → error f ≡ startsFrom (w .region) cap (between 0 []) → Failed file cap f
-  last : (w : Whole file) (done : List ℕ) → ok done ≡ startsFrom (w .region) cap (between 0 []) → f ≡ fault BAD_ENTRY (length (w .region))
-      → Nameless (length (w .region)) (w .delta) done → Failed file cap f
+pub data Failed (mode : Mode) (file : List ℕ) (cap : ℕ) (f : Fault) : Type 0 where
+  early : AtOnce file f → Failed mode file cap f
+  walking : (w : Whole file) → error f ≡ startsFrom mode (w .region) cap (between 0 []) → Failed mode file cap f
+  last : (w : Whole file) (done : List ℕ) → ok done ≡ startsFrom mode (w .region) cap (between 0 []) → f ≡ fault BAD_ENTRY (length (w .region))
+      → Nameless (length (w .region)) (w .delta) done → Failed mode file cap f
 
-pub failed : (file : List ℕ) (cap : ℕ) (f : Fault) → error f ≡ checkIn file cap → Failed file cap f
-failed file cap f e = by-shape (shape file)
+pub failed : {mode : Mode} (file : List ℕ) (cap : ℕ) (f : Fault) → error f ≡ checkIn mode file cap → Failed mode file cap f
+failed {mode} file cap f e = by-shape (shape file)
   where
-    by-shape : Shape file → Failed file cap f
+    by-shape : Shape file → Failed mode file cap f
     by-shape (refused g a) =
-        let q = e ∙ sym (at-once file g cap a) in
+        let q = e ∙ sym (at-once mode file g cap a) in
         let same : f ≡ g = cc in
         rw same (early a)
     by-shape (read w) =
-        bind-error-by (startsFrom (w .region) cap (between 0 [])) _ (e ∙ checkIn-whole file w cap) (walking w) (λ done walked q.
+        bind-error-by (startsFrom mode (w .region) cap (between 0 [])) _ (e ∙ checkIn-whole file w mode cap) (walking w) (λ done walked q.
         let (is, none) = entered-answer (length (w .region)) (w .delta) done (error f) q in
         last w done walked is none)

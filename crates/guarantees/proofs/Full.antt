@@ -22,6 +22,7 @@ use Rattle.prelude.proofs.Tests.{split}
 use Rattle.prelude.proofs.Searches.{rising-ge}
 use Rattle.prelude.proofs.Readers.{bind-error}
 use Rattle.error.specs.Error.{Fault, fault, FULL}
+use Rattle.leb128.specs.declared.Mode.{Mode}
 use Rattle.values.specs.Values.{region, starts}
 use Rattle.values.proofs.Laws.{length-starts}
 use Rattle.checker_value.specs.Walk.{Walk, between, nextToken, walkTurned, walkTurn, startsFrom}
@@ -39,20 +40,21 @@ use Rattle.guarantees.proofs.Accepted.{walked-ends}
 
 -- ---- when FULL is the answer
 
-full-by : {X : Type 0} (file : List ℕ) (cap p : ℕ) → checkOf file cap .answer ≡ error (fault FULL p)
-    → ((w : Whole file) → error (fault FULL p) ≡ startsFrom (w .region) cap (between 0 []) → X) → X
+full-by : (mode : Mode) {X : Type 0} (file : List ℕ) (cap p : ℕ) → checkOf mode file cap .answer ≡ error (fault FULL p)
+    → ((w : Whole file) → error (fault FULL p) ≡ startsFrom mode (w .region) cap (between 0 []) → X) → X
 unfolding checkOf
-full-by {X} file cap p e k = by-failed (failed file cap (fault FULL p) (answer-error cap (fault FULL p) (checkIn file cap) e))
+full-by mode {X} file cap p e k = by-failed (failed file cap (fault FULL p) (answer-error cap (fault FULL p) (checkIn mode file cap) e))
   where
-    by-failed : Failed file cap (fault FULL p) → X
+    by-failed : Failed mode file cap (fault FULL p) → X
     by-failed (early (empty z q)) = absurd (omega (arith, ap (λ (x : Fault). x .number) q))
     by-failed (early (long l q)) = absurd (omega (arith, ap (λ (x : Fault). x .number) q))
     by-failed (walking w q) = k w q
     by-failed (last w done walked q none) = absurd (omega (arith, ap (λ (x : Fault). x .number) q))
 
-overfull-at : (file : List ℕ) (cap p : ℕ) (w : Whole file) → Stuck (w .region) cap (WalkedValues (w .region)) (fault FULL p) → Overfull file cap p
+overfull-at : {mode : Mode} (file : List ℕ) (cap p : ℕ) (w : Whole file) → Stuck mode (w .region) cap (WalkedValues mode (w .region)) (fault FULL p)
+    → Overfull mode file cap p
 unfolding among
-overfull-at file cap p w r =
+overfull-at {mode} file cap p w r =
     let (between, none) = refused-full (r .refused) refl in
     let v = walked-between (w .region) (r .walk) between (r .holds) in
     let here : p ≡ r .walk .at = place-at (refused-place (r .refused)) refl in
@@ -69,17 +71,17 @@ overfull-at file cap p w r =
       more = omega (arith, r .inside between, here, length-whole file w);
     }
 
-overfull : (file : List ℕ) (cap p : ℕ) → Bytes file → (w : Whole file) → error (fault FULL p) ≡ startsFrom (w .region) cap (between 0 [])
-    → Overfull file cap p
-overfull file cap p b w e =
+overfull : {mode : Mode} (file : List ℕ) (cap p : ℕ) → Bytes file → (w : Whole file) → error (fault FULL p) ≡ startsFrom mode (w .region) cap (between 0 [])
+    → Overfull mode file cap p
+overfull {mode} file cap p b w e =
     let s = w .region in
-    overfull-at file cap p w (subst (Ends s cap (WalkedValues s)) (sym e) (walked-ends s cap (bytes-whole file w b)))
+    overfull-at file cap p w (subst (Ends mode s cap (WalkedValues mode s)) (sym e) (walked-ends mode s cap (bytes-whole file w b)))
 
 -- the walk goes through the values, and has no word for the next
-overfull-full : (file : List ℕ) (cap p : ℕ) → Overfull file cap p → (w : Whole file)
-    → error (fault FULL p) ≡ startsFrom (w .region) cap (between 0 [])
+overfull-full : {mode : Mode} (file : List ℕ) (cap p : ℕ) → Overfull mode file cap p → (w : Whole file)
+    → error (fault FULL p) ≡ startsFrom mode (w .region) cap (between 0 [])
 unfolding nextToken
-overfull-full file cap p o w =
+overfull-full {mode} file cap p o w =
     let s = w .region in
     let vs = o .values in
     let inside : p < length s = omega (arith, o .more, length-whole file w) in
@@ -87,15 +89,15 @@ overfull-full file cap p o w =
     let same : s ≡ region vs ++ drop p s = sym (take-append-drop p s) ∙ ap (λ x. x ++ drop p s) front in
     let full = le-leb cap (length (starts 0 vs)) (omega (arith, o .count, length-starts 0 vs)) in
     let at : p ≡ 0 + length (region vs) = omega (arith, o .place) in
-    walks-prefix s cap _ (starts-backward s cap _) [] 0 vs (drop p s) same (o .formed .formed) (o .formed .targets) (omega (arith, o .count))
-    (rw (← at) (walk-error s cap (between p (starts 0 vs)) (lt-leb (length s) p inside) (fault FULL p) (rw full)))
+    walks-prefix mode s cap _ (starts-backward mode s cap _) [] 0 vs (drop p s) same (o .formed .formed) (o .formed .targets) (omega (arith, o .count))
+    (rw (← at) (walk-error mode s cap (between p (starts 0 vs)) (lt-leb (length s) p inside) (fault FULL p) (rw full)))
 
-pub full-exactly : (file : List ℕ) (cap p : ℕ) → Bytes file → (checkOf file cap .answer ≡ error (fault FULL p)) ↔ Overfull file cap p
+pub full-exactly : (mode : Mode) (file : List ℕ) (cap p : ℕ) → Bytes file → (checkOf mode file cap .answer ≡ error (fault FULL p)) ↔ Overfull mode file cap p
 unfolding checkOf
-full-exactly file cap p b = (
-  λ e. full-by file cap p e (overfull file cap p b),
+full-exactly mode file cap p b = (
+  λ e. full-by mode file cap p e (overfull file cap p b),
   λ o. let w = whole file (omega (arith, o .more)) (o .short) in
-      let found : error (fault FULL p) ≡ checkIn file cap = bind-error _ (overfull-full file cap p o w) ∙ sym (checkIn-whole file w cap) in
+      let found : error (fault FULL p) ≡ checkIn mode file cap = bind-error _ (overfull-full file cap p o w) ∙ sym (checkIn-whole file w mode cap) in
       rw (← found),
 )
 
@@ -108,11 +110,11 @@ done-le s cap w g =
     split 0 (length (w .done))
     (λ some. omega (arith, rising-ge (w .done) (g .rising) last (omega arith), g .below last (omega arith), g .start)) (λ none. omega arith)
 
-pub never-full : (file : List ℕ) (cap p : ℕ) → length file ≤ suc cap → checkOf file cap .answer ≡ error (fault FULL p) → ⊥
-never-full file cap p enough e =
-    full-by file cap p e (λ w q.
+pub never-full : (mode : Mode) (file : List ℕ) (cap p : ℕ) → length file ≤ suc cap → checkOf mode file cap .answer ≡ error (fault FULL p) → ⊥
+never-full mode file cap p enough e =
+    full-by mode file cap p e (λ w q.
     let s = w .region in
-    let r = subst (Ends s cap (λ v. Unit {0})) (sym q) (walk-ends s cap (λ v. Unit {0}) (λ v h t u. tt) tt) in
+    let r = subst (Ends mode s cap (λ v. Unit {0})) (sym q) (walk-ends mode s cap (λ v. Unit {0}) (λ v h t u. tt) tt) in
     let (between, none) = refused-full (r .refused) refl in
     omega (arith, done-le s cap (r .walk) (r .going), none, r .inside between, length-whole file w))
 
@@ -137,9 +139,9 @@ module _ {S R : Type 0} (P : R → Type 0) where
         | inr e ↦ rw e (follow-or (run t r k) (run u r k) (run-or t u r same k) (u s))
       ]
 
-module _ (s : List ℕ) (cap more : ℕ) (le : cap ≤ more) where
+module _ (mode : Mode) (s : List ℕ) (cap more : ℕ) (le : cap ≤ more) where
   next-fewer : (done : List ℕ) (pending at : ℕ)
-      → (nextToken s cap done pending at ≡ error (fault FULL at)) ⊎ (nextToken s cap done pending at ≡ nextToken s more done pending at)
+      → (nextToken mode s cap done pending at ≡ error (fault FULL at)) ⊎ (nextToken mode s cap done pending at ≡ nextToken mode s more done pending at)
   unfolding nextToken
   next-fewer done pending at =
       split 0 pending
@@ -148,12 +150,12 @@ module _ (s : List ℕ) (cap more : ℕ) (le : cap ≤ more) where
       (λ free. inr (rw (lt-leb cap (length done) free, lt-leb more (length done) (omega arith))))
       (λ full. inl (rw (eq-eqb pending 0 (omega arith), le-leb cap (length done) full))))
 
-  turn-fewer : (w : Walk) → ((a : Answer Fault (List ℕ)) × (walkTurn s cap w ≡ stop a) × IsFull a) ⊎ (walkTurn s cap w ≡ walkTurn s more w)
+  turn-fewer : (w : Walk) → ((a : Answer Fault (List ℕ)) × (walkTurn mode s cap w ≡ stop a) × IsFull a) ⊎ (walkTurn mode s cap w ≡ walkTurn mode s more w)
   unfolding walkTurn
   turn-fewer w = by-test (eqb (w .pending) 0 && leb (length s) (w .at))
     where
       turned-at : ℕ → Bool → Turn Walk (Answer Fault (List ℕ))
-      turned-at c t = pick t (stop (ok (w .done))) (walkTurned w (nextToken s c (w .done) (w .pending) (w .at)))
+      turned-at c t = pick t (stop (ok (w .done))) (walkTurned w (nextToken mode s c (w .done) (w .pending) (w .at)))
 
       by-test : (t : Bool) → ((a : Answer Fault (List ℕ)) × (turned-at cap t ≡ stop a) × IsFull a) ⊎ (turned-at cap t ≡ turned-at more t)
       by-test true = inr refl
@@ -163,49 +165,50 @@ module _ (s : List ℕ) (cap more : ℕ) (le : cap ≤ more) where
             | inr e ↦ inr (rw e)
           ]
 
-  starts-fewer : IsFull (startsFrom s cap (between 0 [])) ⊎ (startsFrom s cap (between 0 []) ≡ startsFrom s more (between 0 []))
+  starts-fewer : IsFull (startsFrom mode s cap (between 0 [])) ⊎ (startsFrom mode s cap (between 0 []) ≡ startsFrom mode s more (between 0 []))
   unfolding startsFrom from
-  starts-fewer = run-or IsFull (walkTurn s cap) (walkTurn s more) (error (fault 0 0)) turn-fewer _ (between 0 [])
+  starts-fewer = run-or IsFull (walkTurn mode s cap) (walkTurn mode s more) (error (fault 0 0)) turn-fewer _ (between 0 [])
 
-checkIn-fewer : (file : List ℕ) (cap more : ℕ) → cap ≤ more
-    → ((p : ℕ) × (checkIn file cap ≡ error (fault FULL p))) ⊎ (checkIn file cap ≡ checkIn file more)
+checkIn-fewer : (mode : Mode) (file : List ℕ) (cap more : ℕ) → cap ≤ more
+    → ((p : ℕ) × (checkIn mode file cap ≡ error (fault FULL p))) ⊎ (checkIn mode file cap ≡ checkIn mode file more)
 unfolding bind
-checkIn-fewer file cap more le = by-shape (shape file)
+checkIn-fewer mode file cap more le = by-shape (shape file)
   where
-    by-shape : Shape file → ((p : ℕ) × (checkIn file cap ≡ error (fault FULL p))) ⊎ (checkIn file cap ≡ checkIn file more)
-    by-shape (refused f a) = inr (sym (at-once file f cap a) ∙ at-once file f more a)
+    by-shape : Shape file → ((p : ℕ) × (checkIn mode file cap ≡ error (fault FULL p))) ⊎ (checkIn mode file cap ≡ checkIn mode file more)
+    by-shape (refused f a) = inr (sym (at-once mode file f cap a) ∙ at-once mode file f more a)
     by-shape (read w) =
-        elim (starts-fewer (w .region) cap more le) [
-          | inl (p, e) ↦ inl (p, rw (checkIn-whole file w cap, e))
-          | inr e ↦ inr (rw (checkIn-whole file w cap, checkIn-whole file w more, e))
+        elim (starts-fewer mode (w .region) cap more le) [
+          | inl (p, e) ↦ inl (p, rw (checkIn-whole file w mode cap, e))
+          | inr e ↦ inr (rw (checkIn-whole file w mode cap, checkIn-whole file w mode more, e))
         ]
 
 listed-answer : (cap more : ℕ) (a : Answer Fault ((List ℕ) × ℕ)) → listed cap a .answer ≡ listed more a .answer
 listed-answer cap more (ok r) = refl
 listed-answer cap more (error f) = refl
 
-pub fewer-words : (file : List ℕ) (cap more : ℕ) → cap ≤ more
-    → ((p : ℕ) × (checkOf file cap .answer ≡ error (fault FULL p))) ⊎ (checkOf file cap .answer ≡ checkOf file more .answer)
+pub fewer-words : (mode : Mode) (file : List ℕ) (cap more : ℕ) → cap ≤ more
+    → ((p : ℕ) × (checkOf mode file cap .answer ≡ error (fault FULL p))) ⊎ (checkOf mode file cap .answer ≡ checkOf mode file more .answer)
 unfolding checkOf
-fewer-words file cap more le =
-    elim (checkIn-fewer file cap more le) [
+fewer-words mode file cap more le =
+    elim (checkIn-fewer mode file cap more le) [
       | inl (p, e) ↦ inl (p, rw e)
-      | inr e ↦ inr (rw e (listed-answer cap more (checkIn file more)))
+      | inr e ↦ inr (rw e (listed-answer cap more (checkIn mode file more)))
     ]
 
 -- ---- the table that is left
 
-pub refused-zero : (file : List ℕ) (cap : ℕ) (f : Fault) → checkOf file cap .answer ≡ error f → checkOf file cap .starts ≡ replicate cap 0
+pub refused-zero : (mode : Mode) (file : List ℕ) (cap : ℕ) (f : Fault) → checkOf mode file cap .answer ≡ error f
+    → checkOf mode file cap .starts ≡ replicate cap 0
 unfolding checkOf
-refused-zero file cap f e = rw (← answer-error cap f (checkIn file cap) e)
+refused-zero mode file cap f e = rw (← answer-error cap f (checkIn mode file cap) e)
 
-pub length-table : (file : List ℕ) (cap : ℕ) → length (checkOf file cap .starts) ≡ cap
+pub length-table : (mode : Mode) (file : List ℕ) (cap : ℕ) → length (checkOf mode file cap .starts) ≡ cap
 unfolding checkOf
-length-table file cap = by-cases (checkIn file cap) refl
+length-table mode file cap = by-cases (checkIn mode file cap) refl
   where
-    by-cases : (a : Answer Fault ((List ℕ) × ℕ)) → a ≡ checkIn file cap → length (listed cap a .starts) ≡ cap
+    by-cases : (a : Answer Fault ((List ℕ) × ℕ)) → a ≡ checkIn mode file cap → length (listed cap a .starts) ≡ cap
     by-cases (ok r) e =
-        found-ok file cap (r .0) (r .1) e (λ w walked named start.
+        found-ok mode file cap (r .0) (r .1) e (λ w walked named start.
         let zeros : ℕ = cap - length (r .0) in
-        omega (arith, come (w .region) cap (r .0) walked .1, length-append (r .0) (replicate zeros 0), length-replicate {A = ℕ} zeros 0))
+        omega (arith, come mode (w .region) cap (r .0) walked .1, length-append (r .0) (replicate zeros 0), length-replicate {A = ℕ} zeros 0))
     by-cases (error f) e = length-replicate cap 0

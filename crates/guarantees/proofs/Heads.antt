@@ -16,6 +16,7 @@ use Rattle.prelude.specs.Pick.{pick}
 use Rattle.prelude.specs.Answer.{ok}
 use Rattle.prelude.proofs.Tests.{pick-elim}
 use Rattle.prelude.proofs.Readers.{bind-ok-by}
+use Rattle.leb128.specs.declared.Mode.{Mode}
 use Rattle.kind.specs.Kind.{rule, immediate}
 use Rattle.kind.proofs.Laws.{used-lt}
 use Rattle.scan.specs.declared.Head.{Head}
@@ -122,7 +123,7 @@ module _ (s : List ℕ) (at : ℕ) (h : Head) (w : Within s at h) where
       ▸ past) .items
 
 -- the head of a value that was read
-pub read-by : {X : Type 0} (file : List ℕ) (at : ℕ) (v : Value) → readOf file at ≡ ok v
-    → ((n : ℕ) (h : Head) → ok n ≡ regionLen (length file) at → ok h ≡ peekIn false (take n file) at → v ≡ valueOn (take n file) at h → X) → X
+pub read-by : (mode : Mode) {X : Type 0} (file : List ℕ) (at : ℕ) (v : Value) → readOf mode file at ≡ ok v
+    → ((n : ℕ) (h : Head) → ok n ≡ regionLen (length file) at → ok h ≡ peekIn mode false (take n file) at → v ≡ valueOn (take n file) at h → X) → X
 unfolding inRegion readIn
-read-by file at v e k = bind-ok-by _ _ (sym e) (λ n opened q. bind-ok-by _ _ q (λ h peeked r. k n h opened peeked (cc)))
+read-by mode file at v e k = bind-ok-by _ _ (sym e) (λ n opened q. bind-ok-by _ _ q (λ h peeked r. k n h opened peeked (cc)))

@@ -14,6 +14,7 @@ use lib.ListN.{length, getD, length-append, List·getD-append}
 use Rattle.prelude.specs.Answer.{ok}
 use Rattle.prelude.proofs.Readers.{bind-ok}
 use Rattle.prelude.proofs.Searches.{among-by}
+use Rattle.leb128.specs.declared.Mode.{Mode}
 use Rattle.token.specs.Token.{Token}
 use Rattle.scan.proofs.Places.{headAt}
 use Rattle.values.specs.Values.{Value, region, starts, WellFormed}
@@ -27,21 +28,21 @@ use Rattle.guarantees.proofs.ReadsFile.{in-region-is, within, peeked, h
 pub starts-before : (vs a b : List Value) (i : ℕ) → vs ≡ a ++ b → i < length (starts 0 a) → getD (starts 0 vs) i 0 ≡ getD (starts 0 a) i 0
 starts-before vs a b i e h = rw (e, starts-append 0 a b) (List·getD-append (starts 0 a) _ 0 i h)
 
-module _ (file : List ℕ) (vs : List Value) (entry : ℕ) (w : WellFormed file vs entry) where
+module _ {mode : Mode} (file : List ℕ) (vs : List Value) (entry : ℕ) (w : WellFormed mode file vs entry) where
   module _ (j q : ℕ) (t : Token) (st : TokenAt vs j q t) where
-    follows : followOf file q ≡ followIn (region vs) q
-    follows = in-region-is file vs entry w (λ s. followIn s q) q (within file vs entry w j q t st)
+    follows : followOf mode file q ≡ followIn mode (region vs) q
+    follows = in-region-is file vs entry w (λ s. followIn mode s q) q (within file vs entry w j q t st)
 
-    pub hops-none : (t .kind ≡ 15 → ⊥) → followOf file q ≡ ok (q, 0)
+    pub hops-none : (t .kind ≡ 15 → ⊥) → followOf mode file q ≡ ok (q, 0)
     unfolding followIn
-    hops-none k = follows ∙ sym (bind-ok _ (followFrom-end (region vs) q 0 (headAt q t) (peeked file vs entry w j q t st) k) refl)
+    hops-none k = follows ∙ sym (bind-ok _ (followFrom-end mode (region vs) q 0 (headAt q t) (peeked file vs entry w j q t st) k) refl)
 
     module _ (k : t .kind ≡ 15) where
-      pub follows-pointer : followOf file q ≡ further (followOf file (q - t .n - 1))
+      pub follows-pointer : followOf mode file q ≡ further (followOf mode file (q - t .n - 1))
       follows-pointer =
           let p = q - t .n - 1 in
-          let there = in-region-is file vs entry w (λ s. followIn s p) p (omega (arith, within file vs entry w j q t st)) in
-          follows ∙ follow-pointer (region vs) q (headAt q t) (peeked file vs entry w j q t st) k ∙ ap further (sym there)
+          let there = in-region-is file vs entry w (λ s. followIn mode s p) p (omega (arith, within file vs entry w j q t st)) in
+          follows ∙ follow-pointer mode (region vs) q (headAt q t) (peeked file vs entry w j q t st) k ∙ ap further (sym there)
 
       -- the number of the target
       pub target : (i : ℕ) × (i < j) × (getD (starts 0 vs) i 0 ≡ q - t .n - 1)
@@ -50,8 +51,8 @@ module _ (file : List ℕ) (vs : List Value) (entry : ℕ) (w : WellFormed file 
           (i, omega (arith, length-starts 0 (st .before), st .numbered), starts-before vs (st .before) (st .value ∷ st .after) i (st .values) i< ∙ e)
 
       -- one hop more
-      hop : (i : ℕ) → i < j → getD (starts 0 vs) i 0 ≡ q - t .n - 1 → FollowsTo file vs i (getD (starts 0 vs) i 0)
-          → FollowsTo file vs j q
+      hop : (i : ℕ) → i < j → getD (starts 0 vs) i 0 ≡ q - t .n - 1 → FollowsTo mode file vs i (getD (starts 0 vs) i 0)
+          → FollowsTo mode file vs j q
       hop i less e c = record {
         before = c .before;
         value = c .value;
@@ -65,11 +66,11 @@ module _ (file : List ℕ) (vs : List Value) (entry : ℕ) (w : WellFormed file 
         falls = omega (arith, c .falls);
       }
 
-      through : ((i : ℕ) → i < j → FollowsTo file vs i (getD (starts 0 vs) i 0)) → FollowsTo file vs j q
+      through : ((i : ℕ) → i < j → FollowsTo mode file vs i (getD (starts 0 vs) i 0)) → FollowsTo mode file vs j q
       through more = let (i, less, e) = target in hop i less e (more i less)
 
   by-value : (a : List Value) (v : Value) (b : List Value) → vs ≡ a ++ (v ∷ b)
-      → ((i : ℕ) → i < length a → FollowsTo file vs i (getD (starts 0 vs) i 0)) → FollowsTo file vs (length a) (getD (starts 0 vs) (length a) 0)
+      → ((i : ℕ) → i < length a → FollowsTo mode file vs i (getD (starts 0 vs) i 0)) → FollowsTo mode file vs (length a) (getD (starts 0 vs) (length a) 0)
   by-value a v b e more =
       let st = head-token-at vs a v b e in
       let at : getD (starts 0 vs) (length a) 0 ≡ length (region a) = rw e (start-of a v b) in
@@ -89,18 +90,18 @@ module _ (file : List ℕ) (vs : List Value) (entry : ℕ) (w : WellFormed file 
         }
       ]
 
-  come : (f j : ℕ) → j < f → j < length vs → FollowsTo file vs j (getD (starts 0 vs) j 0)
+  come : (f j : ℕ) → j < f → j < length vs → FollowsTo mode file vs j (getD (starts 0 vs) j 0)
   come zero j l h = absurd (omega arith)
   come (suc f) j l h =
       let p = value-at vs j h in
-      subst (λ n. FollowsTo file vs n (getD (starts 0 vs) n 0)) (p .number)
+      subst (λ n. FollowsTo mode file vs n (getD (starts 0 vs) n 0)) (p .number)
       (by-value (p .before) (p .value) (p .after) (p .same) (λ i less. come f i (omega (arith, p .number)) (omega (arith, p .number))))
 
-  pub hops : (j : ℕ) → j < length vs → FollowsTo file vs j (getD (starts 0 vs) j 0)
+  pub hops : (j : ℕ) → j < length vs → FollowsTo mode file vs j (getD (starts 0 vs) j 0)
   hops j h = come (suc j) j (le-refl _) h
 
   -- from a pointer that is value number j, or an item of it
-  pub hops-pointer : (j q : ℕ) (t : Token) (st : TokenAt vs j q t) → t .kind ≡ 15 → FollowsTo file vs j q
+  pub hops-pointer : (j q : ℕ) (t : Token) (st : TokenAt vs j q t) → t .kind ≡ 15 → FollowsTo mode file vs j q
   hops-pointer j q t st k =
       let long = ap length (st .values) ∙ length-append (st .before) (st .value ∷ st .after) in
       through j q t st k (λ i less. hops i (omega (arith, st .numbered)))

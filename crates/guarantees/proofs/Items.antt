@@ -13,6 +13,7 @@ use Rattle.prelude.specs.Pick.{pick}
 use Rattle.prelude.specs.Answer.{ok, error}
 use Rattle.prelude.proofs.Readers.{bind-ok}
 use Rattle.error.specs.Error.{fault, NO_ITEM, WRONG_KIND}
+use Rattle.leb128.specs.declared.Mode.{Mode}
 use Rattle.kind.specs.Kind.{rule, immediate}
 use Rattle.scan.specs.declared.Head.{Head}
 use Rattle.scan.proofs.Places.{scan-within}
@@ -34,49 +35,50 @@ none-by : (t : Bool) (m : ℕ) → pick t none (some m) ≡ none → t ≡ true
 none-by true m e = refl
 none-by false m e = let z : _≡_ {A = ℕ} 0 1 = cc in absurd (omega arith)
 
-module _ (file : List ℕ) (at : ℕ) (v : Value) (read : readOf file at ≡ ok v) where
+module _ (mode : Mode) (file : List ℕ) (at : ℕ) (v : Value) (read : readOf mode file at ≡ ok v) where
   -- the head of a value that has n items
   counted-by : {X : Type 0} (n : ℕ) → countOf v ≡ some n
-      → ((len : ℕ) (h : Head) → ok len ≡ regionLen (length file) at → ok h ≡ peekIn false (take len file) at → immediate (rule (h .kind)) ≡ false
+      → ((len : ℕ) (h : Head) → ok len ≡ regionLen (length file) at → ok h ≡ peekIn mode false (take len file) at → immediate (rule (h .kind)) ≡ false
       → h .items ≡ n → X) → X
   counted-by n count k =
-      read-by file at v read (λ len h opened peeked same.
-      let w = scan-within false (take len file) at h (peek-scan false (take len file) at h peeked) in
+      read-by mode file at v read (λ len h opened peeked same.
+      let w = scan-within mode false (take len file) at h (peek-scan mode false (take len file) at h peeked) in
       some-by (immediate (rule (h .kind))) (h .items) n (sym (count-value (take len file) at h w) ∙ ap countOf (sym same) ∙ count)
       (k len h opened peeked))
 
-  pub item-leaf : (i : ℕ) → countOf v ≡ none → itemOf file at i ≡ error (fault WRONG_KIND at)
+  pub item-leaf : (i : ℕ) → countOf v ≡ none → itemOf mode file at i ≡ error (fault WRONG_KIND at)
   unfolding itemIn itemOn
   item-leaf i count =
-      read-by file at v read (λ len h opened peeked same.
-      let w = scan-within false (take len file) at h (peek-scan false (take len file) at h peeked) in
+      read-by mode file at v read (λ len h opened peeked same.
+      let w = scan-within mode false (take len file) at h (peek-scan mode false (take len file) at h peeked) in
       let own = none-by (immediate (rule (h .kind))) (h .items) (sym (count-value (take len file) at h w) ∙ ap countOf (sym same) ∙ count) in
-      in-region-of file at len opened (λ s. itemIn s at i) ∙ sym (bind-ok (itemOn (take len file) at i) peeked (rw own)))
+      in-region-of file at len opened (λ s. itemIn mode s at i) ∙ sym (bind-ok (itemOn mode (take len file) at i) peeked (rw own)))
 
   module _ (n : ℕ) (count : countOf v ≡ some n) where
-    pub no-item : (i : ℕ) → n ≤ i → itemOf file at i ≡ error (fault NO_ITEM at)
+    pub no-item : (i : ℕ) → n ≤ i → itemOf mode file at i ≡ error (fault NO_ITEM at)
     no-item i past =
-        counted-by n count (λ len h opened peeked holds items. sym (no-item-on file at i len h opened peeked holds (omega arith)))
+        counted-by n count (λ len h opened peeked holds items. sym (no-item-on mode file at i len h opened peeked holds (omega arith)))
 
     -- item i of a value that `skip` accepts
-    module _ (i p end : ℕ) (here : itemOf file at i ≡ ok p) (skips : skipOf file at ≡ ok end) where
+    module _ (i p end : ℕ) (here : itemOf mode file at i ≡ ok p) (skips : skipOf mode file at ≡ ok end) where
       -- in the region, p is in it too
-      within-by : {X : Type 0} → ((len : ℕ) (h : Head) → let s = take len file in ok len ≡ regionLen (length file) at → ok h ≡ peekIn false s at
-          → h .items ≡ n → ok p ≡ itemIn s at i → ok end ≡ skipIn s at → skipOf file p ≡ skipIn s p → X) → X
+      within-by : {X : Type 0} → ((len : ℕ) (h : Head) → let s = take len file in ok len ≡ regionLen (length file) at → ok h ≡ peekIn mode false s at
+          → h .items ≡ n → ok p ≡ itemIn mode s at i → ok end ≡ skipIn mode s at → skipOf mode file p ≡ skipIn mode s p → X) → X
       within-by k =
           counted-by n count (λ len h opened peeked holds items.
           let s = take len file in
-          let found = sym here ∙ in-region-of file at len opened (λ s. itemIn s at i) in
-          let less : p < len = omega (arith, item-found s at i p found .inside, length-region file at len opened) in
-          k len h opened peeked items found (sym skips ∙ in-region-of file at len opened (λ s. skipIn s at))
-          (in-region-of file p len (region-any (length file) at len opened p less) (λ s. skipIn s p)))
+          let found = sym here ∙ in-region-of file at len opened (λ s. itemIn mode s at i) in
+          let less : p < len = omega (arith, item-found mode s at i p found .inside, length-region file at len opened) in
+          k len h opened peeked items found (sym skips ∙ in-region-of file at len opened (λ s. skipIn mode s at))
+          (in-region-of file p len (region-any (length file) at len opened p less) (λ s. skipIn mode s p)))
 
-      pub item-next : suc i < n → itemOf file at (suc i) ≡ skipOf file p
+      pub item-next : suc i < n → itemOf mode file at (suc i) ≡ skipOf mode file p
       item-next more =
           within-by (λ len h opened peeked items found skipped next.
-          in-region-of file at len opened (λ s. itemIn s at (suc i)) ∙ itemIn-next (take len file) at i p end h peeked skipped (omega arith) found ∙ sym next)
+          in-region-of file at len opened (λ s. itemIn mode s at (suc i)) ∙ itemIn-next mode (take len file) at i p end h peeked skipped (omega arith) found
+          ∙ sym next)
 
-      pub item-last : suc i ≡ n → skipOf file p ≡ ok end
+      pub item-last : suc i ≡ n → skipOf mode file p ≡ ok end
       item-last last =
           within-by (λ len h opened peeked items found skipped next.
-          next ∙ sym (itemIn-last (take len file) at i p end h peeked (items ∙ sym last) found skipped))
+          next ∙ sym (itemIn-last mode (take len file) at i p end h peeked (items ∙ sym last) found skipped))

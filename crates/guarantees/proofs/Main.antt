@@ -19,6 +19,8 @@ use Rattle.prelude.specs.Each.{Each}
 use Rattle.error.specs.Error.{Fault, fault, LIMIT, EMPTY, TOO_LONG, BAD_TEXT, FULL, BAD_ENTRY, NO_ITEM}
 use Rattle.leb128.specs.Leb.{top, get, put}
 use Rattle.leb128.proofs.Laws as leb128
+use Rattle.leb128.specs.declared.Mode.{Mode}
+use Rattle.leb128.specs.declared.Mode.the-variants.{Strict, Tolerant}
 use Rattle.utf8.specs.Text.{Text, isText}
 use Rattle.utf8.specs.Utf8.{Encodable, Row, utf8Rows, octets, encode, utf8, FitsRow, Utf8, decode}
 use Rattle.utf8.proofs.Utf8 as utf8-laws
@@ -62,7 +64,8 @@ use Rattle.guarantees.specs.Accepts.{Overfull}
 use Rattle.guarantees.specs.Refused.{Unnamed, Faulty, RefusedCheck, RefusedDepths}
 use Rattle.guarantees.specs.Texts.{NotUtf8, TextsUtf8}
 use Rattle.guarantees.specs.Lookup.{Found, Missing}
-use Rattle.guarantees.specs.Samples.{Answered, samples, endSamples, textSamples, TextCall, textAnswer, textCalls}
+use Rattle.guarantees.specs.Samples.{Answered, samples, endSamples, textSamples, paddedSamples, overlongSamples, rangeSamples}
+use Rattle.guarantees.specs.Samples.{TextCall, textAnswer, textCalls}
 use Rattle.guarantees_writer.specs.Model.{requestOf, formsOf, deltaOf, Model, emptyModel}
 use Rattle.guarantees_writer.specs.RefusedCall.{BadState, NoRoom, RefusedCall}
 use Rattle.guarantees_writer.specs.History.{modelRun, Agree, Follows, Alike}
@@ -117,62 +120,65 @@ demand-1 = record {
 }
 
 pub demand-2 : Demand2
-demand-2 = record { accepts = accepted.accepts-exactly; reports = demands.reports-values; rewrites = demands.rewrites }
+demand-2 = record { accepts = accepted.accepts-exactly; reports = λ mode. demands.reports-values; rewrites = demands.rewrites }
 
 pub demand-3 : Demand3
-demand-3 = record { list = demands.after-calls; values = call-values.value-of-call; paths = path-facts.accepted-paths }
+demand-3 = record { list = demands.after-calls; values = call-values.value-of-call; paths = λ mode. path-facts.accepted-paths }
 
 -- ---- check's answers
 
-pub one-reading : (file : List ℕ) (vs ws : List Value) (e f : ℕ) → WellFormed file vs e → WellFormed file ws f → (vs ≡ ws) × (e ≡ f)
+pub one-reading : {mode : Mode} (file : List ℕ) (vs ws : List Value) (e f : ℕ) → WellFormed mode file vs e → WellFormed mode file ws f → (vs ≡ ws) × (e ≡ f)
 one-reading = unique.one-reading
 
-pub fault-exactly : (file : List ℕ) (cap : ℕ) (f : Fault) → Bytes file → (checkOf file cap .answer ≡ error f) ↔ RefusedCheck file cap f
-fault-exactly = refused.fault-exactly
+pub fault-exactly : (mode : Mode) (file : List ℕ) (cap : ℕ) (f : Fault) → Bytes file → (checkOf mode file cap .answer ≡ error f) ↔ RefusedCheck mode file cap f
+fault-exactly mode = refused.fault-exactly mode
 
-pub fault-place : {file : List ℕ} {cap p : ℕ} {f : Fault} (x : Faulty file cap p f) → HasPlace (take (length file - 1) file) (ltb 0 (x .missing)) p f
+pub fault-place : {mode : Mode} {file : List ℕ} {cap p : ℕ} {f : Fault} (x : Faulty mode file cap p f)
+    → HasPlace mode (take (length file - 1) file) (ltb 0 (x .missing)) p f
 fault-place = refused.fault-place
 
-pub fault-once : (file : List ℕ) (cap p q : ℕ) (f g : Fault) → Faulty file cap p f → Faulty file cap q g → (p ≡ q) × (f ≡ g)
+pub fault-once : {mode : Mode} (file : List ℕ) (cap p q : ℕ) (f g : Fault) → Faulty mode file cap p f → Faulty mode file cap q g → (p ≡ q) × (f ≡ g)
 fault-once = refused.fault-once
 
-pub depths-refused-exactly : (file : List ℕ) (cap room : ℕ) (f : Fault) → Bytes file
-    → (depthsOf file cap room .answer ≡ error f) ↔ RefusedDepths file cap room f
-depths-refused-exactly = depths.depths-refused-exactly
+pub depths-refused-exactly : (mode : Mode) (file : List ℕ) (cap room : ℕ) (f : Fault) → Bytes file
+    → (depthsOf mode file cap room .answer ≡ error f) ↔ RefusedDepths mode file cap room f
+depths-refused-exactly mode = depths.depths-refused-exactly mode
 
-pub refused-exactly : (s : List ℕ) (cap : ℕ) (done : List ℕ) (pending q : ℕ) (f : Fault)
-    → (nextToken s cap done pending q ≡ error f) ↔ RefusedToken s cap done pending q f
-refused-exactly = faults.refused-exactly
+pub refused-exactly : (mode : Mode) (s : List ℕ) (cap : ℕ) (done : List ℕ) (pending q : ℕ) (f : Fault)
+    → (nextToken mode s cap done pending q ≡ error f) ↔ RefusedToken mode s cap done pending q f
+refused-exactly mode = faults.refused-exactly mode
 
-pub head-refused-exactly : (s : List ℕ) (inner : Bool) (q : ℕ) (f : Fault) → (scanAt inner s q ≡ error f) ↔ RefusedHead s inner q f
-head-refused-exactly = heads.head-refused-exactly
+pub head-refused-exactly : (mode : Mode) (s : List ℕ) (inner : Bool) (q : ℕ) (f : Fault) → (scanAt mode inner s q ≡ error f) ↔ RefusedHead mode s inner q f
+head-refused-exactly mode = heads.head-refused-exactly mode
 
-pub head-place : {s : List ℕ} {inner : Bool} {q : ℕ} {f : Fault} → RefusedHead s inner q f → HasPlace s inner q f
+pub head-place : {mode : Mode} {s : List ℕ} {inner : Bool} {q : ℕ} {f : Fault} → RefusedHead mode s inner q f → HasPlace mode s inner q f
 head-place = places.head-place
 
-pub shortage-exactly : {s : List ℕ} {inner : Bool} {q h n a : ℕ} {m : List ℕ} → Counted s inner q h n a m
+pub shortage-exactly : {mode : Mode} {s : List ℕ} {inner : Bool} {q h n a : ℕ} {m : List ℕ} → Counted mode s inner q h n a m
     → (length m < size (rule (h / 16)) n + counted (rule (h / 16)) n a)
     ↔ (((h / 16 ≡ 3) × (length m < 4 + 4 * n)) ⊎ ((e : ℕ) × Exceeds (h / 16) n a (length m) e))
 shortage-exactly = shortages.shortage-exactly
 
-pub full-exactly : (file : List ℕ) (cap p : ℕ) → Bytes file → (checkOf file cap .answer ≡ error (fault FULL p)) ↔ Overfull file cap p
-full-exactly = full.full-exactly
+pub full-exactly : (mode : Mode) (file : List ℕ) (cap p : ℕ) → Bytes file → (checkOf mode file cap .answer ≡ error (fault FULL p)) ↔ Overfull mode file cap p
+full-exactly mode = full.full-exactly mode
 
-pub fewer-words : (file : List ℕ) (cap more : ℕ) → cap ≤ more
-    → ((p : ℕ) × (checkOf file cap .answer ≡ error (fault FULL p))) ⊎ (checkOf file cap .answer ≡ checkOf file more .answer)
-fewer-words = full.fewer-words
+pub fewer-words : (mode : Mode) (file : List ℕ) (cap more : ℕ) → cap ≤ more
+    → ((p : ℕ) × (checkOf mode file cap .answer ≡ error (fault FULL p))) ⊎ (checkOf mode file cap .answer ≡ checkOf mode file more .answer)
+fewer-words mode = full.fewer-words mode
 
-pub never-full : (file : List ℕ) (cap p : ℕ) → length file ≤ suc cap → checkOf file cap .answer ≡ error (fault FULL p) → ⊥
-never-full = full.never-full
+pub never-full : (mode : Mode) (file : List ℕ) (cap p : ℕ) → length file ≤ suc cap → checkOf mode file cap .answer ≡ error (fault FULL p) → ⊥
+never-full mode = full.never-full mode
 
-pub empty-exactly : (file : List ℕ) (cap p : ℕ) → (checkOf file cap .answer ≡ error (fault EMPTY p)) ↔ ((length file ≡ 0) × (p ≡ 0))
-empty-exactly = refused.empty-exactly
+pub empty-exactly : (mode : Mode) (file : List ℕ) (cap p : ℕ) → (checkOf mode file cap .answer ≡ error (fault EMPTY p)) ↔ ((length file ≡ 0) × (p ≡ 0))
+empty-exactly mode = refused.empty-exactly mode
 
-pub too-long-exactly : (file : List ℕ) (cap p : ℕ) → (checkOf file cap .answer ≡ error (fault TOO_LONG p)) ↔ ((LIMIT < length file) × (p ≡ 0))
-too-long-exactly = refused.too-long-exactly
+pub too-long-exactly : (mode : Mode) (file : List ℕ) (cap p : ℕ) → (checkOf mode file cap .answer ≡ error (fault TOO_LONG p))
+    ↔ ((LIMIT < length file) × (p ≡ 0))
+too-long-exactly mode = refused.too-long-exactly mode
 
-pub bad-entry-exactly : (file : List ℕ) (cap p : ℕ) → Bytes file → (checkOf file cap .answer ≡ error (fault BAD_ENTRY p)) ↔ Unnamed file cap p
-bad-entry-exactly = refused.bad-entry-exactly
+pub bad-entry-exactly : (mode : Mode) (file : List ℕ) (cap p : ℕ) → Bytes file → (checkOf mode file cap .answer ≡ error (fault BAD_ENTRY p))
+    ↔ Unnamed mode file cap p
+bad-entry-exactly mode = refused.bad-entry-exactly mode
 
 -- ---- text
 
@@ -182,13 +188,13 @@ text-exactly = utf8-laws.text-exactly
 pub isText-exactly : (s : List ℕ) → (isText s ≡ true) ↔ Utf8 s
 isText-exactly = utf8-laws.isText-exactly
 
-pub accepted-texts : (file : List ℕ) (cap count entry : ℕ) → Bytes file → checkOf file cap .answer ≡ ok (count, entry)
-    → (vs : List Value) × WellFormed file vs entry × TextsUtf8 file vs
-accepted-texts = texts.accepted-texts
+pub accepted-texts : (mode : Mode) (file : List ℕ) (cap count entry : ℕ) → Bytes file → checkOf mode file cap .answer ≡ ok (count, entry)
+    → (vs : List Value) × WellFormed mode file vs entry × TextsUtf8 mode file vs
+accepted-texts mode = texts.accepted-texts mode
 
-pub bad-text-exactly : (file : List ℕ) (cap p : ℕ) → Bytes file → (checkOf file cap .answer ≡ error (fault BAD_TEXT p))
-    ↔ ((x : Faulty file cap p (fault BAD_TEXT p)) × NotUtf8 (take (length file - 1) file) (ltb 0 (x .missing)) p)
-bad-text-exactly = texts.bad-text-exactly
+pub bad-text-exactly : (mode : Mode) (file : List ℕ) (cap p : ℕ) → Bytes file → (checkOf mode file cap .answer ≡ error (fault BAD_TEXT p))
+    ↔ ((x : Faulty mode file cap p (fault BAD_TEXT p)) × NotUtf8 mode (take (length file - 1) file) (ltb 0 (x .missing)) p)
+bad-text-exactly mode = texts.bad-text-exactly mode
 
 pub refused-text-exactly : (b : List ℕ) (s : State) (out table : List ℕ) → (step (text b) s out table .answer ≡ error BAD_TEXT)
     ↔ ((BadState s (length out) (length table) → ⊥) × (s .closed ≡ false) × (Utf8 b → ⊥))
@@ -199,62 +205,68 @@ accepted-text = texts.accepted-text
 
 -- ---- what a query answers, and what it is refused for, on every file
 
-pub peek-answers-exactly : (file : List ℕ) (at : ℕ) (h : Head)
-    → (peekOf file at ≡ ok h) ↔ AnsweredQuery file at (λ s. (r : Read s false at) × (headOf s r ≡ h))
-peek-answers-exactly = queries.peek-answers-exactly
+pub peek-answers-exactly : (mode : Mode) (file : List ℕ) (at : ℕ) (h : Head)
+    → (peekOf mode file at ≡ ok h) ↔ AnsweredQuery file at (λ s. (r : Read mode s false at) × (headOf mode s r ≡ h))
+peek-answers-exactly mode = queries.peek-answers-exactly mode
 
-pub peek-refused-exactly : (file : List ℕ) (at : ℕ) (f : Fault) → (peekOf file at ≡ error f) ↔ RefusedQuery file at (λ s. RefusedRead s false at) f
-peek-refused-exactly = queries.peek-refused-exactly
+pub peek-refused-exactly : (mode : Mode) (file : List ℕ) (at : ℕ) (f : Fault) → (peekOf mode file at ≡ error f)
+    ↔ RefusedQuery file at (λ s. RefusedRead mode s false at) f
+peek-refused-exactly mode = queries.peek-refused-exactly mode
 
-pub read-answers-exactly : (file : List ℕ) (at : ℕ) (v : ReadValue)
-    → (readOf file at ≡ ok v) ↔ AnsweredQuery file at (λ s. (r : Read s false at) × (valueOn s at (headOf s r) ≡ v))
-read-answers-exactly = queries.read-answers-exactly
+pub read-answers-exactly : (mode : Mode) (file : List ℕ) (at : ℕ) (v : ReadValue)
+    → (readOf mode file at ≡ ok v) ↔ AnsweredQuery file at (λ s. (r : Read mode s false at) × (valueOn s at (headOf mode s r) ≡ v))
+read-answers-exactly mode = queries.read-answers-exactly mode
 
-pub read-refused-exactly : (file : List ℕ) (at : ℕ) (f : Fault) → (readOf file at ≡ error f) ↔ RefusedQuery file at (λ s. RefusedRead s false at) f
-read-refused-exactly = queries.read-refused-exactly
+pub read-refused-exactly : (mode : Mode) (file : List ℕ) (at : ℕ) (f : Fault) → (readOf mode file at ≡ error f)
+    ↔ RefusedQuery file at (λ s. RefusedRead mode s false at) f
+read-refused-exactly mode = queries.read-refused-exactly mode
 
-pub skip-answers-exactly : (file : List ℕ) (at e : ℕ) → (skipOf file at ≡ ok e) ↔ AnsweredQuery file at (λ s. Skips s at e)
-skip-answers-exactly = queries.skip-answers-exactly
+pub skip-answers-exactly : (mode : Mode) (file : List ℕ) (at e : ℕ) → (skipOf mode file at ≡ ok e) ↔ AnsweredQuery file at (λ s. Skips mode s at e)
+skip-answers-exactly mode = queries.skip-answers-exactly mode
 
-pub skip-refused-exactly : (file : List ℕ) (at : ℕ) (f : Fault) → (skipOf file at ≡ error f) ↔ RefusedQuery file at (λ s. RefusedSkip s at) f
-skip-refused-exactly = queries.skip-refused-exactly
+pub skip-refused-exactly : (mode : Mode) (file : List ℕ) (at : ℕ) (f : Fault) → (skipOf mode file at ≡ error f)
+    ↔ RefusedQuery file at (λ s. RefusedSkip mode s at) f
+skip-refused-exactly mode = queries.skip-refused-exactly mode
 
-pub item-answers-exactly : (file : List ℕ) (at i p : ℕ) → (itemOf file at i ≡ ok p) ↔ AnsweredQuery file at (λ s. HasItem s at i p)
-item-answers-exactly = queries.item-answers-exactly
+pub item-answers-exactly : (mode : Mode) (file : List ℕ) (at i p : ℕ) → (itemOf mode file at i ≡ ok p) ↔ AnsweredQuery file at (λ s. HasItem mode s at i p)
+item-answers-exactly mode = queries.item-answers-exactly mode
 
-pub item-refused-exactly : (file : List ℕ) (at i : ℕ) (f : Fault) → (itemOf file at i ≡ error f) ↔ RefusedQuery file at (λ s. RefusedItem s at i) f
-item-refused-exactly = queries.item-refused-exactly
+pub item-refused-exactly : (mode : Mode) (file : List ℕ) (at i : ℕ) (f : Fault) → (itemOf mode file at i ≡ error f)
+    ↔ RefusedQuery file at (λ s. RefusedItem mode s at i) f
+item-refused-exactly mode = queries.item-refused-exactly mode
 
-pub follow-answers-exactly : (file : List ℕ) (at p hops : ℕ)
-    → (followOf file at ≡ ok (p, hops)) ↔ AnsweredQuery file at (λ s. (v : Read s false p) × Reaches s at hops p v)
-follow-answers-exactly = queries.follow-answers-exactly
+pub follow-answers-exactly : (mode : Mode) (file : List ℕ) (at p hops : ℕ)
+    → (followOf mode file at ≡ ok (p, hops)) ↔ AnsweredQuery file at (λ s. (v : Read mode s false p) × Reaches mode s at hops p v)
+follow-answers-exactly mode = queries.follow-answers-exactly mode
 
-pub follow-refused-exactly : (file : List ℕ) (at : ℕ) (f : Fault) → (followOf file at ≡ error f) ↔ RefusedQuery file at (λ s. RefusedFollow s at) f
-follow-refused-exactly = queries.follow-refused-exactly
+pub follow-refused-exactly : (mode : Mode) (file : List ℕ) (at : ℕ) (f : Fault) → (followOf mode file at ≡ error f)
+    ↔ RefusedQuery file at (λ s. RefusedFollow mode s at) f
+follow-refused-exactly mode = queries.follow-refused-exactly mode
 
-pub body-answers-exactly : (file : List ℕ) (at first len : ℕ)
-    → (bodyPlaceOf file at ≡ ok (first, len)) ↔ AnsweredQuery file at (λ s. HasBody s at first len)
-body-answers-exactly = queries.body-answers-exactly
+pub body-answers-exactly : (mode : Mode) (file : List ℕ) (at first len : ℕ)
+    → (bodyPlaceOf mode file at ≡ ok (first, len)) ↔ AnsweredQuery file at (λ s. HasBody mode s at first len)
+body-answers-exactly mode = queries.body-answers-exactly mode
 
-pub body-refused-exactly : (file : List ℕ) (at : ℕ) (f : Fault) → (bodyPlaceOf file at ≡ error f) ↔ RefusedQuery file at (λ s. RefusedBody s at) f
-body-refused-exactly = queries.body-refused-exactly
+pub body-refused-exactly : (mode : Mode) (file : List ℕ) (at : ℕ) (f : Fault) → (bodyPlaceOf mode file at ≡ error f)
+    ↔ RefusedQuery file at (λ s. RefusedBody mode s at) f
+body-refused-exactly mode = queries.body-refused-exactly mode
 
-pub lookup-answers-exactly : (file : List ℕ) (at : ℕ) (key : List ℕ) (x : ℕ)
-    → (lookupOf file at key ≡ ok x) ↔ AnsweredQuery file at (λ s. Finds s at key x)
-lookup-answers-exactly = lookup-queries.lookup-answers-exactly
+pub lookup-answers-exactly : (mode : Mode) (file : List ℕ) (at : ℕ) (key : List ℕ) (x : ℕ)
+    → (lookupOf mode file at key ≡ ok x) ↔ AnsweredQuery file at (λ s. Finds mode s at key x)
+lookup-answers-exactly mode = lookup-queries.lookup-answers-exactly mode
 
-pub lookup-refused-exactly : (file : List ℕ) (at : ℕ) (key : List ℕ) (f : Fault)
-    → (lookupOf file at key ≡ error f) ↔ RefusedQuery file at (λ s. RefusedLookup s at key) f
-lookup-refused-exactly = lookup-queries.lookup-refused-exactly
+pub lookup-refused-exactly : (mode : Mode) (file : List ℕ) (at : ℕ) (key : List ℕ) (f : Fault)
+    → (lookupOf mode file at key ≡ error f) ↔ RefusedQuery file at (λ s. RefusedLookup mode s at key) f
+lookup-refused-exactly mode = lookup-queries.lookup-refused-exactly mode
 
 -- ---- lookup, on every file, by the other queries
 
-pub lookup-found-exactly : (file : List ℕ) (at : ℕ) (key : List ℕ) (x : ℕ) → (lookupOf file at key ≡ ok x) ↔ Found file at key x
-lookup-found-exactly = lookups.lookup-found-exactly
+pub lookup-found-exactly : (mode : Mode) (file : List ℕ) (at : ℕ) (key : List ℕ) (x : ℕ) → (lookupOf mode file at key ≡ ok x) ↔ Found mode file at key x
+lookup-found-exactly mode = lookups.lookup-found-exactly mode
 
-pub lookup-none-exactly : (file : List ℕ) (at : ℕ) (key : List ℕ) (p : ℕ)
-    → (lookupOf file at key ≡ error (fault NO_ITEM p)) ↔ ((p ≡ at) × Missing file at key)
-lookup-none-exactly = lookups.lookup-none-exactly
+pub lookup-none-exactly : (mode : Mode) (file : List ℕ) (at : ℕ) (key : List ℕ) (p : ℕ)
+    → (lookupOf mode file at key ≡ error (fault NO_ITEM p)) ↔ ((p ≡ at) × Missing mode file at key)
+lookup-none-exactly mode = lookups.lookup-none-exactly mode
 
 -- ---- one call of the writer, in any state, with any output and table
 
@@ -335,25 +347,32 @@ utf8-decode = utf8-laws.utf8-decode
 pub shortest : (c : ℕ) → Encodable c → {r : Row} → List·Memᴰ r utf8Rows → FitsRow r c → length (encode c) ≤ length (octets (some r) c)
 shortest = utf8-laws.shortest
 
-pub get-put : (k least n : ℕ) (rest : List ℕ) → least ≤ n → n < top k → get k least (put k n ++ rest) ≡ got n rest
-get-put = leb128.get-put
+pub get-put : (mode : Mode) (k least n : ℕ) (rest : List ℕ) → least ≤ n → n < top k → get mode k least (put k n ++ rest) ≡ got n rest
+get-put mode = leb128.get-put mode
 
-pub scan-emit : (inner : Bool) (at : ℕ) (t : Token) (s : List ℕ) → Fits inner t s → scan inner at (emit t ++ s) ≡ got t s
-scan-emit = token.scan-emit
+pub scan-emit : (mode : Mode) (inner : Bool) (at : ℕ) (t : Token) (s : List ℕ) → Fits mode inner t s → scan mode inner at (emit t ++ s) ≡ got t s
+scan-emit mode = token.scan-emit mode
 
-pub emit-scan : (inner : Bool) (at : ℕ) (s : List ℕ) (t : Token) (rest : List ℕ) → Bytes s → scan inner at s ≡ got t rest → Scanned inner s t rest
-emit-scan = token.emit-scan
+pub emit-scan : (mode : Mode) (inner : Bool) (at : ℕ) (s : List ℕ) (t : Token) (rest : List ℕ) → Bytes s → scan mode inner at s ≡ got t rest
+    → Scanned mode inner s t rest
+emit-scan mode = token.emit-scan mode
 
 -- ---- document 01's samples
 
-pub the-samples : Answered samples
+pub the-samples : Answered Strict samples
 the-samples = sampled.the-samples
 
-pub the-ends : Answered endSamples
+pub the-ends : (mode : Mode) → Answered mode endSamples
 the-ends = sampled.the-ends
 
-pub the-texts : Answered textSamples
+pub the-texts : (mode : Mode) → Answered mode textSamples
 the-texts = sampled.the-texts
+
+pub the-padded : Answered Tolerant paddedSamples × Answered Strict overlongSamples
+the-padded = sampled.the-padded
+
+pub the-ranges : (mode : Mode) → Answered mode rangeSamples
+the-ranges = sampled.the-ranges
 
 pub the-text-calls : map textAnswer textCalls ≡ map (λ (x : TextCall). x .1) textCalls
 the-text-calls = sampled.the-text-calls

@@ -11,6 +11,7 @@ use native.Mathlib.Nat.{le-refl}
 use native.Mathlib.Omega.{arith}
 use Rattle.prelude.specs.Answer.{Answer, ok, error, bind}
 use Rattle.error.specs.Error.{Fault}
+use Rattle.leb128.specs.declared.Mode.{Mode}
 use Rattle.scan.specs.declared.Head.{Head}
 use Rattle.reader_region.specs.Region.{peekIn}
 use Rattle.reader_region.proofs.Laws.{pointer-lt}
@@ -27,38 +28,38 @@ more (error e) = error e
 abbrev place : Followed → Answer Fault (ℕ × ℕ)
 place m = ok (m .place, m .hops)
 
-module _ (s : List ℕ) where
-  followFrom-more : (f q hops : ℕ) → q < f → followFrom s (position q (hops + 1)) ≡ more (followFrom s (position q hops))
+module _ (mode : Mode) (s : List ℕ) where
+  followFrom-more : (f q hops : ℕ) → q < f → followFrom mode s (position q (hops + 1)) ≡ more (followFrom mode s (position q hops))
   followFrom-more zero q hops l = absurd (omega arith)
-  followFrom-more (suc f) q hops l = by-cases (peekIn false s q) refl (λ p h. followFrom-more f p (hops + 1) (omega arith))
+  followFrom-more (suc f) q hops l = by-cases (peekIn mode false s q) refl (λ p h. followFrom-more f p (hops + 1) (omega arith))
     where
-      by-cases : (a : Answer Fault Head) → a ≡ peekIn false s q
-          → ((p : ℕ) → p < q → followFrom s (position p (hops + 1 + 1)) ≡ more (followFrom s (position p (hops + 1))))
-          → followFrom s (position q (hops + 1)) ≡ more (followFrom s (position q hops))
+      by-cases : (a : Answer Fault Head) → a ≡ peekIn mode false s q
+          → ((p : ℕ) → p < q → followFrom mode s (position p (hops + 1 + 1)) ≡ more (followFrom mode s (position p (hops + 1))))
+          → followFrom mode s (position q (hops + 1)) ≡ more (followFrom mode s (position q hops))
       by-cases (ok h) e ih =
           elim (ℕ-discrete (h .kind) 15) [
             | yes k ↦
-                let lt = pointer-lt false s q h e k in
-                rw (← followFrom-pointer s q (hops + 1) h e k, ← followFrom-pointer s q hops h e k) (ih (q - h .n - 1) (omega arith))
-            | no k ↦ rw (← followFrom-end s q (hops + 1) h e k, ← followFrom-end s q hops h e k)
+                let lt = pointer-lt mode false s q h e k in
+                rw (← followFrom-pointer mode s q (hops + 1) h e k, ← followFrom-pointer mode s q hops h e k) (ih (q - h .n - 1) (omega arith))
+            | no k ↦ rw (← followFrom-end mode s q (hops + 1) h e k, ← followFrom-end mode s q hops h e k)
           ]
-      by-cases (error f) e ih = rw (← followFrom-error s q (hops + 1) f e, ← followFrom-error s q hops f e)
+      by-cases (error f) e ih = rw (← followFrom-error mode s q (hops + 1) f e, ← followFrom-error mode s q hops f e)
 
-  module _ (q : ℕ) (h : Head) (e : ok h ≡ peekIn false s q) (k : h .kind ≡ 15) where
-    followFrom-target : followFrom s (position q 0) ≡ more (followFrom s (position (q - h .n - 1) 0))
-    followFrom-target = sym (followFrom-pointer s q 0 h e k) ∙ followFrom-more (suc (q - h .n - 1)) (q - h .n - 1) 0 (le-refl _)
+  module _ (q : ℕ) (h : Head) (e : ok h ≡ peekIn mode false s q) (k : h .kind ≡ 15) where
+    followFrom-target : followFrom mode s (position q 0) ≡ more (followFrom mode s (position (q - h .n - 1) 0))
+    followFrom-target = sym (followFrom-pointer mode s q 0 h e k) ∙ followFrom-more (suc (q - h .n - 1)) (q - h .n - 1) 0 (le-refl _)
 
-    pub follow-pointer : followIn s q ≡ further (followIn s (q - h .n - 1))
+    pub follow-pointer : followIn mode s q ≡ further (followIn mode s (q - h .n - 1))
     unfolding followIn bind
-    follow-pointer = rw followFrom-target (by-cases (followFrom s (position (q - h .n - 1) 0)))
+    follow-pointer = rw followFrom-target (by-cases (followFrom mode s (position (q - h .n - 1) 0)))
       where
         by-cases : (a : Answer Fault Followed) → bind (more a) place ≡ further (bind a place)
         by-cases (ok m) = refl
         by-cases (error e) = refl
 
-    pub body-pointer : bodyPlaceIn s q ≡ bodyPlaceIn s (q - h .n - 1)
+    pub body-pointer : bodyPlaceIn mode s q ≡ bodyPlaceIn mode s (q - h .n - 1)
     unfolding bodyPlaceIn bind
-    body-pointer = rw followFrom-target (by-cases (followFrom s (position (q - h .n - 1) 0)))
+    body-pointer = rw followFrom-target (by-cases (followFrom mode s (position (q - h .n - 1) 0)))
       where
         by-cases : (a : Answer Fault Followed) → bind (more a) (λ m. bodyPlaceOn (m .place) (m .head)) ≡ bind a (λ m. bodyPlaceOn (m .place) (m .head))
         by-cases (ok m) = refl

@@ -18,10 +18,12 @@ use Rattle.prelude.specs.Answer.{ok, error}
 use Rattle.prelude.specs.Each.{Each}
 use Rattle.prelude.proofs.Tests.{split}
 use Rattle.error.specs.Error.{fault, NO_ITEM, WRONG_KIND}
+use Rattle.leb128.specs.declared.Mode.{Mode}
 use Rattle.kind.specs.Kind.{rule, immediate}
 use Rattle.kind.proofs.Laws.{used-lt}
 use Rattle.token.specs.Token.{Token, emit}
 use Rattle.values.specs.Values.{tokens, bytes, starts, WellFormed}
+use Rattle.values.proofs.Modes.{well-formed-of-strict}
 use Rattle.reader_value.specs.Value.{readOf}
 use Rattle.reader_value.specs.declared.Value.the-variants.{Reference, Pointer}
 use Rattle.reader_items.specs.Items.{itemOf}
@@ -88,35 +90,36 @@ module _ (vs : List ModelValue) (j q : ℕ) (p : Part) (h : Holds vs j q p) wher
 
 -- ---- a closed model
 
-module _ (b : Model) (d entry : ℕ) (k : ModelInvariant AllowedPart b) (c : b .stage ≡ closed d) (named : entry + d + 1 ≡ endOf (b .finished)) where
+module _ (mode : Mode) (b : Model) (d entry : ℕ) (k : ModelInvariant AllowedPart b) (c : b .stage ≡ closed d)
+    (named : entry + d + 1 ≡ endOf (b .finished)) where
   abbrev vs : List ModelValue
   vs = b .finished
 
   abbrev file : List ℕ
   file = modelBytes b
 
-  well-formed : WellFormed file (valuesAt 0 vs) entry
+  well-formed : WellFormed mode file (valuesAt 0 vs) entry
   well-formed =
       let (e, start, own) = subst (Staged AllowedPart vs) c (k .stage) in
       let same : e ≡ entry = omega arith in
-      record {
+      well-formed-of-strict mode (record {
         short = k .short;
         values = invariant-values b k;
         delta = d;
         same = ap (λ g. modelBytes (model vs g)) c ∙ bytes-closed vs d;
         named = named;
         start = rw (← same) start;
-      }
+      })
 
-  accepted : (cap : ℕ) → length vs ≤ cap → checkOf file cap ≡ checked (ok (length vs, entry)) (filled cap (starts 0 (valuesAt 0 vs)))
+  accepted : (cap : ℕ) → length vs ≤ cap → checkOf mode file cap ≡ checked (ok (length vs, entry)) (filled cap (starts 0 (valuesAt 0 vs)))
   accepted cap = rw (length-values 0 vs) at (accepts file (valuesAt 0 vs) entry cap well-formed)
 
-  read : (j q : ℕ) (p : Part) → Holds vs j q p → readOf file q ≡ ok (valueOfPart q p)
+  read : (j q : ℕ) (p : Part) → Holds vs j q p → readOf mode file q ≡ ok (valueOfPart q p)
   read j q p h =
       reads-token file (valuesAt 0 vs) entry well-formed j q (formOf q p) (holds-at vs j q p h) ∙ ap ok (read-form vs j q p h (k .finished))
 
   body : (j q : ℕ) (p : Part) → Holds vs j q p → (p .kind ≡ 4) ⊎ (p .kind ≡ 5)
-      → (bodyPlaceOf file q ≡ ok (tokenEnd q (formOf q p) - length (p .body), length (p .body))) × (bodyOf file q ≡ p .body)
+      → (bodyPlaceOf mode file q ≡ ok (tokenEnd q (formOf q p) - length (p .body), length (p .body))) × (bodyOf mode file q ≡ p .body)
   unfolding formOf
   body j q p h own = reads-body file (valuesAt 0 vs) entry well-formed j q (formOf q p) (holds-at vs j q p h) own
 
@@ -125,7 +128,7 @@ module _ (b : Model) (d entry : ℕ) (k : ModelInvariant AllowedPart b) (c : b .
     at = endOf a
 
     item : (is : List Part) (p : Part) (js : List Part) → v .items ≡ is ++ (p ∷ js)
-        → itemOf file at (length is) ≡ ok (at + length (bytes (formsOf at (v .head ∷ is))))
+        → itemOf mode file at (length is) ≡ ok (at + length (bytes (formsOf at (v .head ∷ is))))
     unfolding formsOf bytes
     item is p js i =
         let t = formOf at (v .head) in
@@ -136,19 +139,19 @@ module _ (b : Model) (d entry : ℕ) (k : ModelInvariant AllowedPart b) (c : b .
         rw (← length-forms q is)
         (reads-item file (valuesAt 0 vs) entry well-formed (valuesAt 0 a) (valueAt at v) _ (values-at vs a v z e) (formsOf q is) _ _ _ forms place .0)
 
-    none : immediate (rule (v .head .kind)) ≡ false → (i : ℕ) → length (v .items) ≤ i → itemOf file at i ≡ error (fault NO_ITEM at)
+    none : immediate (rule (v .head .kind)) ≡ false → (i : ℕ) → length (v .items) ≤ i → itemOf mode file at i ≡ error (fault NO_ITEM at)
     unfolding formOf
     none has i past =
         let long = length-forms (at + length (emit (formOf at (v .head)))) (v .items) in
         reads-none file (valuesAt 0 vs) entry well-formed (valuesAt 0 a) (valueAt at v) _ (values-at vs a v z e) i (omega arith) has
 
-    flat : immediate (rule (v .head .kind)) ≡ true → (i : ℕ) → itemOf file at i ≡ error (fault WRONG_KIND at)
+    flat : immediate (rule (v .head .kind)) ≡ true → (i : ℕ) → itemOf mode file at i ≡ error (fault WRONG_KIND at)
     unfolding formOf
     flat one i =
         let here = head-token-at (valuesAt 0 vs) (valuesAt 0 a) (valueAt at v) _ (values-at vs a v z e) in
         reads-no-items file (valuesAt 0 vs) entry well-formed _ at (formOf at (v .head)) here one i
 
-  pub model-gives-back : GivesBack file vs entry
+  pub model-gives-back : GivesBack mode file vs entry
   model-gives-back = record {
     wellFormed = well-formed;
     accepted = accepted;
@@ -162,15 +165,15 @@ module _ (b : Model) (d entry : ℕ) (k : ModelInvariant AllowedPart b) (c : b .
 
 -- ---- an accepted close
 
-pub model-reads-back : (cs : List Call) → Each Given cs → (n m e : ℕ)
+pub model-reads-back : (mode : Mode) (cs : List Call) → Each Given cs → (n m e : ℕ)
     → let b = modelRun cs emptyModel n m .model in modelAnswer (ends e) b n m ≡ ok tt
-    → ReadsBack b e (modelAfter (ends e) b) (modelBytes (modelAfter (ends e) b))
-model-reads-back cs g n m e q =
+    → ReadsBack mode b e (modelAfter (ends e) b) (modelBytes (modelAfter (ends e) b))
+model-reads-back mode cs g n m e q =
     let b = modelRun cs emptyModel n m .model in
     let k = invariant-given cs g n m in
     let allowed = allowed-given (close e) tt (λ four. absurd (omega arith)) in
     record {
-      near = λ h. let c = closes-near AllowedPart b n m k e q h in rw (le-ltb 255 (backTo e b) h) (refl, model-gives-back _ _ _ (c .kept) refl (c .named));
+      near = λ h. let c = closes-near AllowedPart b n m k e q h in rw (le-ltb 255 (backTo e b) h) (refl, model-gives-back mode _ _ _ (c .kept) refl (c .named));
       far = λ h. let c = closes-far AllowedPart b n m k e q allowed h in rw (lt-ltb 255 (backTo e b) h)
-          (refl, model-gives-back _ _ _ (c .kept) refl (c .named));
+          (refl, model-gives-back mode _ _ _ (c .kept) refl (c .named));
     }

@@ -20,6 +20,7 @@ use Rattle.prelude.specs.Answer.{Answer, ok, error, bind}
 use Rattle.prelude.specs.Each.{Each}
 use Rattle.prelude.proofs.Readers.{bind-ok}
 use Rattle.error.specs.Error.{Fault, fault, LIMIT, NO_ITEM, WRONG_KIND}
+use Rattle.leb128.specs.declared.Mode.{Mode}
 use Rattle.kind.specs.Kind.{rule, immediate}
 use Rattle.token.specs.Token.{Token, emit, Fits}
 use Rattle.token.proofs.Laws.{emit-pos}
@@ -81,7 +82,7 @@ target-at done q (x ∷ ts) t us h =
     let sum : q + (length (emit x) + length (bytes ts)) ≡ q + length (emit x) + length (bytes ts) = omega arith in
     rw (length-append (emit x) (bytes ts), sum) (target-at done (q + length (emit x)) ts t us (h .1))
 
-module _ (file : List ℕ) (vs : List Value) (entry : ℕ) (w : WellFormed file vs entry) where
+module _ {mode : Mode} (file : List ℕ) (vs : List Value) (entry : ℕ) (w : WellFormed mode file vs entry) where
   region-is : (q : ℕ) → q < length (region vs) → ok (length (region vs)) ≡ regionLen (length file) q
   unfolding regionLen
   region-is q h =
@@ -95,21 +96,21 @@ module _ (file : List ℕ) (vs : List Value) (entry : ℕ) (w : WellFormed file 
       sym (in-region-ok file q k (length (region vs)) (region-is q h) (ap k (sym same)))
 
   module _ (a : List Value) (v : Value) (b : List Value) (e : vs ≡ a ++ (v ∷ b)) where
-    pub formed : Formed v
-    formed = each-append Formed a (v ∷ b) .0 (subst (Each Formed) e (w .values .formed)) .1 .0
+    pub formed : Formed mode v
+    formed = each-append (Formed mode) a (v ∷ b) .0 (subst (Each (Formed mode)) e (w .values .formed)) .1 .0
 
     targeted : HasTargets (starts 0 a) (length (region a)) (tokens v)
     targeted = rw zero-add at (targets-earlier-append [] 0 a (v ∷ b) .0 (subst (TargetsEarlier [] 0) e (w .values .targets)) .1 .0)
 
-    fits : (ts : List Token) (t : Token) (us : List Token) → tokens v ≡ ts ++ (t ∷ us) → Fits false t (bytes us ++ region b)
+    fits : (ts : List Token) (t : Token) (us : List Token) → tokens v ≡ ts ++ (t ∷ us) → Fits mode false t (bytes us ++ region b)
     fits [] t us q =
         let head : v .head ≡ t = cc in
         let items : v .items ≡ us = cc in
         rw (← head, ← items) (fits-head v formed (region b))
     fits (x ∷ ts) t us q =
         let items : v .items ≡ ts ++ (t ∷ us) = cc in
-        let i = fits-item t (each-append Item ts (t ∷ us) .0 (subst (Each Item) items (formed .items)) .1 .0) (bytes us ++ region b) in
-        record { allowed = i .allowed; flat = refl; room = i .room }
+        let i = fits-item t (each-append (Item mode) ts (t ∷ us) .0 (subst (Each (Item mode)) items (formed .items)) .1 .0) (bytes us ++ region b) in
+        record { allowed = i .allowed; spelled = i .spelled; flat = refl; room = i .room }
 
   -- ---- a token
 
@@ -138,28 +139,28 @@ module _ (file : List ℕ) (vs : List Value) (entry : ℕ) (w : WellFormed file 
         rw (st .place) (target-at (starts 0 (st .before)) (length (region (st .before))) (st .front) t (st .back)
         (subst (HasTargets _ _) (st .tokens) (targeted (st .before) (st .value) (st .after) (st .values))))
 
-    may : Fits false t rest
+    may : Fits mode false t rest
     may = fits (st .before) (st .value) (st .after) (st .values) (st .front) t (st .back) (st .tokens)
 
-    pub peeked : ok (headAt q t) ≡ peekIn false (region vs) q
+    pub peeked : ok (headAt q t) ≡ peekIn mode false (region vs) q
     peeked = rw (same, place) (peek-emit false front t rest may (λ k. omega (arith, has-target k .0, place)))
 
     pub shows : valueOn (region vs) q (headAt q t) ≡ valueOfToken q t
     shows = rw (same, place) (value-on-token front t rest (may .allowed))
 
     -- a query is answered by the token's head
-    opened-as : {A : Type 0} (k : List ℕ → Head → Answer Fault A) → inRegion file q (λ s. bind (peekIn false s q) (k s)) ≡ k (region vs) (headAt q t)
-    opened-as k = in-region-is (λ s. bind (peekIn false s q) (k s)) q within ∙ sym (bind-ok _ peeked refl)
+    opened-as : {A : Type 0} (k : List ℕ → Head → Answer Fault A) → inRegion file q (λ s. bind (peekIn mode false s q) (k s)) ≡ k (region vs) (headAt q t)
+    opened-as k = in-region-is (λ s. bind (peekIn mode false s q) (k s)) q within ∙ sym (bind-ok _ peeked refl)
 
-    pub reads-token : readOf file q ≡ ok (valueOfToken q t)
+    pub reads-token : readOf mode file q ≡ ok (valueOfToken q t)
     unfolding readIn
-    reads-token = in-region-is (λ s. readIn s q) q within ∙ sym (bind-ok _ peeked (ap ok (sym shows)))
+    reads-token = in-region-is (λ s. readIn mode s q) q within ∙ sym (bind-ok _ peeked (ap ok (sym shows)))
 
     -- ---- its body
 
-    body-stop : (t .kind ≡ 15 → ⊥) → bodyPlaceOf file q ≡ bodyPlaceOn q (headAt q t)
+    body-stop : (t .kind ≡ 15 → ⊥) → bodyPlaceOf mode file q ≡ bodyPlaceOn q (headAt q t)
     unfolding bodyPlaceIn
-    body-stop k = in-region-is (λ s. bodyPlaceIn s q) q within ∙ sym (bind-ok _ (followFrom-end (region vs) q 0 (headAt q t) peeked k) refl)
+    body-stop k = in-region-is (λ s. bodyPlaceIn mode s q) q within ∙ sym (bind-ok _ (followFrom-end mode (region vs) q 0 (headAt q t) peeked k) refl)
 
     body-bytes : take (length (t .body)) (drop (tokenEnd q t - length (t .body)) file) ≡ t .body
     body-bytes =
@@ -167,36 +168,37 @@ module _ (file : List ℕ) (vs : List Value) (entry : ℕ) (w : WellFormed file 
         let whole : file ≡ front ++ (emit t ++ d) = w .same ∙ rw same (simp append-assoc) in
         rw (whole, place, drop-body front t d) (take-append-seam (t .body) d)
 
-    body-here : (t .kind ≡ 4) ⊎ (t .kind ≡ 5) → bodyPlaceOf file q ≡ ok (tokenEnd q t - length (t .body), length (t .body))
+    body-here : (t .kind ≡ 4) ⊎ (t .kind ≡ 5) → bodyPlaceOf mode file q ≡ ok (tokenEnd q t - length (t .body), length (t .body))
     body-here k =
         let own : (eqb (t .kind) 4 || eqb (t .kind) 5) ≡ true = elim k [ inl k ↦ rw k | inr k ↦ rw k ] in
         body-stop (λ p. elim k [ inl k ↦ omega arith | inr k ↦ omega arith ]) ∙ rw (own, body-len q t)
 
     pub reads-body : (t .kind ≡ 4) ⊎ (t .kind ≡ 5)
-        → (bodyPlaceOf file q ≡ ok (tokenEnd q t - length (t .body), length (t .body))) × (bodyOf file q ≡ t .body)
+        → (bodyPlaceOf mode file q ≡ ok (tokenEnd q t - length (t .body), length (t .body))) × (bodyOf mode file q ≡ t .body)
     reads-body k = (body-here k, rw (body-here k) body-bytes)
 
-    body-there : t .kind ≡ 15 → bodyPlaceOf file q ≡ bodyPlaceOf file (q - t .n - 1)
+    body-there : t .kind ≡ 15 → bodyPlaceOf mode file q ≡ bodyPlaceOf mode file (q - t .n - 1)
     body-there k =
-        in-region-is (λ s. bodyPlaceIn s q) q within ∙ body-pointer (region vs) q (headAt q t) peeked k
-        ∙ sym (in-region-is (λ s. bodyPlaceIn s (q - t .n - 1)) (q - t .n - 1) (omega (arith, within)))
+        in-region-is (λ s. bodyPlaceIn mode s q) q within ∙ body-pointer mode (region vs) q (headAt q t) peeked k
+        ∙ sym (in-region-is (λ s. bodyPlaceIn mode s (q - t .n - 1)) (q - t .n - 1) (omega (arith, within)))
 
-    pub reads-body-of-pointer : t .kind ≡ 15 → (bodyPlaceOf file q ≡ bodyPlaceOf file (q - t .n - 1)) × (bodyOf file q ≡ bodyOf file (q - t .n - 1))
+    pub reads-body-of-pointer : t .kind ≡ 15
+        → (bodyPlaceOf mode file q ≡ bodyPlaceOf mode file (q - t .n - 1)) × (bodyOf mode file q ≡ bodyOf mode file (q - t .n - 1))
     reads-body-of-pointer k = (body-there k, ap (bodyPart file) (body-there k))
 
-    pub reads-no-body : (t .kind ≡ 4 → ⊥) → (t .kind ≡ 5 → ⊥) → (t .kind ≡ 15 → ⊥) → bodyPlaceOf file q ≡ error (fault WRONG_KIND q)
+    pub reads-no-body : (t .kind ≡ 4 → ⊥) → (t .kind ≡ 5 → ⊥) → (t .kind ≡ 15 → ⊥) → bodyPlaceOf mode file q ≡ error (fault WRONG_KIND q)
     reads-no-body text string pointer = body-stop pointer ∙ rw (ne-eqb _ _ text, ne-eqb _ _ string)
 
     -- ---- an immediate, which is a value or an item
 
     module _ (one : immediate (rule (t .kind)) ≡ true) where
-      pub reads-immediate-end : skipOf file q ≡ ok (tokenEnd q t)
+      pub reads-immediate-end : skipOf mode file q ≡ ok (tokenEnd q t)
       unfolding skipIn skipItems
-      reads-immediate-end = opened-as (λ s h. skipItems s (h .items) (h .end)) ∙ rw (immediate-counts t (may .allowed) one .1)
+      reads-immediate-end = opened-as (λ s h. skipItems mode s (h .items) (h .end)) ∙ rw (immediate-counts t (may .allowed) one .1)
 
-      pub reads-no-items : (i : ℕ) → itemOf file q i ≡ error (fault WRONG_KIND q)
+      pub reads-no-items : (i : ℕ) → itemOf mode file q i ≡ error (fault WRONG_KIND q)
       unfolding itemIn itemOn
-      reads-no-items i = opened-as (λ s. itemOn s q i) ∙ rw one
+      reads-no-items i = opened-as (λ s. itemOn mode s q i) ∙ rw one
 
   -- ---- a value, and its items
 
@@ -204,11 +206,11 @@ module _ (file : List ℕ) (vs : List Value) (entry : ℕ) (w : WellFormed file 
     abbrev at : ℕ
     at = length (region a)
 
-    pub reads-value : readOf file at ≡ ok (valueOfToken at (v .head))
+    pub reads-value : readOf mode file at ≡ ok (valueOfToken at (v .head))
     reads-value = reads-token (length a) at (v .head) (head-token-at vs a v b e)
 
     head-opened : {A : Type 0} (k : List ℕ → Head → Answer Fault A)
-        → inRegion file at (λ s. bind (peekIn false s at) (k s)) ≡ k (region vs) (headAt at (v .head))
+        → inRegion file at (λ s. bind (peekIn mode false s at) (k s)) ≡ k (region vs) (headAt at (v .head))
     head-opened k = opened-as (length a) at (v .head) (head-token-at vs a v b e) k
 
     -- a value with items is of a kind that has them
@@ -221,35 +223,35 @@ module _ (file : List ℕ) (vs : List Value) (entry : ℕ) (w : WellFormed file 
         ]) refl
 
     walks : (is js : List Token) → v .items ≡ is ++ js
-        → skipItems (region vs) (length is) (tokenEnd at (v .head)) ≡ ok (tokenEnd at (v .head) + length (bytes is))
+        → skipItems mode (region vs) (length is) (tokenEnd at (v .head)) ≡ ok (tokenEnd at (v .head) + length (bytes is))
     unfolding bytes
     walks is js i =
         let long = length-append (region a) (emit (v .head)) in
         let all : region vs ≡ (region a ++ emit (v .head)) ++ (bytes (is ++ js) ++ region b) = rw (e, region-at a v b, ← i) (simp append-assoc) in
-        rw (all, ← long) (walk-emit (starts 0 a) (region a ++ emit (v .head)) is js (region b) (subst (Each Item) i (formed a v b e .items))
+        rw (all, ← long) (walk-emit mode (starts 0 a) (region a ++ emit (v .head)) is js (region b) (subst (Each (Item mode)) i (formed a v b e .items))
         (rw long (subst (HasTargets _ _) i (targeted a v b e .1))))
 
-    pub reads-end : skipOf file at ≡ ok (at + length (bytes (tokens v)))
+    pub reads-end : skipOf mode file at ≡ ok (at + length (bytes (tokens v)))
     unfolding skipIn bytes
     reads-end =
         let all = length-append (emit (v .head)) (bytes (v .items)) in
         let sum : at + length (bytes (tokens v)) ≡ tokenEnd at (v .head) + length (bytes (v .items)) = omega arith in
-        head-opened (λ s h. skipItems s (h .items) (h .end)) ∙ rw (sum, ← formed a v b e .count) (walks (v .items) [] (sym (append-nil (v .items))))
+        head-opened (λ s h. skipItems mode s (h .items) (h .end)) ∙ rw (sum, ← formed a v b e .count) (walks (v .items) [] (sym (append-nil (v .items))))
 
     item-at : (is : List Token) (t : Token) (js : List Token) (q : ℕ) → v .items ≡ is ++ (t ∷ js) → q ≡ tokenEnd at (v .head) + length (bytes is)
-        → q < length (region vs) → itemOf file at (length is) ≡ ok q
+        → q < length (region vs) → itemOf mode file at (length is) ≡ ok q
     unfolding itemIn itemOn startsIn bind
     item-at is t js q i p here =
         let less : length is < length (v .items) = omega (arith, ap length i, length-append is (t ∷ js)) in
-        head-opened (λ s. itemOn s at (length is))
+        head-opened (λ s. itemOn mode s at (length is))
         ∙ rw (holds (omega arith), ← formed a v b e .count, lt-leb _ _ less, walks is (t ∷ js) i, ← p, lt-ltb _ _ here)
 
     pub reads-item : (is : List Token) (t : Token) (js : List Token) (q : ℕ) → v .items ≡ is ++ (t ∷ js) → q ≡ tokenEnd at (v .head) + length (bytes is)
-        → (itemOf file at (length is) ≡ ok q) × (readOf file q ≡ ok (valueOfToken q t))
+        → (itemOf mode file at (length is) ≡ ok q) × (readOf mode file q ≡ ok (valueOfToken q t))
     reads-item is t js q i p =
         let st = rw (← p) at (item-token-at vs a v b e is t js i) in
         (item-at is t js q i p (within (length a) q t st), reads-token (length a) q t st)
 
-    pub reads-none : (i : ℕ) → length (v .items) ≤ i → immediate (rule (v .head .kind)) ≡ false → itemOf file at i ≡ error (fault NO_ITEM at)
+    pub reads-none : (i : ℕ) → length (v .items) ≤ i → immediate (rule (v .head .kind)) ≡ false → itemOf mode file at i ≡ error (fault NO_ITEM at)
     unfolding itemIn itemOn
-    reads-none i past k = head-opened (λ s. itemOn s at i) ∙ rw (k, ← formed a v b e .count, le-leb _ _ past)
+    reads-none i past k = head-opened (λ s. itemOn mode s at i) ∙ rw (k, ← formed a v b e .count, le-leb _ _ past)

@@ -16,6 +16,7 @@ use lib.Seq.{split-at, length-take-le}
 use Rattle.prelude.specs.Answer.{Answer, ok, error}
 use Rattle.prelude.proofs.Tests.{split}
 use Rattle.error.specs.Error.{Fault, fault, NO_ITEM, WRONG_KIND}
+use Rattle.leb128.specs.declared.Mode.{Mode}
 use Rattle.kind.specs.Kind.{rule}
 use Rattle.token.specs.Token.{Token}
 use Rattle.scan.proofs.Places.{headAt, scan-within}
@@ -48,28 +49,28 @@ start-at vs i v =
     sym (start-of (v .before) (v .value) (v .after)) ∙ ap (λ l. getD (starts 0 l) (length (v .before)) 0) (sym (v .same))
     ∙ ap (λ n. getD (starts 0 vs) n 0) (v .number)
 
-module _ (file : List ℕ) (vs : List Value) (entry : ℕ) (w : WellFormed file vs entry) where
+module _ {mode : Mode} (file : List ℕ) (vs : List Value) (entry : ℕ) (w : WellFormed mode file vs entry) where
   -- ---- a token
 
   module _ (j q : ℕ) (t : Token) (st : TokenAt vs j q t) where
     token-kind : kindOf (valueOfToken q t) ≡ t .kind
     token-kind =
-        let at-head = scan-within false (region vs) q (headAt q t) (peek-scan false (region vs) q (headAt q t) (peeked file vs entry w j q t st)) in
+        let at-head = scan-within mode false (region vs) q (headAt q t) (peek-scan mode false (region vs) q (headAt q t) (peeked file vs entry w j q t st)) in
         ap kindOf (sym (shows file vs entry w j q t st)) ∙ kind-value (region vs) q (headAt q t) at-head
 
-    token-reads : readOf file q ≡ ok (valueOfToken q t)
+    token-reads : readOf mode file q ≡ ok (valueOfToken q t)
     token-reads = reads-token file vs entry w j q t st
 
-    pub reads-lookup-kind : (key : List ℕ) → (t .kind ≡ 7 → ⊥) → lookupOf file q key ≡ error (fault WRONG_KIND q)
+    pub reads-lookup-kind : (key : List ℕ) → (t .kind ≡ 7 → ⊥) → lookupOf mode file q key ≡ error (fault WRONG_KIND q)
     reads-lookup-kind key other =
-        kind-lookup file q key (record {
+        kind-lookup mode file q key (record {
           value = valueOfToken q t;
           read = token-reads;
           other = λ pairs items first same. other (sym token-kind ∙ ap kindOf same);
         })
 
     -- following ends without fault
-    token-follows : (place : ℕ) × (hops : ℕ) × (followOf file q ≡ ok (place, hops))
+    token-follows : (place : ℕ) × (hops : ℕ) × (followOf mode file q ≡ ok (place, hops))
     token-follows =
         elim (ℕ-discrete (t .kind) 15) [
           | yes k ↦ let c = hops-pointer file vs entry w j q t st k in (getD (starts 0 vs) (c .number) 0, c .hops, c .follows)
@@ -78,7 +79,7 @@ module _ (file : List ℕ) (vs : List Value) (entry : ℕ) (w : WellFormed file 
 
     -- a pointer and its target are the same key
     module _ (key : List ℕ) (k : t .kind ≡ 15) where
-      pointer-keyed : Keyed file (q - t .n - 1) key → Keyed file q key
+      pointer-keyed : Keyed mode file (q - t .n - 1) key → Keyed mode file q key
       pointer-keyed c = record {
         place = c .place;
         hops = c .hops + 1;
@@ -89,9 +90,9 @@ module _ (file : List ℕ) (vs : List Value) (entry : ℕ) (w : WellFormed file 
         body = reads-body-of-pointer file vs entry w j q t st k .1 ∙ c .body;
       }
 
-      target-keyed : Keyed file q key → Keyed file (q - t .n - 1) key
+      target-keyed : Keyed mode file q key → Keyed mode file (q - t .n - 1) key
       target-keyed c =
-          further-by (followOf file (q - t .n - 1)) (c .place) (c .hops) (sym (follows-pointer file vs entry w j q t st k) ∙ c .follows) (λ more e.
+          further-by (followOf mode file (q - t .n - 1)) (c .place) (c .hops) (sym (follows-pointer file vs entry w j q t st k) ∙ c .follows) (λ more e.
           record {
             place = c .place;
             hops = more;
@@ -102,7 +103,7 @@ module _ (file : List ℕ) (vs : List Value) (entry : ℕ) (w : WellFormed file 
             body = sym (reads-body-of-pointer file vs entry w j q t st k .1) ∙ c .body;
           })
 
-    text-keyed : (key : List ℕ) → t .kind ≡ 4 → t .body ≡ key → Keyed file q key
+    text-keyed : (key : List ℕ) → t .kind ≡ 4 → t .body ≡ key → Keyed mode file q key
     unfolding valueOfToken
     text-keyed key k same = record {
       place = q;
@@ -115,24 +116,24 @@ module _ (file : List ℕ) (vs : List Value) (entry : ℕ) (w : WellFormed file 
     }
 
     -- what is a key and not a pointer is a text
-    keyed-text : (key : List ℕ) → (t .kind ≡ 15 → ⊥) → Keyed file q key → (t .kind ≡ 4) × (t .body ≡ key)
+    keyed-text : (key : List ℕ) → (t .kind ≡ 15 → ⊥) → Keyed mode file q key → (t .kind ≡ 4) × (t .body ≡ key)
     keyed-text key k c =
         let stops = sym (c .follows) ∙ hops-none file vs entry w j q t st k in
         let pair : _≡_ {A = ℕ × ℕ} (c .place, c .hops) (q, 0) = cc in
-        let read = sym (c .text) ∙ ap (λ (y : ℕ × ℕ). readOf file (y .0)) pair ∙ token-reads in
+        let read = sym (c .text) ∙ ap (λ (y : ℕ × ℕ). readOf mode file (y .0)) pair ∙ token-reads in
         let value : Text (c .first) (c .len) ≡ valueOfToken q t = cc in
         let kind : t .kind ≡ 4 = sym (ap kindOf value ∙ token-kind) in
         (kind, sym (reads-body file vs entry w j q t st (inl kind) .1) ∙ c .body)
 
   module _ (key : List ℕ) where
-    isKey-keyed : (j q : ℕ) (t : Token) → TokenAt vs j q t → IsKey vs key q t → Keyed file q key
+    isKey-keyed : (j q : ℕ) (t : Token) → TokenAt vs j q t → IsKey vs key q t → Keyed mode file q key
     isKey-keyed j q t st (text k same) = text-keyed j q t st key k same
     isKey-keyed j q t st (pointer k a v b e p i) =
-        pointer-keyed j q t st key k (subst (λ x. Keyed file x key) p (isKey-keyed (length a) (length (region a)) (v .head) (head-token-at vs a v b e) i))
+        pointer-keyed j q t st key k (subst (λ x. Keyed mode file x key) p (isKey-keyed (length a) (length (region a)) (v .head) (head-token-at vs a v b e) i))
 
     -- the value that a pointer names, if its head is the key
     named : (j q : ℕ) (t : Token) (st : TokenAt vs j q t) → t .kind ≡ 15
-        → ((i p : ℕ) (u : Token) → i < j → TokenAt vs i p u → Keyed file p key → IsKey vs key p u) → Keyed file q key → IsKey vs key q t
+        → ((i p : ℕ) (u : Token) → i < j → TokenAt vs i p u → Keyed mode file p key → IsKey vs key p u) → Keyed mode file q key → IsKey vs key q t
     named j q t st k more c =
         let (i, less, e) = target file vs entry w j q t st k in
         let long = ap length (st .values) ∙ length-append (st .before) (st .value ∷ st .after) in
@@ -141,9 +142,9 @@ module _ (file : List ℕ) (vs : List Value) (entry : ℕ) (w : WellFormed file 
         let place : length (region a) ≡ q - t .n - 1 = start-at vs i v ∙ e in
         pointer k a (v .value) (v .after) (v .same) place
         (more (length a) (length (region a)) (v .value .head) (omega (arith, v .number)) (head-token-at vs a (v .value) (v .after) (v .same))
-        (subst (λ x. Keyed file x key) (sym place) (target-keyed j q t st key k c)))
+        (subst (λ x. Keyed mode file x key) (sym place) (target-keyed j q t st key k c)))
 
-    keyed-from : (f j q : ℕ) (t : Token) → j < f → TokenAt vs j q t → Keyed file q key → IsKey vs key q t
+    keyed-from : (f j q : ℕ) (t : Token) → j < f → TokenAt vs j q t → Keyed mode file q key → IsKey vs key q t
     keyed-from zero j q t l st c = absurd (omega arith)
     keyed-from (suc f) j q t l st c =
         elim (ℕ-discrete (t .kind) 15) [
@@ -151,7 +152,7 @@ module _ (file : List ℕ) (vs : List Value) (entry : ℕ) (w : WellFormed file 
           | no k ↦ let r = keyed-text j q t st key k c in text (r .0) (r .1)
         ]
 
-    keyed-isKey : (j q : ℕ) (t : Token) → TokenAt vs j q t → Keyed file q key → IsKey vs key q t
+    keyed-isKey : (j q : ℕ) (t : Token) → TokenAt vs j q t → Keyed mode file q key → IsKey vs key q t
     keyed-isKey j q t st c = keyed-from (suc j) j q t (le-refl _) st c
 
   -- ---- the items of a map
@@ -163,7 +164,7 @@ module _ (file : List ℕ) (vs : List Value) (entry : ℕ) (w : WellFormed file 
     item-token : (i q : ℕ) (t : Token) → ItemAt at v i q t → TokenAt vs (length a) q t
     item-token i q t it = subst (λ x. TokenAt vs (length a) x t) (sym (it .place)) (item-token-at vs a v b e (it .front) t (it .back) (it .items))
 
-    item-is : (i q : ℕ) (t : Token) → ItemAt at v i q t → itemOf file at i ≡ ok q
+    item-is : (i q : ℕ) (t : Token) → ItemAt at v i q t → itemOf mode file at i ≡ ok q
     item-is i q t it = rw (← it .numbered) (reads-item file vs entry w a v b e (it .front) t (it .back) q (it .items) (it .place) .0)
 
     -- item number i
@@ -183,7 +184,7 @@ module _ (file : List ℕ) (vs : List Value) (entry : ℕ) (w : WellFormed file 
         )
 
     module _ (kind : v .head .kind ≡ 7) (key : List ℕ) where
-      map-reads : readOf file at ≡ ok (Map (v .head .n) (2 * v .head .n) (tokenEnd at (v .head)))
+      map-reads : readOf mode file at ≡ ok (Map (v .head .n) (2 * v .head .n) (tokenEnd at (v .head)))
       unfolding valueOfToken
       map-reads = reads-value file vs entry w a v b e ∙ ap (λ x. ok (getD (tokenRows at (v .head)) x Null)) kind
 
@@ -194,7 +195,7 @@ module _ (file : List ℕ) (vs : List Value) (entry : ℕ) (w : WellFormed file 
           let none : v .head .args ≡ 0 = f .head .allowed .alone (rw kind) in
           f .count ∙ rw (kind, none) (omega arith)
 
-      another : (j : ℕ) → j < v .head .n → ((p : ℕ) (t : Token) → ItemAt at v (2 * j) p t → IsKey vs key p t → ⊥) → OtherKey file at j key
+      another : (j : ℕ) → j < v .head .n → ((p : ℕ) (t : Token) → ItemAt at v (2 * j) p t → IsKey vs key p t → ⊥) → OtherKey mode file at j key
       another j less other =
           let (q, t, it) = item-number (2 * j) (omega (arith, map-count)) in
           let st = item-token (2 * j) q t it in
@@ -211,10 +212,10 @@ module _ (file : List ℕ) (vs : List Value) (entry : ℕ) (w : WellFormed file 
       item-less : (i q : ℕ) (t : Token) → ItemAt at v i q t → i < length (v .items)
       item-less i q t it = omega (arith, it .numbered, ap length (it .items), length-append (it .front) (t ∷ it .back))
 
-      pub reads-lookup : (x : ℕ) → FirstPair vs at v key x → lookupOf file at key ≡ ok x
+      pub reads-lookup : (x : ℕ) → FirstPair vs at v key x → lookupOf mode file at key ≡ ok x
       reads-lookup x f =
           let less = item-less (2 * f .i) (f .q) (f .own) (f .here) in
-          found-lookup file at key x (record {
+          found-lookup mode file at key x (record {
             pairs = v .head .n;
             items = 2 * v .head .n;
             first = tokenEnd at (v .head);
@@ -227,9 +228,9 @@ module _ (file : List ℕ) (vs : List Value) (entry : ℕ) (w : WellFormed file 
             others = λ j l. another j (omega (arith, map-count)) (λ p t it i. f .others j p t l it i);
           })
 
-      pub reads-no-lookup : NoPair vs at v key → lookupOf file at key ≡ error (fault NO_ITEM at)
+      pub reads-no-lookup : NoPair vs at v key → lookupOf mode file at key ≡ error (fault NO_ITEM at)
       reads-no-lookup none =
-          none-lookup file at key (record {
+          none-lookup mode file at key (record {
             pairs = v .head .n;
             items = 2 * v .head .n;
             first = tokenEnd at (v .head);
@@ -256,7 +257,7 @@ module _ (file : List ℕ) (vs : List Value) (entry : ℕ) (w : WellFormed file 
                 let (p, u, here, i) = h in
                 let one = sym (item-is (2 * j) p u here) ∙ item-is (2 * j) q t it in
                 let same : p ≡ q = cc in
-                other (subst (λ x. Keyed file x key) same (isKey-keyed key (length a) p u (item-token (2 * j) p u here) i)))
+                other (subst (λ x. Keyed mode file x key) same (isKey-keyed key (length a) p u (item-token (2 * j) p u here) i)))
           ]
 
       -- the first of n pairs that has it, or none

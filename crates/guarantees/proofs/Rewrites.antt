@@ -21,10 +21,11 @@ use Rattle.prelude.specs.Each.{Each}
 use Rattle.prelude.proofs.Tests.{split, unless}
 use Rattle.prelude.proofs.Parts.{bytes-after, bytes-front}
 use Rattle.error.specs.Error.{LIMIT}
+use Rattle.leb128.specs.declared.Mode.the-variants.{Strict}
 use Rattle.utf8.specs.Text.{isText}
 use Rattle.utf8.proofs.Laws.{text-isText}
 use Rattle.kind.specs.Kind.{rule, pending, immediate}
-use Rattle.token.specs.Token.{Token, emit, putIf}
+use Rattle.token.specs.Token.{Token, emit}
 use Rattle.values.specs.Values.{Value, tokens, bytes, region, starts, Sound, Item, Formed, HasTarget, HasTargets, TargetsEarlier, WellFormed}
 use Rattle.values.proofs.Members.{each-append, each-imp}
 use Rattle.values.proofs.Laws.{bytes-append, region-append, starts-append, items-room}
@@ -79,20 +80,20 @@ pending-part q t =
 
 bytes-body : (t : Token) → Bytes (emit t) → Bytes (t .body)
 unfolding emit
-bytes-body t b = bytes-after (putIf (rule (t .kind) .args) (t .args)) (t .body) (bytes-after (putIf (leb 15 (t .n)) (t .n - 15)) _ (b .1))
+bytes-body t b = bytes-after (t .argsBytes) (t .body) (bytes-after (t .nBytes) _ (b .1))
 
 first-ok : {a b c d e f : Bool} → a ≡ false → b ≡ false → c ≡ false → d ≡ false → e ≡ false → f ≡ false → firstOf a b c d e f ≡ ok tt
 first-ok a b c d e f = rw (a, b, c, d, e, f)
 
 -- t's part at q, after the bytes of b
-answered : (n m : ℕ) (b : Model) (q : ℕ) (t : Token) → length (modelBytes b) ≡ q → Sound t → HasTarget (modelStarts b) q t → isClosed (b .stage) ≡ false
+answered : (n m : ℕ) (b : Model) (q : ℕ) (t : Token) → length (modelBytes b) ≡ q → Sound Strict t → HasTarget (modelStarts b) q t → isClosed (b .stage) ≡ false
     → (not (immediate (rule (t .kind))) && ltb 0 (pendingAt (b .stage))) ≡ false → (eqb (pendingAt (b .stage)) 0 && leb m (length (b .finished))) ≡ false
     → q + (length (emit t) + pendingIn (grown (b .stage) (partOf q t))) < min n LIMIT → modelAnswer (adds (partOf q t)) b n m ≡ ok tt
 unfolding partOf
 answered n m b q t at s r unclosed late full room =
     let p = partOf q t in
     let own = formOf (length (modelBytes b)) p in
-    let form : own ≡ t = rw at (form-part q t (λ k. r k .0)) in
+    let form : own ≡ t = rw at (form-part q t (s .spelled) (λ k. r k .0)) in
     answer-part p b n m
     ∙ first-ok unclosed late (unless (eqb (t .kind) 4) (isText (t .body)) (λ e. text-isText (s .text (eqb-true _ _ e))))
     (unless (leb 14 (t .kind)) (among (p .number) (modelStarts b)) (λ e. rw e (r (leb-true _ _ e) .1)))
@@ -128,9 +129,9 @@ bytes-open done v = ap length (append-nil (region (valuesAt 0 (done ++ (v ∷ []
 
 -- ---- one value more
 
-module _ (done : List ModelValue) (q : ℕ) (listed : List ℕ) (v : Value) (at : endOf done ≡ q) (a : HasTargets listed q (tokens v)) where
+module _ (done : List ModelValue) (q : ℕ) (listed : List ℕ) (v : Value) (at : endOf done ≡ q) (f : Formed Strict v) (a : HasTargets listed q (tokens v)) where
   values-one : valuesAt 0 (done ++ (modelValueOf q v ∷ [])) ≡ valuesAt 0 done ++ (v ∷ [])
-  values-one = values-snoc done (modelValueOf q v) ∙ rw at (ap (λ x. valuesAt 0 done ++ (x ∷ [])) (value-model listed q v a))
+  values-one = values-snoc done (modelValueOf q v) ∙ rw at (ap (λ x. valuesAt 0 done ++ (x ∷ [])) (value-model listed q v f a))
 
   end-one : endOf (done ++ (modelValueOf q v ∷ [])) ≡ q + length (bytes (tokens v))
   unfolding region
@@ -144,7 +145,8 @@ module _ (done : List ModelValue) (q : ℕ) (listed : List ℕ) (v : Value) (at 
 
 module _ (n m : ℕ) where
   -- the value v, as far as it got, takes the items ts, its last
-  takes-items : (done : List ModelValue) (v : ModelValue) (q : ℕ) (ts : List Token) → endOf (done ++ (v ∷ [])) ≡ q → pendingIn v ≡ length ts → Each Item ts
+  takes-items : (done : List ModelValue) (v : ModelValue) (q : ℕ) (ts : List Token) → endOf (done ++ (v ∷ [])) ≡ q → pendingIn v ≡ length ts
+      → Each (Item Strict) ts
       → HasTargets (starts 0 (valuesAt 0 done)) q ts → Bytes (bytes ts) → q + length (bytes ts) < min n LIMIT
       → Leads n m (callsAt q ts) (settle done v) (model (done ++ (modelValue (v .head) (v .items ++ partsOf q ts) ∷ [])) between)
   unfolding callsAt partsOf bytes modelStarts
@@ -153,7 +155,8 @@ module _ (n m : ℕ) where
       let p = partOf q t in
       let w = modelValue (v .head) (v .items ++ (p ∷ [])) in
       let long = length-append (emit t) (bytes ts) in
-      let next : endOf (done ++ (w ∷ [])) ≡ q + length (emit t) = end-grown done (v .head) (v .items) p q at ∙ rw (form-part q t (λ k. a .0 k .0)) in
+      let next : endOf (done ++ (w ∷ [])) ≡ q + length (emit t) =
+      end-grown done (v .head) (v .items) p q at ∙ rw (form-part q t (i .0 .sound .spelled) (λ k. a .0 k .0)) in
       let less : pendingIn w ≡ length ts = omega (arith, length-append (v .items) (p ∷ [])) in
       let due : eqb (pendingIn v) 0 ≡ false = ne-eqb (pendingIn v) 0 (λ z. omega arith) in
       let more = takes-items done w (q + length (emit t)) ts next less (i .1) (a .1) (bytes-after (emit t) (bytes ts) b) (omega arith) in
@@ -163,7 +166,7 @@ module _ (n m : ℕ) where
       (omega (arith, items-room ts)))
       (rw (append-snoc (v .items) p (partsOf (q + length (emit t)) ts)) at more))
 
-  takes-value : (done : List ModelValue) (q : ℕ) (v : Value) → endOf done ≡ q → Formed v → HasTargets (starts 0 (valuesAt 0 done)) q (tokens v)
+  takes-value : (done : List ModelValue) (q : ℕ) (v : Value) → endOf done ≡ q → Formed Strict v → HasTargets (starts 0 (valuesAt 0 done)) q (tokens v)
       → Bytes (bytes (tokens v)) → q + length (bytes (tokens v)) < min n LIMIT → length done < m
       → Leads n m (callsAt q (tokens v)) (model done between) (model (done ++ (modelValueOf q v ∷ [])) between)
   unfolding callsAt bytes modelStarts
@@ -171,7 +174,8 @@ module _ (n m : ℕ) where
       let t = v .head in
       let p = partOf q t in
       let long = length-append (emit t) (bytes (v .items)) in
-      let next : endOf (done ++ (modelValue p [] ∷ [])) ≡ q + length (emit t) = end-begun done p ∙ rw (at, form-part q t (λ k. a .0 k .0)) in
+      let next : endOf (done ++ (modelValue p [] ∷ [])) ≡ q + length (emit t) =
+      end-begun done p ∙ rw (at, form-part q t (f .head .spelled) (λ k. a .0 k .0)) in
       let count : pendingIn (modelValue p []) ≡ length (v .items) = pending-part q t ∙ sym (f .count) in
       leads-cons n m (callOf q t) (callsAt (q + length (emit t)) (v .items)) (adds p) (model done between) _
       (request-call q t (f .head .allowed) (bytes-body t (bytes-front (emit t) (bytes (v .items)) b)))
@@ -181,7 +185,7 @@ module _ (n m : ℕ) where
       (omega arith))
 
   takes-values : (done : List ModelValue) (q : ℕ) (listed : List ℕ) (vs : List Value) → endOf done ≡ q → starts 0 (valuesAt 0 done) ≡ listed
-      → Each Formed vs → TargetsEarlier listed q vs → Bytes (region vs) → q + length (region vs) < min n LIMIT → length done + length vs ≤ m
+      → Each (Formed Strict) vs → TargetsEarlier listed q vs → Bytes (region vs) → q + length (region vs) < min n LIMIT → length done + length vs ≤ m
       → Leads n m (callsOf q vs) (model done between) (model (done ++ modelValuesOf q vs) between)
   unfolding callsOf modelValuesOf region
   takes-values done q listed [] at start f a b room words = rw (append-nil done) (leads-none n m _)
@@ -190,8 +194,8 @@ module _ (n m : ℕ) where
       let own = bytes (tokens v) in
       let long = length-append own (region vs) in
       let first = takes-value done q v at (f .0) (rw start (a .0)) (bytes-front own (region vs) b) (omega arith) (omega arith) in
-      let more = takes-values (done ++ (w ∷ [])) (q + length own) (listed ++ (q ∷ [])) vs (end-one done q listed v at (a .0))
-      (starts-one done q listed v at (a .0) start) (f .1) (a .1) (bytes-after own (region vs) b) (omega arith)
+      let more = takes-values (done ++ (w ∷ [])) (q + length own) (listed ++ (q ∷ [])) vs (end-one done q listed v at (f .0) (a .0))
+      (starts-one done q listed v at (f .0) (a .0) start) (f .1) (a .1) (bytes-after own (region vs) b) (omega arith)
       (omega (arith, length-append done (w ∷ []))) in
       leads-append n m (callsAt q (tokens v)) (callsOf (q + length own) vs) _ _ _ first (rw append-snoc at more)
 
@@ -212,7 +216,7 @@ module _ (n m : ℕ) where
 
 -- ---- that a program can make the calls
 
-given-tokens : (q : ℕ) (ts : List Token) → Each Sound ts → Bytes (bytes ts) → Each Given (callsAt q ts)
+given-tokens : (q : ℕ) (ts : List Token) → Each (Sound Strict) ts → Bytes (bytes ts) → Each Given (callsAt q ts)
 unfolding callsAt bytes
 given-tokens q [] s b = tt
 given-tokens q (t ∷ ts) s b = (
@@ -220,18 +224,18 @@ given-tokens q (t ∷ ts) s b = (
   given-tokens (q + length (emit t)) ts (s .1) (bytes-after (emit t) (bytes ts) b),
 )
 
-given-values : (q : ℕ) (vs : List Value) → Each Formed vs → Bytes (region vs) → Each Given (callsOf q vs)
+given-values : (q : ℕ) (vs : List Value) → Each (Formed Strict) vs → Bytes (region vs) → Each Given (callsOf q vs)
 unfolding callsOf region
 given-values q [] f b = tt
 given-values q (v ∷ vs) f b =
     let own = bytes (tokens v) in
-    let sound : Each Sound (tokens v) = (f .0 .head, each-imp Item Sound (λ t i. i .sound) (v .items) (f .0 .items)) in
+    let sound : Each (Sound Strict) (tokens v) = (f .0 .head, each-imp (Item Strict) (Sound Strict) (λ t i. i .sound) (v .items) (f .0 .items)) in
     each-append Given (callsAt q (tokens v)) (callsOf (q + length own) vs) .1
     (given-tokens q (tokens v) sound (bytes-front own (region vs) b), given-values (q + length own) vs (f .1) (bytes-after own (region vs) b))
 
 -- ---- the file
 
-module _ (file : List ℕ) (vs : List Value) (entry : ℕ) (w : WellFormed file vs entry) (b : Bytes file) where
+module _ (file : List ℕ) (vs : List Value) (entry : ℕ) (w : WellFormed Strict file vs entry) (b : Bytes file) where
   bytes-region : Bytes (region vs)
   bytes-region = bytes-front (region vs) (w .delta ∷ []) (subst Bytes (w .same) b)
 
@@ -250,13 +254,14 @@ module _ (file : List ℕ) (vs : List Value) (entry : ℕ) (w : WellFormed file 
         let room : 0 + length (region vs) < min n LIMIT = omega (arith, w .short) in
         let values = takes-values n m [] 0 [] vs refl refl (w .values .formed) (w .values .targets) bytes-region room (omega arith) in
         leads-append n m (callsOf 0 vs) (close entry ∷ []) _ _ _ values
-        (takes-close n m (modelValuesOf 0 vs) vs entry (w .delta) (values-models [] 0 vs (w .values .targets)) (w .named) delta-lt (w .start) (omega arith))
+        (takes-close n m (modelValuesOf 0 vs) vs entry (w .delta) (values-models [] 0 vs (w .values .formed) (w .values .targets)) (w .named) delta-lt
+        (w .start) (omega arith))
 
     pub model-rewrites : let k = modelRun (rewriting vs entry) emptyModel n m in
         AllOk (k .answers) × (modelBytes (k .model) ≡ file) × (modelStarts (k .model) ≡ starts 0 vs)
     unfolding modelStarts
     model-rewrites =
-        let same = values-models [] 0 vs (w .values .targets) in (
+        let same = values-models [] 0 vs (w .values .formed) (w .values .targets) in (
           leads-file .oks,
           ap modelBytes (leads-file .model) ∙ bytes-closed (modelValuesOf 0 vs) (w .delta) ∙ rw same (sym (w .same)),
           ap modelStarts (leads-file .model) ∙ ap (starts 0) same,

@@ -17,14 +17,18 @@ use borrow.Author.Tests.{le-leb, lt-leb, eqb-true, eqb-false}
 use Rattle.prelude.specs.Pick.{pick}
 use Rattle.prelude.specs.Answer.{ok, bind}
 use Rattle.prelude.specs.Bytes.{Bytes}
+use Rattle.prelude.specs.Each.{Each}
 use Rattle.prelude.proofs.Tests.{pick-elim, split, facts}
 use Rattle.prelude.proofs.Tables.{set-row}
+use Rattle.leb128.specs.declared.Mode.{Mode}
+use Rattle.leb128.specs.declared.Mode.the-variants.{Strict}
 use Rattle.little_endian.specs.LittleEndian.{little, fromLittle}
 use Rattle.little_endian.proofs.Laws.{little-from, value-lt}
 use Rattle.kind.specs.Kind.{rule, size}
 use Rattle.kind.proofs.Laws.{most-fits, used-lt}
-use Rattle.token.specs.Token.{Token, emit, Allowed}
-use Rattle.values.specs.Values.{Value, tokens, bytes, HasTargets, TargetsEarlier, WellFormed}
+use Rattle.token.specs.Token.{Token, emit, Allowed, Spelled}
+use Rattle.token.proofs.Laws.{strict-token}
+use Rattle.values.specs.Values.{Value, tokens, bytes, Item, Formed, HasTargets, TargetsEarlier, WellFormed}
 use Rattle.writer.specs.Call.{Call, scalar, float32, float64, text, bytes as byteString}
 use Rattle.writer.specs.declared.Scalar.the-variants.{False, True, Null}
 use Rattle.writer.specs.Given.{Given}
@@ -55,27 +59,30 @@ unfoldable pub modelValuesOf : ℕ → List Value → List ModelValue
 modelValuesOf q [] = []
 modelValuesOf q (v ∷ vs) = modelValueOf q v ∷ modelValuesOf (q + length (bytes (tokens v))) vs
 
-pub form-part : (q : ℕ) (t : Token) → (14 ≤ t .kind → t .n < q) → formOf q (partOf q t) ≡ t
+-- a part has no other form than the shortest
+pub form-part : (q : ℕ) (t : Token) → Spelled Strict t → (14 ≤ t .kind → t .n < q) → formOf q (partOf q t) ≡ t
 unfolding formOf partOf
-form-part q t targeted =
-    split (t .kind) 14 (λ l. rw (lt-leb 14 (t .kind) l))
-    (λ l. let e : q - (q - t .n - 1) - 1 ≡ t .n = omega (arith, targeted l) in rw (le-leb 14 (t .kind) l, e))
+form-part q t spelled targeted =
+    split (t .kind) 14 (λ l. rw (lt-leb 14 (t .kind) l) (strict-token t spelled))
+    (λ l. let e : q - (q - t .n - 1) - 1 ≡ t .n = omega (arith, targeted l) in rw (le-leb 14 (t .kind) l, e) (strict-token t spelled))
 
-pub forms-parts : (done : List ℕ) (q : ℕ) (ts : List Token) → HasTargets done q ts → formsOf q (partsOf q ts) ≡ ts
+pub forms-parts : (done : List ℕ) (q : ℕ) (ts : List Token) → Each (Item Strict) ts → HasTargets done q ts → formsOf q (partsOf q ts) ≡ ts
 unfolding formsOf partsOf
-forms-parts done q [] a = refl
-forms-parts done q (t ∷ ts) a = rw (form-part q t (λ k. a .0 k .0), forms-parts done (q + length (emit t)) ts (a .1))
+forms-parts done q [] f a = refl
+forms-parts done q (t ∷ ts) f a =
+    rw (form-part q t (f .0 .sound .spelled) (λ k. a .0 k .0), forms-parts done (q + length (emit t)) ts (f .1) (a .1))
 
-pub value-model : (done : List ℕ) (q : ℕ) (v : Value) → HasTargets done q (tokens v) → valueAt q (modelValueOf q v) ≡ v
-value-model done q v a = rw (form-part q (v .head) (λ k. a .0 k .0), forms-parts done (q + length (emit (v .head))) (v .items) (a .1))
+pub value-model : (done : List ℕ) (q : ℕ) (v : Value) → Formed Strict v → HasTargets done q (tokens v) → valueAt q (modelValueOf q v) ≡ v
+value-model done q v f a =
+    rw (form-part q (v .head) (f .head .spelled) (λ k. a .0 k .0), forms-parts done (q + length (emit (v .head))) (v .items) (f .items) (a .1))
 
-pub values-models : (done : List ℕ) (q : ℕ) (vs : List Value) → TargetsEarlier done q vs → valuesAt q (modelValuesOf q vs) ≡ vs
+pub values-models : (done : List ℕ) (q : ℕ) (vs : List Value) → Each (Formed Strict) vs → TargetsEarlier done q vs → valuesAt q (modelValuesOf q vs) ≡ vs
 unfolding valuesAt modelValuesOf
-values-models done q [] b = refl
-values-models done q (v ∷ vs) b =
+values-models done q [] f b = refl
+values-models done q (v ∷ vs) f b =
     let at = q + length (bytes (tokens v)) in
-    ap (λ w. w ∷ valuesAt (q + length (bytes (tokens w))) (modelValuesOf at vs)) (value-model done q v (b .0))
-    ∙ ap (λ ws. v ∷ ws) (values-models (done ++ (q ∷ [])) at vs (b .1))
+    ap (λ w. w ∷ valuesAt (q + length (bytes (tokens w))) (modelValuesOf at vs)) (value-model done q v (f .0) (b .0))
+    ∙ ap (λ ws. v ∷ ws) (values-models (done ++ (q ∷ [])) at vs (f .1) (b .1))
 
 -- ---- the row of a kind
 
@@ -226,9 +233,9 @@ callOfValue-read q t s body =
     ∙ set-row swapped 5 (t .kind) (byteString s) (scalar Null) (λ k. ap byteString (sym (body (inr k)))))
 
 -- for a token of a well-formed file
-pub rewrites-read : (file : List ℕ) (vs : List Value) (entry : ℕ) → WellFormed file vs entry → (j q : ℕ) (t : Token) → TokenAt vs j q t
-    → bind (readOf file q) (λ v. ok (callOfValue v (bodyOf file q))) ≡ ok (callOf q t)
+pub rewrites-read : (mode : Mode) (file : List ℕ) (vs : List Value) (entry : ℕ) → WellFormed mode file vs entry → (j q : ℕ) (t : Token) → TokenAt vs j q t
+    → bind (readOf mode file q) (λ v. ok (callOfValue v (bodyOf mode file q))) ≡ ok (callOf q t)
 unfolding bind
-rewrites-read file vs entry w j q t st =
+rewrites-read mode file vs entry w j q t st =
     rw (reads-token file vs entry w j q t st)
-    (ap ok (callOfValue-read q t (bodyOf file q) (λ k. reads-body file vs entry w j q t st k .1)))
+    (ap ok (callOfValue-read q t (bodyOf mode file q) (λ k. reads-body file vs entry w j q t st k .1)))

@@ -1,10 +1,12 @@
--- The twelve marked samples of document 01, and samples of W-201 and W-202, by computation of the definitions that the contracts cite.
+-- The twelve marked samples of document 01, and samples of W-201, W-202 and W-203, by computation of the definitions that the contracts cite.
 use mathlib.Core.Path.{_≡_, refl}
 use mathlib.Core.List.{map}
 use Rattle.prelude.specs.Answer.{bind, guard, then, orError, _>>_, _>>=_}
 use Rattle.prelude.specs.Loop.{run, from}
 use Rattle.prelude.specs.Search.{among, rank}
 use Rattle.leb128.specs.Leb.{get, put}
+use Rattle.leb128.specs.declared.Mode.{Mode}
+use Rattle.leb128.specs.declared.Mode.the-variants.{Strict, Tolerant}
 use Rattle.kind.specs.Kind.{rule}
 use Rattle.token.specs.Token.{putIf, emit}
 use Rattle.token.specs.Scan.{getIf, number, body, scanKind, scan}
@@ -22,24 +24,42 @@ use Rattle.depths_value.specs.Depth as deep
 use Rattle.depths.specs.Depths.{depthsOf}
 use Rattle.writer_refusal.specs.Refusal.{refusalOf}
 use Rattle.writer.specs.Step.{tokenRefusal, write, putToken}
-use Rattle.guarantees.specs.Samples.{sampleAnswer, Answered, samples, endSamples, textSamples, TextCall, textAnswer, textCalls}
+use Rattle.guarantees.specs.Samples.{sampleAnswer, Answered, samples, endSamples, textSamples, paddedSamples, overlongSamples, rangeSamples}
+use Rattle.guarantees.specs.Samples.{TextCall, textAnswer, textCalls}
 
-computed : Answered samples × Answered endSamples × Answered textSamples
+strict : Answered Strict samples × Answered Strict endSamples × Answered Strict textSamples × Answered Strict overlongSamples × Answered Strict rangeSamples
 unfolding sampleAnswer bind guard then orError _>>_ _>>=_ run from among rank get rule getIf number body scanKind scan
     headOf scanAt lead next textFrom regionLen inRegion peekIn skipItems skipIn valueOn readIn startsIn itemOn itemIn
     followTurn followFrom followIn bodyPlaceIn lookups.same lookups.pairs lookups.lookupIn
     walks.hasTarget walks.tokenFault walks.nextToken walks.walkAfter walks.walkTurn walks.startsFrom check.entryAt
     check.checkIn check.checkOf deep.depthTurn deep.deepestFrom deep.depthAt deep.depthsTo depthsOf
-computed = (refl, refl, refl)
+strict = (refl, refl, refl, refl, refl)
 
-pub the-samples : Answered samples
-the-samples = computed .0
+tolerant : Answered Tolerant endSamples × Answered Tolerant textSamples × Answered Tolerant paddedSamples × Answered Tolerant rangeSamples
+unfolding sampleAnswer bind guard then orError _>>_ _>>=_ run from among rank get rule getIf number body scanKind scan
+    headOf scanAt lead next textFrom regionLen inRegion peekIn skipItems skipIn valueOn readIn startsIn itemOn itemIn
+    followTurn followFrom followIn bodyPlaceIn lookups.same lookups.pairs lookups.lookupIn
+    walks.hasTarget walks.tokenFault walks.nextToken walks.walkAfter walks.walkTurn walks.startsFrom check.entryAt
+    check.checkIn check.checkOf deep.depthTurn deep.deepestFrom deep.depthAt deep.depthsTo depthsOf
+tolerant = (refl, refl, refl, refl)
 
-pub the-ends : Answered endSamples
-the-ends = computed .1
+pub the-samples : Answered Strict samples
+the-samples = strict .0
 
-pub the-texts : Answered textSamples
-the-texts = computed .2
+pub the-ends : (mode : Mode) → Answered mode endSamples
+the-ends Strict = strict .1
+the-ends Tolerant = tolerant .0
+
+pub the-texts : (mode : Mode) → Answered mode textSamples
+the-texts Strict = strict .2
+the-texts Tolerant = tolerant .1
+
+pub the-padded : Answered Tolerant paddedSamples × Answered Strict overlongSamples
+the-padded = (tolerant .2, strict .3)
+
+pub the-ranges : (mode : Mode) → Answered mode rangeSamples
+the-ranges Strict = strict .4
+the-ranges Tolerant = tolerant .3
 
 pub the-text-calls : map textAnswer textCalls ≡ map (λ (x : TextCall). x .1) textCalls
 unfolding textAnswer among put rule lead next textFrom putIf emit refusalOf tokenRefusal write putToken

@@ -12,6 +12,7 @@ use Rattle.prelude.specs.Answer.{ok, error}
 use Rattle.prelude.specs.Bytes.{Bytes}
 use Rattle.prelude.specs.Each.{Each}
 use Rattle.error.specs.Error.{Fault, fault, BAD_TEXT}
+use Rattle.leb128.specs.declared.Mode.{Mode}
 use Rattle.utf8.specs.Text.{isText}
 use Rattle.utf8.specs.Utf8.{Utf8}
 use Rattle.utf8.proofs.Utf8.{text-exactly, isText-exactly}
@@ -39,40 +40,40 @@ use Rattle.guarantees.proofs.Demands as demands
 
 -- ---- in a file
 
-token-sound : (v : Value) → Formed v → (ts : List Token) (t : Token) (us : List Token) → tokens v ≡ ts ++ (t ∷ us) → Sound t
-token-sound v f [] t us e = let head : v .head ≡ t = cc in rw (← head) (f .head)
-token-sound v f (x ∷ ts) t us e =
+token-sound : {mode : Mode} (v : Value) → Formed mode v → (ts : List Token) (t : Token) (us : List Token) → tokens v ≡ ts ++ (t ∷ us) → Sound mode t
+token-sound {mode} v f [] t us e = let head : v .head ≡ t = cc in rw (← head) (f .head)
+token-sound {mode} v f (x ∷ ts) t us e =
     let items : v .items ≡ ts ++ (t ∷ us) = cc in
-    each-append Item ts (t ∷ us) .0 (subst (Each Item) items (f .items)) .1 .0 .sound
+    each-append (Item mode) ts (t ∷ us) .0 (subst (Each (Item mode)) items (f .items)) .1 .0 .sound
 
-texts-utf8 : (file : List ℕ) (vs : List Value) (entry : ℕ) → WellFormed file vs entry → TextsUtf8 file vs
+texts-utf8 : {mode : Mode} (file : List ℕ) (vs : List Value) (entry : ℕ) → WellFormed mode file vs entry → TextsUtf8 mode file vs
 texts-utf8 file vs entry w j q t st four =
     let formed = reads.formed file vs entry w (st .before) (st .value) (st .after) (st .values) in
     let sound = token-sound (st .value) formed (st .front) t (st .back) (st .tokens) in
     (text-exactly (t .body) .0 (sound .text four), demands.reports-values file vs entry w .body j q t st (inl four) .1)
 
-pub accepted-texts : (file : List ℕ) (cap count entry : ℕ) → Bytes file → checkOf file cap .answer ≡ ok (count, entry)
-    → (vs : List Value) × WellFormed file vs entry × TextsUtf8 file vs
-accepted-texts file cap count entry b e =
+pub accepted-texts : (mode : Mode) (file : List ℕ) (cap count entry : ℕ) → Bytes file → checkOf mode file cap .answer ≡ ok (count, entry)
+    → (vs : List Value) × WellFormed mode file vs entry × TextsUtf8 mode file vs
+accepted-texts mode file cap count entry b e =
     let a = accepted file cap count entry b e in
     (a .values, a .wellFormed, texts-utf8 file (a .values) entry (a .wellFormed))
 
-pub bad-text-exactly : (file : List ℕ) (cap p : ℕ) → Bytes file → (checkOf file cap .answer ≡ error (fault BAD_TEXT p))
-    ↔ ((x : Faulty file cap p (fault BAD_TEXT p)) × NotUtf8 (take (length file - 1) file) (ltb 0 (x .missing)) p)
-bad-text-exactly file cap p b =
-    (λ e. by-row (fault-exactly file cap (fault BAD_TEXT p) b .0 e) refl, λ x. fault-first file cap p (fault BAD_TEXT p) (x .0))
+pub bad-text-exactly : (mode : Mode) (file : List ℕ) (cap p : ℕ) → Bytes file → (checkOf mode file cap .answer ≡ error (fault BAD_TEXT p))
+    ↔ ((x : Faulty mode file cap p (fault BAD_TEXT p)) × NotUtf8 mode (take (length file - 1) file) (ltb 0 (x .missing)) p)
+bad-text-exactly mode file cap p b =
+    (λ e. by-row (fault-exactly mode file cap (fault BAD_TEXT p) b .0 e) refl, λ x. fault-first file cap p (fault BAD_TEXT p) (x .0))
   where
     At : ℕ × Fault → Type 0
-    At z = (x : Faulty file cap (z .0) (z .1)) × NotUtf8 (take (length file - 1) file) (ltb 0 (x .missing)) (z .0)
+    At z = (x : Faulty mode file cap (z .0) (z .1)) × NotUtf8 mode (take (length file - 1) file) (ltb 0 (x .missing)) (z .0)
 
-    by-row : {f : Fault} → RefusedCheck file cap f → f ≡ fault BAD_TEXT p → At (p, fault BAD_TEXT p)
+    by-row : {f : Fault} → RefusedCheck mode file cap f → f ≡ fault BAD_TEXT p → At (p, fault BAD_TEXT p)
     by-row (rows.empty z) q = absurd (omega (arith, numbers q))
     by-row (rows.long l) q = absurd (omega (arith, numbers q))
     by-row (rows.entry u) q = absurd (omega (arith, numbers q))
     by-row (rows.walk {p = at} {f = f} x) q =
         let r = refused-text (x .refused) (numbers q) in
         let t = r .1 in
-        let not : NotUtf8 (take (length file - 1) file) (ltb 0 (x .missing)) at =
+        let not : NotUtf8 mode (take (length file - 1) file) (ltb 0 (x .missing)) at =
         record { header = t .0; number = t .1; body = t .2; whole = t .3; text = t .4; not = λ u. t .5 (text-exactly (t .2) .1 u) } in
         let here : at ≡ p = sym (r .0) ∙ places q in
         subst At (λ i. (here i, q i)) (x, not)

@@ -18,10 +18,11 @@ use Rattle.prelude.specs.Each.{Each}
 use Rattle.prelude.proofs.Tests.{pick-cong, split, facts}
 use Rattle.prelude.proofs.Tables.{SameRow, same-row}
 use Rattle.prelude.proofs.Readers.{bind-ok}
+use Rattle.leb128.specs.declared.Mode.{Mode}
 use Rattle.little_endian.specs.LittleEndian.{fromLittle, load}
 use Rattle.kind.specs.Kind.{rule, size}
 use Rattle.token.specs.Token.{Token, emit, Allowed, Fits}
-use Rattle.token.proofs.Laws.{length-emit, drop-emit}
+use Rattle.token.proofs.Laws.{length-token, drop-emit}
 use Rattle.scan.specs.declared.Head.{Head}
 use Rattle.scan.proofs.Places.{headAt, scanAt-emit}
 use Rattle.values.specs.Values.{bytes, Item, HasTargets}
@@ -36,12 +37,12 @@ use Rattle.guarantees.specs.TokenValues.{tokenEnd, tokenRows, valueOfTok
 
 pub drop-body : (p : List ℕ) (t : Token) (s : List ℕ) → drop (tokenEnd (length p) t - length (t .body)) (p ++ (emit t ++ s)) ≡ t .body ++ s
 drop-body p t s =
-    let long = length-emit (t .kind) (t .n) (t .args) (t .body) in
+    let long = length-token t in
     let start : tokenEnd (length p) t - length (t .body) ≡ length p + (length (emit t) - length (t .body)) = omega arith in
     rw (start, ← drop-drop (length (emit t) - length (t .body)) (length p) (p ++ (emit t ++ s)), drop-append-seam p (emit t ++ s)) (drop-emit t s)
 
 pub body-len : (q : ℕ) (t : Token) → headAt q t .end - headAt q t .first ≡ length (t .body)
-body-len q t = omega (arith, length-emit (t .kind) (t .n) (t .args) (t .body))
+body-len q t = omega (arith, length-token t)
 
 bits-front : (k : ℕ) (b s : List ℕ) → length b ≡ k → load k (b ++ s) ≡ fromLittle b
 unfolding load
@@ -94,19 +95,19 @@ module _ (p : List ℕ) (t : Token) (s : List ℕ) (f : Allowed t) where
 not-below : (q : ℕ) (t : Token) → (14 ≤ t .kind → t .n < q) → below q (headAt q t) ≡ false
 not-below q t targeted = split (t .kind) 14 (λ l. rw (lt-leb 14 (t .kind) l)) (λ l. rw (le-leb 14 (t .kind) l, lt-leb q (t .n) (targeted l)))
 
-pub peek-emit : (inner : Bool) (p : List ℕ) (t : Token) (s : List ℕ) → Fits inner t s → (14 ≤ t .kind → t .n < length p)
-    → ok (headAt (length p) t) ≡ peekIn inner (p ++ (emit t ++ s)) (length p)
+pub peek-emit : {mode : Mode} (inner : Bool) (p : List ℕ) (t : Token) (s : List ℕ) → Fits mode inner t s → (14 ≤ t .kind → t .n < length p)
+    → ok (headAt (length p) t) ≡ peekIn mode inner (p ++ (emit t ++ s)) (length p)
 unfolding peekIn
-peek-emit inner p t s f targeted = bind-ok _ (sym (scanAt-emit inner p t s f)) (rw (not-below (length p) t targeted))
+peek-emit {mode} inner p t s f targeted = bind-ok _ (sym (scanAt-emit mode inner p t s f)) (rw (not-below (length p) t targeted))
 
 -- as many items as ts are, of ts and more
-pub walk-emit : (done p : List ℕ) (ts us : List Token) (s : List ℕ) → Each Item (ts ++ us) → HasTargets done (length p) (ts ++ us)
-    → skipItems (p ++ (bytes (ts ++ us) ++ s)) (length ts) (length p) ≡ ok (length p + length (bytes ts))
+pub walk-emit : (mode : Mode) (done p : List ℕ) (ts us : List Token) (s : List ℕ) → Each (Item mode) (ts ++ us) → HasTargets done (length p) (ts ++ us)
+    → skipItems mode (p ++ (bytes (ts ++ us) ++ s)) (length ts) (length p) ≡ ok (length p + length (bytes ts))
 unfolding skipItems bytes bind
-walk-emit done p [] us s i targeted = rw add-zero
-walk-emit done p (t ∷ ts) us s i targeted =
+walk-emit mode done p [] us s i targeted = rw add-zero
+walk-emit mode done p (t ∷ ts) us s i targeted =
     let long = length-append p (emit t) in
-    let more = walk-emit done (p ++ emit t) ts us s (i .1) (rw long (targeted .1)) in
+    let more = walk-emit mode done (p ++ emit t) ts us s (i .1) (rw long (targeted .1)) in
     let sum : length p + (length (emit t) + length (bytes ts)) ≡ length p + length (emit t) + length (bytes ts) = omega arith in
     let peeked = peek-emit true p t (bytes (ts ++ us) ++ s) (fits-item t (i .0) _) (λ k. targeted .0 k .0) in
     rw (append-assoc (emit t) (bytes (ts ++ us)) s, ← peeked, length-append (emit t) (bytes ts), sum)

@@ -19,6 +19,7 @@ use Rattle.prelude.proofs.Tests.{and-l, and-r, unless, unless-by}
 use Rattle.utf8.specs.Text.{Text, isText}
 use Rattle.utf8.proofs.Laws.{text-isText, isText-text}
 use Rattle.error.specs.Error.{Fault}
+use Rattle.leb128.specs.declared.Mode.{Mode}
 use Rattle.kind.specs.Kind.{due}
 use Rattle.token.specs.Token.{Token, emit, Fits}
 use Rattle.token.proofs.Laws.{emit-pos}
@@ -31,28 +32,28 @@ use Rattle.checker_value.proofs.Walks.{taken, walk-token}
 
 -- ---- what is emitted at an offset
 
-module _ (s : List ℕ) (at : ℕ) (t : Token) (rest : List ℕ) (same : drop at s ≡ emit t ++ rest) where
+module _ (mode : Mode) (s : List ℕ) (at : ℕ) (t : Token) (rest : List ℕ) (same : drop at s ≡ emit t ++ rest) where
   length-at : length s ≡ at + length (emit t) + length rest
   length-at = omega (arith, emit-pos t, length-append (emit t) rest, length-drop at s, ap length same)
 
-  scanAt-at : (inner : Bool) → Fits inner t rest → scanAt inner s at ≡ ok (headAt at t)
+  scanAt-at : (inner : Bool) → Fits mode inner t rest → scanAt mode inner s at ≡ ok (headAt at t)
   scanAt-at inner f =
       let front : length (take at s) ≡ at = length-take-le at s (omega (arith, length-at)) in
-      rw (front, ← same, take-append-drop) at (scanAt-emit inner (take at s) t rest f)
+      rw (front, ← same, take-append-drop) at (scanAt-emit mode inner (take at s) t rest f)
 
 -- ---- a token that the walk takes
 
 -- a token at the walk's offset, and `rest` after it: it fits there, its text is text, its target is a start, and a new
 -- value has a word
-pub record TakenToken (s : List ℕ) (cap : ℕ) (w : Walk) (t : Token) (rest : List ℕ) : Type 0 where
+pub record TakenToken (mode : Mode) (s : List ℕ) (cap : ℕ) (w : Walk) (t : Token) (rest : List ℕ) : Type 0 where
   pub same : drop (w .at) s ≡ emit t ++ rest
-  pub fits : Fits (ltb 0 (w .pending)) t rest
+  pub fits : Fits mode (ltb 0 (w .pending)) t rest
   pub text : t .kind ≡ 4 → Text (t .body)
   pub target : HasTarget (w .done) (w .at) t
   pub word : w .pending ≡ 0 → length (w .done) < cap
 
-module _ (s : List ℕ) (cap : ℕ) (w : Walk) where
-  next-taken : (t : Token) (rest : List ℕ) → TakenToken s cap w t rest → ok (headAt (w .at) t) ≡ nextToken s cap (w .done) (w .pending) (w .at)
+module _ (mode : Mode) (s : List ℕ) (cap : ℕ) (w : Walk) where
+  next-taken : (t : Token) (rest : List ℕ) → TakenToken mode s cap w t rest → ok (headAt (w .at) t) ≡ nextToken mode s cap (w .done) (w .pending) (w .at)
   unfolding nextToken tokenFault bind hasTarget
   next-taken t rest st =
       let h = headAt (w .at) t in
@@ -61,7 +62,7 @@ module _ (s : List ℕ) (cap : ℕ) (w : Walk) where
       (λ e. rw (body-read s rest (w .at) t (st .same)) (text-isText (st .text (eqb-true _ _ e)))) in
       let target = unless (leb 14 (t .kind)) (hasTarget (w .done) (w .at) h)
       (λ e. let r = st .target (leb-true _ _ e) in rw (lt-ltb _ _ (r .0), r .1)) in
-      rw (free, scanAt-at s (w .at) t rest (st .same) _ (st .fits), text, target)
+      rw (free, scanAt-at mode s (w .at) t rest (st .same) _ (st .fits), text, target)
     where
       unless-full : (a b : Bool) → (a ≡ true → b ≡ false) → a && b ≡ false
       unless-full true b f = f refl
@@ -71,14 +72,14 @@ module _ (s : List ℕ) (cap : ℕ) (w : Walk) where
   pub record TakenHead (h : Head) : Type 0 where
     pub token : Token
     pub rest : List ℕ
-    pub taken : TakenToken s cap w token rest
+    pub taken : TakenToken mode s cap w token rest
     pub head : h ≡ headAt (w .at) token
 
-  pub taken-next : (h : Head) → Bytes s → ok h ≡ nextToken s cap (w .done) (w .pending) (w .at) → TakenHead h
+  pub taken-next : (h : Head) → Bytes s → ok h ≡ nextToken mode s cap (w .done) (w .pending) (w .at) → TakenHead h
   unfolding hasTarget
   taken-next h b e =
-      let k = taken s cap (w .done) (w .pending) (w .at) h e in
-      let r = emit-scanAt _ s (w .at) h b (k .scanned) in
+      let k = taken mode s cap (w .done) (w .pending) (w .at) h e in
+      let r = emit-scanAt mode _ s (w .at) h b (k .scanned) in
       let kind : h .kind ≡ r .token .kind = ap (λ (x : Head). x .kind) (r .head) in
       let n : h .n ≡ r .token .n = ap (λ (x : Head). x .n) (r .head) in
       let text : h .kind ≡ 4 → Text (r .token .body) =
@@ -109,17 +110,17 @@ pub due-suc : (k items : ℕ) → due (suc k) items ≡ k
 due-suc k items = rw (ne-eqb (suc k) 0 (suc-ne-zero k)) (omega arith)
 
 -- a property of the walk that goes backward: what holds after a token that the walk takes holds before it
-abbrev pub Backward : List ℕ → ℕ → (Walk → Type 0) → Type 0
-Backward s cap P = (w : Walk) → (eqb (w .pending) 0 && leb (length s) (w .at)) ≡ false → (h : Head)
-    → ok h ≡ nextToken s cap (w .done) (w .pending) (w .at) → P (walkAfter w h) → P w
+abbrev pub Backward : Mode → List ℕ → ℕ → (Walk → Type 0) → Type 0
+Backward mode s cap P = (w : Walk) → (eqb (w .pending) 0 && leb (length s) (w .at)) ≡ false → (h : Head)
+    → ok h ≡ nextToken mode s cap (w .done) (w .pending) (w .at) → P (walkAfter w h) → P w
 
 -- that the walk yields a is such a property
-pub starts-backward : (s : List ℕ) (cap : ℕ) (a : Answer Fault (List ℕ)) → Backward s cap (λ w. a ≡ startsFrom s cap w)
-starts-backward s cap a w t h e yields = yields ∙ walk-token s cap w t h e
+pub starts-backward : (mode : Mode) (s : List ℕ) (cap : ℕ) (a : Answer Fault (List ℕ)) → Backward mode s cap (λ w. a ≡ startsFrom mode s cap w)
+starts-backward mode s cap a w t h e yields = yields ∙ walk-token mode s cap w t h e
 
-pub walk-taken : (s : List ℕ) (cap : ℕ) (P : Walk → Type 0) → Backward s cap P → (w : Walk) (t : Token) (rest : List ℕ) (k : ℕ)
-    → TakenToken s cap w t rest → due (w .pending) (headAt (w .at) t .items) ≡ k → P (settled (w .start) (w .done) (w .at + length (emit t)) k) → P w
-walk-taken s cap P back w t rest k st left p =
-    let more : leb (length s) (w .at) ≡ false = lt-leb (length s) (w .at) (omega (arith, emit-pos t, length-at s (w .at) t rest (st .same))) in
-    back w (rw (more, and-comm (eqb (w .pending) 0) false)) (headAt (w .at) t) (next-taken s cap w t rest st)
+pub walk-taken : {mode : Mode} (s : List ℕ) (cap : ℕ) (P : Walk → Type 0) → Backward mode s cap P → (w : Walk) (t : Token) (rest : List ℕ) (k : ℕ)
+    → TakenToken mode s cap w t rest → due (w .pending) (headAt (w .at) t .items) ≡ k → P (settled (w .start) (w .done) (w .at + length (emit t)) k) → P w
+walk-taken {mode} s cap P back w t rest k st left p =
+    let more : leb (length s) (w .at) ≡ false = lt-leb (length s) (w .at) (omega (arith, emit-pos t, length-at mode s (w .at) t rest (st .same))) in
+    back w (rw (more, and-comm (eqb (w .pending) 0) false)) (headAt (w .at) t) (next-taken mode s cap w t rest st)
     (subst P (sym (after-settled w (headAt (w .at) t) k left)) p)

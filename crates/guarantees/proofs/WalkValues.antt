@@ -14,6 +14,7 @@ use lib.ListN.{length, drop, length-append}
 use lib.Seq.{drop-append-seam}
 use Rattle.prelude.specs.Each.{Each}
 use Rattle.prelude.proofs.Parts.{length-past}
+use Rattle.leb128.specs.declared.Mode.{Mode}
 use Rattle.kind.specs.Kind.{rule, counted, pending, immediate}
 use Rattle.token.specs.Token.{Token, emit}
 use Rattle.scan.specs.declared.Head.{Head}
@@ -42,13 +43,13 @@ bytes-snoc ts t = rw (bytes-append ts (t ∷ []), bytes-one t)
 -- ---- an open value
 
 -- s is the values vs, a head with the items so far, and `rest`; k items are pending
-pub record Partly (s : List ℕ) (vs : List Value) (t : Token) (is : List Token) (rest : List ℕ) (k : ℕ) : Type 0 where
-  pub values : Values vs
+pub record Partly (mode : Mode) (s : List ℕ) (vs : List Value) (t : Token) (is : List Token) (rest : List ℕ) (k : ℕ) : Type 0 where
+  pub values : Values mode vs
   pub same : s ≡ region vs ++ (bytes (t ∷ is) ++ rest)
-  pub head : Sound t
+  pub head : Sound mode t
   -- the items that the head counts have a byte each after it
   pub room : length (region vs) + length (emit t) + counted (rule (t .kind)) (t .n) (t .args) ≤ length s
-  pub items : Each Item is
+  pub items : Each (Item mode) is
   pub count : length is + k ≡ pending (rule (t .kind)) (t .n) (t .args)
   pub targets : HasTargets (starts 0 vs) (length (region vs)) (t ∷ is)
 
@@ -56,17 +57,17 @@ pub record Partly (s : List ℕ) (vs : List Value) (t : Token) (is : List Token)
 same-after : (s p q r : List ℕ) → s ≡ p ++ q → drop (length p) s ≡ r → s ≡ p ++ r
 same-after s p q r same d = same ∙ ap (λ x. p ++ x) (sym (drop-append-seam p q) ∙ ap (drop (length p)) (sym same) ∙ d)
 
-module _ (s : List ℕ) (cap : ℕ) (w : Walk) (u : Token) (rest : List ℕ) (st : TakenToken s cap w u rest) where
-  sound : Sound u
-  sound = record { allowed = st .fits .allowed; text = st .text }
+module _ {mode : Mode} (s : List ℕ) (cap : ℕ) (w : Walk) (u : Token) (rest : List ℕ) (st : TakenToken mode s cap w u rest) where
+  sound : Sound mode u
+  sound = record { allowed = st .fits .allowed; spelled = st .fits .spelled; text = st .text }
 
-  item : 0 < w .pending → Item u
+  item : 0 < w .pending → Item mode u
   item h =
       let flat : not (true && not (immediate (rule (u .kind)))) ≡ true = rw (lt-ltb 0 (w .pending) h) at (st .fits .flat) in
       record { sound = sound; immediate = not-false _ (not-true _ flat) }
 
-  partly-head : (vs : List Value) (q : List ℕ) → Values vs → s ≡ region vs ++ q → w .at ≡ length (region vs) → w .done ≡ starts 0 vs
-      → Partly s vs u [] rest (pending (rule (u .kind)) (u .n) (u .args))
+  partly-head : (vs : List Value) (q : List ℕ) → Values mode vs → s ≡ region vs ++ q → w .at ≡ length (region vs) → w .done ≡ starts 0 vs
+      → Partly mode s vs u [] rest (pending (rule (u .kind)) (u .n) (u .args))
   partly-head vs q v same here done =
       let all : s ≡ region vs ++ (emit u ++ rest) = same-after s (region vs) q _ same (rw here at (st .same)) in
       record {
@@ -79,8 +80,8 @@ module _ (s : List ℕ) (cap : ℕ) (w : Walk) (u : Token) (rest : List ℕ) (st
         targets = (rw (here, done) at (st .target), tt);
       }
 
-  partly-item : (vs : List Value) (t : Token) (is : List Token) (q : List ℕ) (k : ℕ) → Partly s vs t is q (suc k) → 0 < w .pending
-      → w .at ≡ length (region vs) + length (bytes (t ∷ is)) → w .done ≡ starts 0 vs → Partly s vs t (is ++ (u ∷ [])) rest k
+  partly-item : (vs : List Value) (t : Token) (is : List Token) (q : List ℕ) (k : ℕ) → Partly mode s vs t is q (suc k) → 0 < w .pending
+      → w .at ≡ length (region vs) + length (bytes (t ∷ is)) → w .done ≡ starts 0 vs → Partly mode s vs t (is ++ (u ∷ [])) rest k
   partly-item vs t is q k p more here done =
       let front = region vs ++ bytes (t ∷ is) in
       let long : w .at ≡ length front = rw length-append here in
@@ -90,29 +91,29 @@ module _ (s : List ℕ) (cap : ℕ) (w : Walk) (u : Token) (rest : List ℕ) (st
         same = rw (bytes-snoc (t ∷ is) u) (behind ∙ simp append-assoc);
         head = p .head;
         room = p .room;
-        items = each-append Item is (u ∷ []) .1 (p .items, (item more, tt));
+        items = each-append (Item mode) is (u ∷ []) .1 (p .items, (item more, tt));
         count = omega (arith, p .count, length-append is (u ∷ []));
         targets = has-targets-snoc (starts 0 vs) (length (region vs)) (t ∷ is) u (p .targets) (rw (here, done) at (st .target));
       }
 
 -- ---- the walk
 
-pub data WalkedValues (s : List ℕ) : Walk → Type 0 where
+pub data WalkedValues (mode : Mode) (s : List ℕ) : Walk → Type 0 where
   -- between two values
-  idle : {vs : List Value} (rest : List ℕ) → Values vs → s ≡ region vs ++ rest → WalkedValues s (between (length (region vs)) (starts 0 vs))
+  idle : {vs : List Value} (rest : List ℕ) → Values mode vs → s ≡ region vs ++ rest → WalkedValues mode s (between (length (region vs)) (starts 0 vs))
   -- in a value
-  busy : {vs : List Value} {t : Token} {is : List Token} {rest : List ℕ} {k : ℕ} → Partly s vs t is rest (suc k)
-      → WalkedValues s (settled (length (region vs)) (starts 0 vs) (length (region vs) + length (bytes (t ∷ is))) (suc k))
+  busy : {vs : List Value} {t : Token} {is : List Token} {rest : List ℕ} {k : ℕ} → Partly mode s vs t is rest (suc k)
+      → WalkedValues mode s (settled (length (region vs)) (starts 0 vs) (length (region vs) + length (bytes (t ∷ is))) (suc k))
 
 -- a value of which no item is pending is finished
-walked-value : {s : List ℕ} {vs : List Value} {t : Token} {is : List Token} {rest : List ℕ} → Partly s vs t is rest 0
-    → WalkedValues s (between (length (region vs) + length (bytes (t ∷ is))) (starts 0 vs ++ (length (region vs) ∷ [])))
+walked-value : {mode : Mode} {s : List ℕ} {vs : List Value} {t : Token} {is : List Token} {rest : List ℕ} → Partly mode s vs t is rest 0
+    → WalkedValues mode s (between (length (region vs) + length (bytes (t ∷ is))) (starts 0 vs ++ (length (region vs) ∷ [])))
 unfolding region starts
-walked-value {s} {vs} {t} {is} {rest} p =
+walked-value {mode} {s} {vs} {t} {is} {rest} p =
     let v : Value = record { head = t; items = is } in
-    let formed : Formed v = record { head = p .head; items = p .items; count = rw add-zero at (p .count) } in
-    let values : Values (vs ++ (v ∷ [])) = record {
-      formed = each-append Formed vs (v ∷ []) .1 (p .values .formed, (formed, tt));
+    let formed : Formed mode v = record { head = p .head; items = p .items; count = rw add-zero at (p .count) } in
+    let values : Values mode (vs ++ (v ∷ [])) = record {
+      formed = each-append (Formed mode) vs (v ∷ []) .1 (p .values .formed, (formed, tt));
       targets = targets-earlier-append [] 0 vs (v ∷ []) .1 (p .values .targets, rw zero-add (p .targets, tt));
     } in
     let all : region (vs ++ (v ∷ [])) ≡ region vs ++ bytes (t ∷ is) = rw (region-append vs (v ∷ []), append-nil) in
@@ -120,12 +121,13 @@ walked-value {s} {vs} {t} {is} {rest} p =
     let done : starts 0 (vs ++ (v ∷ [])) ≡ starts 0 vs ++ (length (region vs) ∷ []) = rw (starts-append 0 vs (v ∷ []), zero-add) in
     rw (← done, ← long) (idle rest values (rw all (p .same ∙ sym (append-assoc (region vs) _ rest))))
 
-walked-settled : {s : List ℕ} {vs : List Value} {t : Token} {is : List Token} {rest : List ℕ} (k : ℕ) → Partly s vs t is rest k
-    → WalkedValues s (settled (length (region vs)) (starts 0 vs) (length (region vs) + length (bytes (t ∷ is))) k)
+walked-settled : {mode : Mode} {s : List ℕ} {vs : List Value} {t : Token} {is : List Token} {rest : List ℕ} (k : ℕ) → Partly mode s vs t is rest k
+    → WalkedValues mode s (settled (length (region vs)) (starts 0 vs) (length (region vs) + length (bytes (t ∷ is))) k)
 walked-settled zero p = walked-value p
 walked-settled (suc k) p = busy p
 
-pub after-walked : (s : List ℕ) (cap : ℕ) (w : Walk) (h : Head) → TakenHead s cap w h → WalkedValues s w → WalkedValues s (walkAfter w h)
+pub after-walked : {mode : Mode} (s : List ℕ) (cap : ℕ) (w : Walk) (h : Head) → TakenHead mode s cap w h → WalkedValues mode s w
+    → WalkedValues mode s (walkAfter w h)
 after-walked s cap w h st (idle {vs} q values same) =
     let u = st .token in
     let p = partly-head s cap w u (st .rest) (st .taken) vs q values same refl refl in
@@ -136,15 +138,15 @@ after-walked s cap w h st (busy {vs} {t} {is} {rest} {k} p) =
     rw (st .head, after-settled w (headAt (w .at) u) k (due-suc k _)) (rw (bytes-snoc (t ∷ is) u, length-past) at (walked-settled k more))
 
 -- values at the front of s, up to the walk's offset
-pub record WalkedBetween (s : List ℕ) (w : Walk) : Type 0 where
+pub record WalkedBetween (mode : Mode) (s : List ℕ) (w : Walk) : Type 0 where
   pub values : List Value
-  pub formed : Values values
+  pub formed : Values mode values
   pub rest : List ℕ
   pub same : s ≡ region values ++ rest
   pub at : w .at ≡ length (region values)
   pub done : w .done ≡ starts 0 values
 
-pub walked-between : (s : List ℕ) (w : Walk) → w .pending ≡ 0 → WalkedValues s w → WalkedBetween s w
+pub walked-between : {mode : Mode} (s : List ℕ) (w : Walk) → w .pending ≡ 0 → WalkedValues mode s w → WalkedBetween mode s w
 walked-between s w e (idle {vs} rest values same) = record {
   values = vs;
   formed = values;

@@ -11,20 +11,21 @@ use mathlib.Core.Path.{_≡_}
 use mathlib.Core.List.{List}
 use lib.ListN.{length, take}
 use Rattle.error.specs.Error.{LIMIT}
+use Rattle.leb128.specs.declared.Mode.{Mode}
 use Rattle.values.specs.Values.{Value, region, starts, Values, WellFormed}
 use Rattle.checker.specs.Check.{filled}
 
-pub record Accepted (file : List ℕ) (cap count entry : ℕ) (table : List ℕ) : Type 0 where
+pub record Accepted (mode : Mode) (file : List ℕ) (cap count entry : ℕ) (table : List ℕ) : Type 0 where
   pub values : List Value
-  pub wellFormed : WellFormed file values entry
+  pub wellFormed : WellFormed mode file values entry
   pub counted : count ≡ length values
   pub room : length values ≤ cap
   pub listed : table ≡ filled cap (starts 0 values)
 
-pub record Overfull (file : List ℕ) (cap p : ℕ) : Type 0 where
+pub record Overfull (mode : Mode) (file : List ℕ) (cap p : ℕ) : Type 0 where
   pub short : length file ≤ LIMIT
   pub values : List Value
-  pub formed : Values values
+  pub formed : Values mode values
   pub count : length values ≡ cap
   pub same : take p file ≡ region values
   pub place : length (region values) ≡ p

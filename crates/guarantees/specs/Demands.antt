@@ -21,6 +21,8 @@ use Rattle.prelude.specs.Bytes.{Bytes}
 use Rattle.prelude.specs.Search.{among}
 use Rattle.prelude.specs.Each.{Each}
 use Rattle.error.specs.Error.{Fault, fault, NO_ITEM, WRONG_KIND, CLOSED}
+use Rattle.leb128.specs.declared.Mode.{Mode}
+use Rattle.leb128.specs.declared.Mode.the-variants.{Strict}
 use Rattle.kind.specs.Kind.{rule, immediate}
 use Rattle.token.specs.Token.{Token}
 use Rattle.values.specs.Values.{Value, tokens, bytes, region, starts, WellFormed}
@@ -58,15 +60,17 @@ use Rattle.guarantees.specs.Rewrites.{Rewritten}
 -- ---- demand 1
 
 pub record Numbered : Type 0 where
-  pub check : (file : List ℕ) (cap : ℕ) (f : Fault) → checkOf file cap .answer ≡ error f → among (f .number) checkErrors ≡ true
-  pub depths : (file : List ℕ) (cap room : ℕ) (f : Fault) → depthsOf file cap room .answer ≡ error f → among (f .number) checkErrors ≡ true
-  pub peek : (file : List ℕ) (at : ℕ) (f : Fault) → peekOf file at ≡ error f → among (f .number) readErrors ≡ true
-  pub read : (file : List ℕ) (at : ℕ) (f : Fault) → readOf file at ≡ error f → among (f .number) readErrors ≡ true
-  pub skip : (file : List ℕ) (at : ℕ) (f : Fault) → skipOf file at ≡ error f → among (f .number) skipErrors ≡ true
-  pub item : (file : List ℕ) (at : ℕ) (f : Fault) (i : ℕ) → itemOf file at i ≡ error f → among (f .number) itemErrors ≡ true
-  pub follow : (file : List ℕ) (at : ℕ) (f : Fault) → followOf file at ≡ error f → among (f .number) readErrors ≡ true
-  pub lookup : (file : List ℕ) (at : ℕ) (f : Fault) (key : List ℕ) → lookupOf file at key ≡ error f → among (f .number) itemErrors ≡ true
-  pub body : (file : List ℕ) (at : ℕ) (f : Fault) → bodyPlaceOf file at ≡ error f → among (f .number) bodyErrors ≡ true
+  pub check : (mode : Mode) (file : List ℕ) (cap : ℕ) (f : Fault) → checkOf mode file cap .answer ≡ error f → among (f .number) (checkErrors mode) ≡ true
+  pub depths : (mode : Mode) (file : List ℕ) (cap room : ℕ) (f : Fault) → depthsOf mode file cap room .answer ≡ error f
+      → among (f .number) (checkErrors mode) ≡ true
+  pub peek : (mode : Mode) (file : List ℕ) (at : ℕ) (f : Fault) → peekOf mode file at ≡ error f → among (f .number) (readErrors mode) ≡ true
+  pub read : (mode : Mode) (file : List ℕ) (at : ℕ) (f : Fault) → readOf mode file at ≡ error f → among (f .number) (readErrors mode) ≡ true
+  pub skip : (mode : Mode) (file : List ℕ) (at : ℕ) (f : Fault) → skipOf mode file at ≡ error f → among (f .number) (skipErrors mode) ≡ true
+  pub item : (mode : Mode) (file : List ℕ) (at : ℕ) (f : Fault) (i : ℕ) → itemOf mode file at i ≡ error f → among (f .number) (itemErrors mode) ≡ true
+  pub follow : (mode : Mode) (file : List ℕ) (at : ℕ) (f : Fault) → followOf mode file at ≡ error f → among (f .number) (readErrors mode) ≡ true
+  pub lookup : (mode : Mode) (file : List ℕ) (at : ℕ) (f : Fault) (key : List ℕ) → lookupOf mode file at key ≡ error f
+      → among (f .number) (itemErrors mode) ≡ true
+  pub body : (mode : Mode) (file : List ℕ) (at : ℕ) (f : Fault) → bodyPlaceOf mode file at ≡ error f → among (f .number) (bodyErrors mode) ≡ true
   pub write : (c : Call) (s : State) (out table : List ℕ) (f : ℕ) → step c s out table .answer ≡ error f → among f writeErrors ≡ true
 
 pub record Demand1 : Type 0 where
@@ -76,54 +80,55 @@ pub record Demand1 : Type 0 where
   pub unchanged : (c : Call) (s : State) (out table : List ℕ) (f : ℕ) → step c s out table .answer ≡ error f
       → step c s out table ≡ result (error f) s out table
   -- "a refused check leaves its tables all zero."
-  pub checkZero : (file : List ℕ) (cap : ℕ) (f : Fault) → checkOf file cap .answer ≡ error f → checkOf file cap .starts ≡ replicate cap 0
-  pub depthsZero : (file : List ℕ) (cap room : ℕ) (f : Fault) → depthsOf file cap room .answer ≡ error f
-      → (depthsOf file cap room .starts ≡ replicate cap 0) × (depthsOf file cap room .depths ≡ replicate room 0)
+  pub checkZero : (mode : Mode) (file : List ℕ) (cap : ℕ) (f : Fault) → checkOf mode file cap .answer ≡ error f
+      → checkOf mode file cap .starts ≡ replicate cap 0
+  pub depthsZero : (mode : Mode) (file : List ℕ) (cap room : ℕ) (f : Fault) → depthsOf mode file cap room .answer ≡ error f
+      → (depthsOf mode file cap room .starts ≡ replicate cap 0) × (depthsOf mode file cap room .depths ≡ replicate room 0)
   -- "An item number at or past the count of a value that reads without fault gets NO_ITEM."
-  pub noItem : (file : List ℕ) (at : ℕ) (v : ReadValue) → readOf file at ≡ ok v → (n : ℕ) → countOf v ≡ some n
-      → (i : ℕ) → n ≤ i → itemOf file at i ≡ error (fault NO_ITEM at)
+  pub noItem : (mode : Mode) (file : List ℕ) (at : ℕ) (v : ReadValue) → readOf mode file at ≡ ok v → (n : ℕ) → countOf v ≡ some n
+      → (i : ℕ) → n ≤ i → itemOf mode file at i ≡ error (fault NO_ITEM at)
 
 -- ---- demand 2
 
-pub record ReportsValues (file : List ℕ) (vs : List Value) : Type 0 where
+pub record ReportsValues (mode : Mode) (file : List ℕ) (vs : List Value) : Type 0 where
   -- each token t, of a value or an item, with its header at q
-  pub read : (j q : ℕ) (t : Token) → TokenAt vs j q t → readOf file q ≡ ok (valueOfToken q t)
+  pub read : (j q : ℕ) (t : Token) → TokenAt vs j q t → readOf mode file q ≡ ok (valueOfToken q t)
   pub body : (j q : ℕ) (t : Token) → TokenAt vs j q t → (t .kind ≡ 4) ⊎ (t .kind ≡ 5)
-      → (bodyPlaceOf file q ≡ ok (tokenEnd q t - length (t .body), length (t .body))) × (bodyOf file q ≡ t .body)
+      → (bodyPlaceOf mode file q ≡ ok (tokenEnd q t - length (t .body), length (t .body))) × (bodyOf mode file q ≡ t .body)
   pub pointerBody : (j q : ℕ) (t : Token) → TokenAt vs j q t → t .kind ≡ 15
-      → (bodyPlaceOf file q ≡ bodyPlaceOf file (q - t .n - 1)) × (bodyOf file q ≡ bodyOf file (q - t .n - 1))
+      → (bodyPlaceOf mode file q ≡ bodyPlaceOf mode file (q - t .n - 1)) × (bodyOf mode file q ≡ bodyOf mode file (q - t .n - 1))
   pub noBody : (j q : ℕ) (t : Token) → TokenAt vs j q t → (t .kind ≡ 4 → ⊥) → (t .kind ≡ 5 → ⊥) → (t .kind ≡ 15 → ⊥)
-      → bodyPlaceOf file q ≡ error (fault WRONG_KIND q)
-  pub stays : (j q : ℕ) (t : Token) → TokenAt vs j q t → (t .kind ≡ 15 → ⊥) → followOf file q ≡ ok (q, 0)
-  pub hop : (j q : ℕ) (t : Token) → TokenAt vs j q t → t .kind ≡ 15 → followOf file q ≡ further (followOf file (q - t .n - 1))
-  pub noMap : (j q : ℕ) (t : Token) → TokenAt vs j q t → (key : List ℕ) → (t .kind ≡ 7 → ⊥) → lookupOf file q key ≡ error (fault WRONG_KIND q)
-  pub end : (j q : ℕ) (t : Token) → TokenAt vs j q t → immediate (rule (t .kind)) ≡ true → skipOf file q ≡ ok (tokenEnd q t)
+      → bodyPlaceOf mode file q ≡ error (fault WRONG_KIND q)
+  pub stays : (j q : ℕ) (t : Token) → TokenAt vs j q t → (t .kind ≡ 15 → ⊥) → followOf mode file q ≡ ok (q, 0)
+  pub hop : (j q : ℕ) (t : Token) → TokenAt vs j q t → t .kind ≡ 15 → followOf mode file q ≡ further (followOf mode file (q - t .n - 1))
+  pub noMap : (j q : ℕ) (t : Token) → TokenAt vs j q t → (key : List ℕ) → (t .kind ≡ 7 → ⊥) → lookupOf mode file q key ≡ error (fault WRONG_KIND q)
+  pub end : (j q : ℕ) (t : Token) → TokenAt vs j q t → immediate (rule (t .kind)) ≡ true → skipOf mode file q ≡ ok (tokenEnd q t)
   pub noItems : (j q : ℕ) (t : Token) → TokenAt vs j q t → immediate (rule (t .kind)) ≡ true
-      → (i : ℕ) → itemOf file q i ≡ error (fault WRONG_KIND q)
+      → (i : ℕ) → itemOf mode file q i ≡ error (fault WRONG_KIND q)
   -- each value v, after the values a
   pub skip : (a : List Value) (v : Value) (b : List Value) → vs ≡ a ++ (v ∷ b)
-      → skipOf file (length (region a)) ≡ ok (length (region a) + length (bytes (tokens v)))
+      → skipOf mode file (length (region a)) ≡ ok (length (region a) + length (bytes (tokens v)))
   pub item : (a : List Value) (v : Value) (b : List Value) → vs ≡ a ++ (v ∷ b)
       → (is : List Token) (t : Token) (js : List Token) → v .items ≡ is ++ (t ∷ js)
-      → itemOf file (length (region a)) (length is) ≡ ok (tokenEnd (length (region a)) (v .head) + length (bytes is))
+      → itemOf mode file (length (region a)) (length is) ≡ ok (tokenEnd (length (region a)) (v .head) + length (bytes is))
   pub noItem : (a : List Value) (v : Value) (b : List Value) → vs ≡ a ++ (v ∷ b) → immediate (rule (v .head .kind)) ≡ false
-      → (i : ℕ) → length (v .items) ≤ i → itemOf file (length (region a)) i ≡ error (fault NO_ITEM (length (region a)))
+      → (i : ℕ) → length (v .items) ≤ i → itemOf mode file (length (region a)) i ≡ error (fault NO_ITEM (length (region a)))
   pub lookup : (a : List Value) (v : Value) (b : List Value) → vs ≡ a ++ (v ∷ b) → v .head .kind ≡ 7
-      → (key : List ℕ) (x : ℕ) → FirstPair vs (length (region a)) v key x → lookupOf file (length (region a)) key ≡ ok x
+      → (key : List ℕ) (x : ℕ) → FirstPair vs (length (region a)) v key x → lookupOf mode file (length (region a)) key ≡ ok x
   pub noLookup : (a : List Value) (v : Value) (b : List Value) → vs ≡ a ++ (v ∷ b) → v .head .kind ≡ 7
-      → (key : List ℕ) → NoPair vs (length (region a)) v key → lookupOf file (length (region a)) key ≡ error (fault NO_ITEM (length (region a)))
+      → (key : List ℕ) → NoPair vs (length (region a)) v key → lookupOf mode file (length (region a)) key ≡ error (fault NO_ITEM (length (region a)))
   -- following from value number j ends
-  pub follow : (j : ℕ) → j < length vs → FollowsTo file vs j (getD (starts 0 vs) j 0)
+  pub follow : (j : ℕ) → j < length vs → FollowsTo mode file vs j (getD (starts 0 vs) j 0)
 
 pub record Demand2 : Type 0 where
   -- "Given a starts table with enough words, the reader accepts exactly the files that document 01 calls well formed by the Twine pages,"
-  pub accepts : (file : List ℕ) (cap count entry : ℕ) (table : List ℕ) → Bytes file
-      → (checkOf file cap ≡ checked (ok (count, entry)) table) ↔ Accepted file cap count entry table
+  pub accepts : (mode : Mode) (file : List ℕ) (cap count entry : ℕ) (table : List ℕ) → Bytes file
+      → (checkOf mode file cap ≡ checked (ok (count, entry)) table) ↔ Accepted mode file cap count entry table
   -- "and tells their values as those pages do."
-  pub reports : (file : List ℕ) (vs : List Value) (entry : ℕ) → WellFormed file vs entry → ReportsValues file vs
+  pub reports : (mode : Mode) (file : List ℕ) (vs : List Value) (entry : ℕ) → WellFormed mode file vs entry → ReportsValues mode file vs
   -- "Writing an accepted file's values again in order with a fresh writer, its output at least as long as the file and its table with enough words,
-  -- and closing at the file's entry, gives the same bytes."
-  pub rewrites : (file : List ℕ) (cap count entry : ℕ) → Bytes file → checkOf file cap .answer ≡ ok (count, entry)
+  -- and closing at the file's entry, gives the same bytes." W-203: "Same-bytes rewriting holds for files that the strict manner accepts"
+  pub rewrites : (file : List ℕ) (cap count entry : ℕ) → Bytes file → checkOf Strict file cap .answer ≡ ok (count, entry)
       → (out table : List ℕ) → length file ≤ length out → count ≤ length table → Rewritten file entry out table
 
 -- ---- demand 3
@@ -151,9 +156,9 @@ pub record AfterCalls (cs : List Call) (out table : List ℕ) : Type 0 where
       → FormedSoFar (r .writer) (r .out) (r .table) (valuesAt 0 (modelRun cs emptyModel (length out) (length table) .model .finished))
   -- "If a close was accepted, the reader, lent enough words, accepts the file and gives back exactly the book's finished values: starts, kinds,
   -- numbers, bodies, items, targets. The closing pointer comes last where one was needed and is the entry; else the entry is the value closed at."
-  pub readsBack : let r = runs cs fresh out table in
+  pub readsBack : (mode : Mode) → let r = runs cs fresh out table in
       (before more : List Call) (e : ℕ) → cs ≡ before ++ (close e ∷ more) → getD (r .answers) (length before) (error 0) ≡ ok tt → Each Given before
-      → ReadsBack (modelRun before emptyModel (length out) (length table) .model) e (modelRun cs emptyModel (length out) (length table) .model)
+      → ReadsBack mode (modelRun before emptyModel (length out) (length table) .model) e (modelRun cs emptyModel (length out) (length table) .model)
       (take (r .writer .written) (r .out))
   -- each call after that is CLOSED
   pub closed : let r = runs cs fresh out table in
@@ -168,5 +173,6 @@ pub record Demand3 : Type 0 where
   pub values : (c : Call) → Given c → (w q : ℕ)
       → Each (λ p. (valueOfPart q p ≡ valueOfCall q c) × (p .body ≡ bodyOfCall c)) (partsAdded (requestOf c) w)
   -- "In any accepted file, whoever wrote it, no descent meets a value twice, and depths, lent enough words, accepts it and tells each value's depth:
-  -- one descent from it has that many values, none has more."
-  pub paths : (file : List ℕ) (cap count entry : ℕ) → Bytes file → checkOf file cap .answer ≡ ok (count, entry) → AcceptedPaths file count entry
+  -- one descent from it has that many values, none has more." W-203: "hold in both manners"
+  pub paths : (mode : Mode) (file : List ℕ) (cap count entry : ℕ) → Bytes file → checkOf mode file cap .answer ≡ ok (count, entry)
+      → AcceptedPaths mode file count entry

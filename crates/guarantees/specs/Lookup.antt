@@ -24,6 +24,7 @@ use mathlib.Core.Path.{_≡_}
 use mathlib.Core.List.{List, _∷_, _++_}
 use lib.ListN.{length}
 use Rattle.prelude.specs.Answer.{ok}
+use Rattle.leb128.specs.declared.Mode.{Mode}
 use Rattle.token.specs.Token.{Token}
 use Rattle.values.specs.Values.{Value, bytes, region}
 use Rattle.reader_value.specs.Value.{readOf}
@@ -36,47 +37,47 @@ use Rattle.guarantees.specs.TokenValues.{tokenEnd}
 
 -- ---- on every file
 
-pub record Keyed (file : List ℕ) (q : ℕ) (key : List ℕ) : Type 0 where
+pub record Keyed (mode : Mode) (file : List ℕ) (q : ℕ) (key : List ℕ) : Type 0 where
   pub place : ℕ
   pub hops : ℕ
-  pub follows : followOf file q ≡ ok (place, hops)
+  pub follows : followOf mode file q ≡ ok (place, hops)
   pub first : ℕ
   pub len : ℕ
-  pub text : readOf file place ≡ ok (Text first len)
-  pub body : bodyOf file q ≡ key
+  pub text : readOf mode file place ≡ ok (Text first len)
+  pub body : bodyOf mode file q ≡ key
 
-pub record OtherKey (file : List ℕ) (at j : ℕ) (key : List ℕ) : Type 0 where
+pub record OtherKey (mode : Mode) (file : List ℕ) (at j : ℕ) (key : List ℕ) : Type 0 where
   pub q : ℕ
-  pub here : itemOf file at (2 * j) ≡ ok q
+  pub here : itemOf mode file at (2 * j) ≡ ok q
   pub place : ℕ
   pub hops : ℕ
-  pub follows : followOf file q ≡ ok (place, hops)
-  pub other : Keyed file q key → ⊥
+  pub follows : followOf mode file q ≡ ok (place, hops)
+  pub other : Keyed mode file q key → ⊥
 
-pub record Found (file : List ℕ) (at : ℕ) (key : List ℕ) (x : ℕ) : Type 0 where
+pub record Found (mode : Mode) (file : List ℕ) (at : ℕ) (key : List ℕ) (x : ℕ) : Type 0 where
   pub pairs : ℕ
   pub items : ℕ
   pub first : ℕ
-  pub map : readOf file at ≡ ok (Map pairs items first)
+  pub map : readOf mode file at ≡ ok (Map pairs items first)
   pub i : ℕ
   pub q : ℕ
-  pub here : itemOf file at (2 * i) ≡ ok q
-  pub keyed : Keyed file q key
-  pub value : itemOf file at (2 * i + 1) ≡ ok x
-  pub others : (j : ℕ) → j < i → OtherKey file at j key
+  pub here : itemOf mode file at (2 * i) ≡ ok q
+  pub keyed : Keyed mode file q key
+  pub value : itemOf mode file at (2 * i + 1) ≡ ok x
+  pub others : (j : ℕ) → j < i → OtherKey mode file at j key
 
-pub record Missing (file : List ℕ) (at : ℕ) (key : List ℕ) : Type 0 where
+pub record Missing (mode : Mode) (file : List ℕ) (at : ℕ) (key : List ℕ) : Type 0 where
   pub pairs : ℕ
   pub items : ℕ
   pub first : ℕ
-  pub map : readOf file at ≡ ok (Map pairs items first)
+  pub map : readOf mode file at ≡ ok (Map pairs items first)
   pub end : ℕ
-  pub skips : skipOf file at ≡ ok end
-  pub others : (j : ℕ) → j < pairs → OtherKey file at j key
+  pub skips : skipOf mode file at ≡ ok end
+  pub others : (j : ℕ) → j < pairs → OtherKey mode file at j key
 
-pub record NoMap (file : List ℕ) (at : ℕ) : Type 0 where
+pub record NoMap (mode : Mode) (file : List ℕ) (at : ℕ) : Type 0 where
   pub value : ReadValue
-  pub read : readOf file at ≡ ok value
+  pub read : readOf mode file at ≡ ok value
   pub other : (pairs items first : ℕ) → value ≡ Map pairs items first → ⊥
 
 -- ---- on a well-formed file

@@ -10,6 +10,7 @@ use mathlib.Core.List.{List, _∷_, _++_}
 use lib.ListN.{length, getD}
 use Rattle.prelude.specs.Answer.{Answer, ok, error}
 use Rattle.error.specs.Error.{Fault}
+use Rattle.leb128.specs.declared.Mode.{Mode}
 use Rattle.token.specs.Token.{Token}
 use Rattle.values.specs.Values.{Value, tokens, bytes, region, starts}
 use Rattle.reader_follow.specs.Follow.{followOf}
@@ -25,7 +26,7 @@ pub record TokenAt (vs : List Value) (j q : ℕ) (t : Token) : Type 0 where
   pub tokens : tokens value ≡ front ++ (t ∷ back)
   pub place : q ≡ length (region before) + length (bytes front)
 
-pub record FollowsTo (file : List ℕ) (vs : List Value) (j q : ℕ) : Type 0 where
+pub record FollowsTo (mode : Mode) (file : List ℕ) (vs : List Value) (j q : ℕ) : Type 0 where
   pub before : List Value
   pub value : Value
   pub after : List Value
@@ -34,7 +35,7 @@ pub record FollowsTo (file : List ℕ) (vs : List Value) (j q : ℕ) : Type 0 wh
   pub numbered : length before ≡ number
   pub other : value .head .kind ≡ 15 → ⊥
   pub hops : ℕ
-  pub follows : followOf file q ≡ ok (getD (starts 0 vs) number 0, hops)
+  pub follows : followOf mode file q ≡ ok (getD (starts 0 vs) number 0, hops)
   pub falls : hops + number ≤ j
 
 abbrev pub further : Answer Fault (ℕ × ℕ) → Answer Fault (ℕ × ℕ)

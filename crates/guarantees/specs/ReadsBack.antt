@@ -18,6 +18,7 @@ use lib.ListN.{length}
 use Rattle.prelude.specs.Pick.{pick}
 use Rattle.prelude.specs.Answer.{ok, error}
 use Rattle.error.specs.Error.{fault, NO_ITEM, WRONG_KIND}
+use Rattle.leb128.specs.declared.Mode.{Mode}
 use Rattle.kind.specs.Kind.{rule, immediate}
 use Rattle.values.specs.Values.{tokens, bytes, starts, WellFormed}
 use Rattle.reader_value.specs.Value.{readOf}
@@ -43,28 +44,28 @@ pub record Holds (vs : List ModelValue) (j q : ℕ) (p : Part) : Type 0 where
 unfoldable pub valueOfPart : ℕ → Part → Value
 valueOfPart q p = pick (leb 14 (p .kind)) (pick (eqb (p .kind) 14) (Reference (p .number)) (Pointer (p .number))) (valueOfToken q (formOf q p))
 
-pub record GivesBack (file : List ℕ) (vs : List ModelValue) (entry : ℕ) : Type 0 where
-  pub wellFormed : WellFormed file (valuesAt 0 vs) entry
+pub record GivesBack (mode : Mode) (file : List ℕ) (vs : List ModelValue) (entry : ℕ) : Type 0 where
+  pub wellFormed : WellFormed mode file (valuesAt 0 vs) entry
   -- count, entry and starts
-  pub accepted : (cap : ℕ) → length vs ≤ cap → checkOf file cap ≡ checked (ok (length vs, entry)) (filled cap (starts 0 (valuesAt 0 vs)))
+  pub accepted : (cap : ℕ) → length vs ≤ cap → checkOf mode file cap ≡ checked (ok (length vs, entry)) (filled cap (starts 0 (valuesAt 0 vs)))
   -- kinds, numbers and targets, of values and items
-  pub read : (j q : ℕ) (p : Part) → Holds vs j q p → readOf file q ≡ ok (valueOfPart q p)
+  pub read : (j q : ℕ) (p : Part) → Holds vs j q p → readOf mode file q ≡ ok (valueOfPart q p)
   pub body : (j q : ℕ) (p : Part) → Holds vs j q p → (p .kind ≡ 4) ⊎ (p .kind ≡ 5)
-      → (bodyPlaceOf file q ≡ ok (tokenEnd q (formOf q p) - length (p .body), length (p .body))) × (bodyOf file q ≡ p .body)
+      → (bodyPlaceOf mode file q ≡ ok (tokenEnd q (formOf q p) - length (p .body), length (p .body))) × (bodyOf mode file q ≡ p .body)
   -- where a value ends; where its items start, that there are no more, and that an immediate has none
   pub skip : (a : List ModelValue) (v : ModelValue) (b : List ModelValue) → vs ≡ a ++ (v ∷ b)
-      → skipOf file (endOf a) ≡ ok (endOf a + length (bytes (tokens (valueAt (endOf a) v))))
+      → skipOf mode file (endOf a) ≡ ok (endOf a + length (bytes (tokens (valueAt (endOf a) v))))
   pub item : (a : List ModelValue) (v : ModelValue) (b : List ModelValue) → vs ≡ a ++ (v ∷ b)
       → (is : List Part) (p : Part) (js : List Part) → v .items ≡ is ++ (p ∷ js)
-      → itemOf file (endOf a) (length is) ≡ ok (endOf a + length (bytes (formsOf (endOf a) (v .head ∷ is))))
+      → itemOf mode file (endOf a) (length is) ≡ ok (endOf a + length (bytes (formsOf (endOf a) (v .head ∷ is))))
   pub none : (a : List ModelValue) (v : ModelValue) (b : List ModelValue) → vs ≡ a ++ (v ∷ b) → immediate (rule (v .head .kind)) ≡ false
-      → (i : ℕ) → length (v .items) ≤ i → itemOf file (endOf a) i ≡ error (fault NO_ITEM (endOf a))
+      → (i : ℕ) → length (v .items) ≤ i → itemOf mode file (endOf a) i ≡ error (fault NO_ITEM (endOf a))
   pub flat : (a : List ModelValue) (v : ModelValue) (b : List ModelValue) → vs ≡ a ++ (v ∷ b) → immediate (rule (v .head .kind)) ≡ true
-      → (i : ℕ) → itemOf file (endOf a) i ≡ error (fault WRONG_KIND (endOf a))
+      → (i : ℕ) → itemOf mode file (endOf a) i ≡ error (fault WRONG_KIND (endOf a))
 
-pub record ReadsBack (b : Model) (e : ℕ) (c : Model) (file : List ℕ) : Type 0 where
+pub record ReadsBack (mode : Mode) (b : Model) (e : ℕ) (c : Model) (file : List ℕ) : Type 0 where
   -- the delta byte reaches back to the value at e, which is the entry
-  pub near : backTo e b ≤ 255 → (c .finished ≡ b .finished) × GivesBack file (c .finished) e
+  pub near : backTo e b ≤ 255 → (c .finished ≡ b .finished) × GivesBack mode file (c .finished) e
   -- a pointer to it comes last, and is the entry
   pub far : 255 < backTo e b
-      → (c .finished ≡ b .finished ++ (modelValue (part 15 e 0 []) [] ∷ [])) × GivesBack file (c .finished) (length (modelBytes b))
+      → (c .finished ≡ b .finished ++ (modelValue (part 15 e 0 []) [] ∷ [])) × GivesBack mode file (c .finished) (length (modelBytes b))

@@ -10,7 +10,7 @@
 --   callOfValue v s  the call that writes again a value that the reader returned as v, with the body s if it is a text
 --                    or byte string: what the reader returns is enough
 --   Rewritten file entry out table
---                    the file has values; a new writer accepts each call that writes them again in order, and the close
+--                    the file has values, with every number in its shortest form; a new writer accepts each call that writes them again in order, and the close
 --                    at the entry; it has then written as many bytes as the file has, and they are the file, and what it has listed are
 --                    the values' starts; each call but the close is made from what the reader returns there
 use Prim.Native.Nat.{ℕ, _+_, _-_}
@@ -22,6 +22,8 @@ use lib.ListN.{length, take, getD}
 use Rattle.prelude.specs.Pick.{pick}
 use Rattle.prelude.specs.Answer.{ok, bind}
 use Rattle.prelude.specs.Each.{Each}
+use Rattle.leb128.specs.declared.Mode.{Mode}
+use Rattle.leb128.specs.declared.Mode.the-variants.{Strict}
 use Rattle.little_endian.specs.LittleEndian.{fromLittle}
 use Rattle.token.specs.Token.{Token, emit}
 use Rattle.values.specs.Values.{Value, tokens, bytes, starts, WellFormed}
@@ -93,11 +95,12 @@ callOfValue (Pointer x) s = pointer x
 
 pub record Rewritten (file : List ℕ) (entry : ℕ) (out table : List ℕ) : Type 0 where
   pub values : List Value
-  pub wellFormed : WellFormed file values entry
+  pub wellFormed : WellFormed Strict file values entry
   pub given : Each Given (rewriting values entry)
   pub accepted : AllOk (runs (rewriting values entry) fresh out table .answers)
   pub written : runs (rewriting values entry) fresh out table .writer .written ≡ length file
   pub same : let r = runs (rewriting values entry) fresh out table in take (r .writer .written) (r .out) ≡ file
   pub listed : let r = runs (rewriting values entry) fresh out table in take (r .writer .count) (r .table) ≡ starts 0 values
-  -- each call is made from what the reader returns for the value or item
-  pub read : (j q : ℕ) (t : Token) → TokenAt values j q t → bind (readOf file q) (λ v. ok (callOfValue v (bodyOf file q))) ≡ ok (callOf q t)
+  -- each call is made from what the reader returns, in either mode, for the value or item
+  pub read : (mode : Mode) (j q : ℕ) (t : Token) → TokenAt values j q t
+      → bind (readOf mode file q) (λ v. ok (callOfValue v (bodyOf mode file q))) ≡ ok (callOf q t)

@@ -4,10 +4,10 @@
 --   Query            check and depths, each with tables of four words; an item of the value at an offset; the value at an offset; where it ends; the
 --                    value of a key in the map at an offset; the body at an offset
 --   SampleAnswer     check's answer and table, and the depths; an offset; a value; a first offset and a length
---   sampleAnswer file q
+--   sampleAnswer mode file q
 --                    the answer by the definitions that the contracts cite
 --   refused f place  check's error f at `place`, which leaves zeros
---   Answered xs      the definitions give each sample of the list xs its answer
+--   Answered mode xs the definitions give each sample of the list xs its answer
 --   samples          the list
 --   endSamples       W-201: what goes past the region's end, or just reaches it, by the readings of docs/READINGS.md. In order: lengths, the item's among
 --                    them, and before BAD_TEXT (D1, D3, A10); counts of items, pairs and arguments, and one pair that fits (A8, A9, D1); a number, a float
@@ -15,19 +15,25 @@
 --   textSamples      W-202: its surrogate; both sides of each border: 7FF in three bytes and 800; D7FF, DFFF and E000; FFFF in four bytes and 10000; 10FFFF
 --                    and 110000; the ends of the other ranges; bytes that begin no character, and document 01's `42 c3 28 02`; a character that is cut by
 --                    the body's end (E2); a surrogate as an item, at its own header; queries, which do not look at a text's bytes (E1)
+--   paddedSamples    W-203: files with numbers in more bytes than they need, as the tolerant mode answers. In order: `1f 80 00 02`; ten bytes, the tenth 0
+--                    (A2); both numbers of a variant of many, and the second alone; a length of five bytes, and its body; a pointer of five bytes, its
+--                    target and depth; a lookup that follows such a pointer
+--   overlongSamples  the same files in the strict mode: OVERLONG, at the header with the number
+--   rangeSamples     W-203, "ten bytes and RANGE stay": the tenth byte 1, 2 and 80, and eleven bytes, in both modes
 --   TextCall         bytes, and the answer to them as a text
 --   textAnswer c     what a new writer answers, with an output of eight bytes and a table of one word
 --   textCalls        W-202: the same borders
-use Prim.Native.Nat.{ℕ, _-_, _^_}
+use Prim.Native.Nat.{ℕ, _+_, _-_, _^_}
 use mathlib.Core.Path.{_≡_}
 use mathlib.Core.List.{List, [], _∷_, _++_, map}
-use lib.IntN.{negsuc}
+use lib.IntN.{pos, negsuc}
 use lib.ListN.{replicate}
 use Rattle.prelude.specs.Answer.{Answer, ok, error}
 use Rattle.error.specs.Error.{Fault, fault, EMPTY, TRUNC, OVERLONG, RANGE, NESTED, BAD_TEXT, BAD_TARGET, BAD_ENTRY, NO_ITEM, LONG_BODY, LONG_LIST}
+use Rattle.leb128.specs.declared.Mode.{Mode}
 use Rattle.reader_value.specs.Value.{readOf}
 use Rattle.reader_value.specs.declared.Value.{Value}
-use Rattle.reader_value.specs.declared.Value.the-variants.{Integer, Text}
+use Rattle.reader_value.specs.declared.Value.the-variants.{Integer, Text, VariantN}
 use Rattle.reader_items.specs.Items.{skipOf, itemOf}
 use Rattle.reader_body.specs.Body.{bodyPlaceOf}
 use Rattle.reader_lookup.specs.Lookup.{lookupOf}
@@ -50,13 +56,13 @@ pub data SampleAnswer : Type 0 where
   value : Answer Fault Value → SampleAnswer
   part : Answer Fault (ℕ × ℕ) → SampleAnswer
 
-unfoldable pub sampleAnswer : List ℕ → Query → SampleAnswer
-sampleAnswer file check = table (checkOf file 4) (depthsOf file 4 4 .depths)
-sampleAnswer file (item at i) = offset (itemOf file at i)
-sampleAnswer file (read at) = value (readOf file at)
-sampleAnswer file (skip at) = offset (skipOf file at)
-sampleAnswer file (lookup at key) = offset (lookupOf file at key)
-sampleAnswer file (body at) = part (bodyPlaceOf file at)
+unfoldable pub sampleAnswer : Mode → List ℕ → Query → SampleAnswer
+sampleAnswer mode file check = table (checkOf mode file 4) (depthsOf mode file 4 4 .depths)
+sampleAnswer mode file (item at i) = offset (itemOf mode file at i)
+sampleAnswer mode file (read at) = value (readOf mode file at)
+sampleAnswer mode file (skip at) = offset (skipOf mode file at)
+sampleAnswer mode file (lookup at key) = offset (lookupOf mode file at key)
+sampleAnswer mode file (body at) = part (bodyPlaceOf mode file at)
 
 abbrev refused : ℕ → ℕ → SampleAnswer
 refused f place = table (checked (error (fault f place)) (replicate 4 0)) (replicate 4 0)
@@ -64,8 +70,8 @@ refused f place = table (checked (error (fault f place)) (replicate 4 0)) (repli
 abbrev Sample : Type 0
 Sample = (List ℕ) × Query × SampleAnswer
 
-abbrev pub Answered : List Sample → Type 0
-Answered xs = map (λ (x : Sample). sampleAnswer (x .0) (x .1)) xs ≡ map (λ (x : Sample). x .2) xs
+abbrev pub Answered : Mode → List Sample → Type 0
+Answered mode xs = map (λ (x : Sample). sampleAnswer mode (x .0) (x .1)) xs ≡ map (λ (x : Sample). x .2) xs
 
 abbrev pub samples : List Sample
 samples =
@@ -155,6 +161,64 @@ textSamples =
     ∷ (0x43 ∷ 0xed ∷ 0xa0 ∷ 0x80 ∷ 0x03 ∷ [], skip 0, offset (ok 4))
     ∷ (0x43 ∷ 0xed ∷ 0xa0 ∷ 0x80 ∷ 0x03 ∷ [], body 0, part (ok (1, 3)))
     ∷ (0x71 ∷ 0x43 ∷ 0xed ∷ 0xa0 ∷ 0x80 ∷ 0x10 ∷ 0x00 ∷ [], lookup 0 (0xed ∷ 0xa0 ∷ 0x80 ∷ []), offset (ok 5))
+    ∷ []
+
+-- the number v, below 128, in five bytes
+abbrev five : ℕ → List ℕ
+five v = (v + 128) ∷ (replicate 3 0x80 ++ (0x00 ∷ []))
+
+-- a text of 15 bytes with its length in five, 21 bytes in all
+abbrev label : List ℕ
+label = 0x4f ∷ (five 0 ++ replicate 15 0x61)
+
+-- nine continuation bytes and a tenth
+abbrev ten : ℕ → List ℕ
+ten last = replicate 9 0x80 ++ (last ∷ [])
+
+-- a text "a"; a label; a map at 23 whose key, at 24, is a pointer of five bytes to the text, and whose value, at 30, is 0
+abbrev keyed : List ℕ
+keyed = 0x41 ∷ 0x61 ∷ (label ++ (0x71 ∷ 0xff ∷ (five 8 ++ (0x10 ∷ 0x07 ∷ []))))
+
+abbrev pub paddedSamples : List Sample
+paddedSamples =
+    (0x1f ∷ 0x80 ∷ 0x00 ∷ 0x02 ∷ [], check, one)
+    ∷ (0x1f ∷ 0x80 ∷ 0x00 ∷ 0x02 ∷ [], read 0, value (ok (Integer (pos 15))))
+    ∷ (0x1f ∷ (ten 0x00 ++ (0x0a ∷ [])), check, one)
+    ∷ (0x1f ∷ (ten 0x00 ++ (0x0a ∷ [])), read 0, value (ok (Integer (pos 15))))
+    ∷ (0xcf ∷ 0x80 ∷ 0x00 ∷ 0x81 ∷ 0x00 ∷ 0x10 ∷ 0x05 ∷ [], check, one)
+    ∷ (0xcf ∷ 0x80 ∷ 0x00 ∷ 0x81 ∷ 0x00 ∷ 0x10 ∷ 0x05 ∷ [], read 0, value (ok (VariantN 15 1 5)))
+    ∷ (0xc0 ∷ 0x81 ∷ 0x00 ∷ 0x10 ∷ 0x03 ∷ [], check, one)
+    ∷ (0xc0 ∷ 0x81 ∷ 0x00 ∷ 0x10 ∷ 0x03 ∷ [], item 0 0, offset (ok 3))
+    ∷ (label ++ (0x14 ∷ []), check, one)
+    ∷ (label ++ (0x14 ∷ []), skip 0, offset (ok 21))
+    ∷ (label ++ (0x14 ∷ []), body 0, part (ok (6, 15)))
+    ∷ (label ++ (0xff ∷ (five 5 ++ (0x05 ∷ []))), check, table (checked (ok (2, 21)) (0 ∷ 21 ∷ 0 ∷ 0 ∷ [])) (1 ∷ 2 ∷ 0 ∷ 0 ∷ []))
+    ∷ (label ++ (0xff ∷ (five 6 ++ (0x05 ∷ []))), check, refused BAD_TARGET 21)
+    ∷ (keyed, check, table (checked (ok (3, 23)) (0 ∷ 2 ∷ 23 ∷ 0 ∷ [])) (1 ∷ 1 ∷ 2 ∷ 0 ∷ []))
+    ∷ (keyed, lookup 23 (0x61 ∷ []), offset (ok 30))
+    ∷ []
+
+abbrev pub overlongSamples : List Sample
+overlongSamples =
+    (0x1f ∷ 0x80 ∷ 0x00 ∷ 0x02 ∷ [], check, refused OVERLONG 0)
+    ∷ (0x1f ∷ 0x80 ∷ 0x00 ∷ 0x02 ∷ [], read 0, value (error (fault OVERLONG 0)))
+    ∷ (0x1f ∷ (ten 0x00 ++ (0x0a ∷ [])), check, refused OVERLONG 0)
+    ∷ (0xcf ∷ 0x80 ∷ 0x00 ∷ 0x81 ∷ 0x00 ∷ 0x10 ∷ 0x05 ∷ [], check, refused OVERLONG 0)
+    ∷ (0xc0 ∷ 0x81 ∷ 0x00 ∷ 0x10 ∷ 0x03 ∷ [], check, refused OVERLONG 0)
+    ∷ (0xc0 ∷ 0x81 ∷ 0x00 ∷ 0x10 ∷ 0x03 ∷ [], item 0 0, offset (error (fault OVERLONG 0)))
+    ∷ (label ++ (0x14 ∷ []), skip 0, offset (error (fault OVERLONG 0)))
+    ∷ (label ++ (0x14 ∷ []), body 0, part (error (fault OVERLONG 0)))
+    ∷ (keyed, check, refused OVERLONG 2)
+    ∷ (keyed, lookup 23 (0x61 ∷ []), offset (error (fault OVERLONG 24)))
+    ∷ []
+
+abbrev pub rangeSamples : List Sample
+rangeSamples =
+    (0x1f ∷ (ten 0x01 ++ (0x0a ∷ [])), check, refused RANGE 0)
+    ∷ (0x8f ∷ (ten 0x01 ++ (0x10 ∷ 0x0b ∷ [])), check, one)
+    ∷ (0x8f ∷ (ten 0x02 ++ (0x10 ∷ 0x0b ∷ [])), check, refused RANGE 0)
+    ∷ (0x8f ∷ (ten 0x80 ++ (0x00 ∷ 0x10 ∷ 0x0c ∷ [])), check, refused RANGE 0)
+    ∷ (0xc0 ∷ (ten 0x02 ++ (0x10 ∷ 0x0b ∷ [])), check, refused RANGE 0)
     ∷ []
 
 abbrev pub TextCall : Type 0

@@ -8,12 +8,13 @@
 --                      the reference or pointer p, a part of value number j, is written at q. It names a value before that one: the offset that
 --                      was handed in is the word of the table at that value's index
 --   FormedSoFar s out table vs
---                      the finished values vs are values that a file may begin with; the output begins with their bytes, and the words listed
---                      are their starts
+--                      the finished values vs are values that a file may begin with, with every number in its shortest form; the output begins
+--                      with their bytes, and the words listed are their starts
 use Prim.Native.Nat.{ℕ, _≤_, _<_}
 use mathlib.Core.Path.{_≡_}
 use mathlib.Core.List.{List}
 use lib.ListN.{length, take, drop, getD}
+use Rattle.leb128.specs.declared.Mode.the-variants.{Strict}
 use Rattle.token.specs.Token.{emit}
 use Rattle.values.specs.Values.{Value, region, starts, Values}
 use Rattle.writer_refusal.specs.declared.State.{State}
@@ -34,7 +35,7 @@ pub record Names (s : State) (out table : List ℕ) (j q : ℕ) (p : Part) : Typ
   pub below : p .number < q
 
 pub record FormedSoFar (s : State) (out table : List ℕ) (vs : List Value) : Type 0 where
-  pub formed : Values vs
+  pub formed : Values Strict vs
   pub within : length (region vs) ≤ s .written
   pub bytes : take (length (region vs)) out ≡ region vs
   pub listed : take (s .count) table ≡ starts 0 vs

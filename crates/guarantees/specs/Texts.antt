@@ -12,14 +12,15 @@ use Rattle.values.specs.Values.{Value}
 use Rattle.reader_body.specs.Body.{bodyOf}
 use Rattle.guarantees_faults.specs.Faults.{Whole}
 use Rattle.guarantees.specs.Places.{TokenAt}
+use Rattle.leb128.specs.declared.Mode.{Mode}
 
-pub record NotUtf8 (s : List ℕ) (inner : Bool) (q : ℕ) : Type 0 where
+pub record NotUtf8 (mode : Mode) (s : List ℕ) (inner : Bool) (q : ℕ) : Type 0 where
   pub header : ℕ
   pub number : ℕ
   pub body : List ℕ
-  pub whole : Whole s inner q header number body
+  pub whole : Whole mode s inner q header number body
   pub text : header / 16 ≡ 4
   pub not : Utf8 body → ⊥
 
-abbrev pub TextsUtf8 : List ℕ → List Value → Type 0
-TextsUtf8 file vs = (j q : ℕ) (t : Token) → TokenAt vs j q t → t .kind ≡ 4 → Utf8 (t .body) × (bodyOf file q ≡ t .body)
+abbrev pub TextsUtf8 : Mode → List ℕ → List Value → Type 0
+TextsUtf8 mode file vs = (j q : ℕ) (t : Token) → TokenAt vs j q t → t .kind ≡ 4 → Utf8 (t .body) × (bodyOf mode file q ≡ t .body)
