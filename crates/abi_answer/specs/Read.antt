@@ -8,7 +8,8 @@
 --                      body's bytes or the items. Kinds 9 and 13 are reserved and never read
 --   rowOf file at h    the row of its kind
 --   headC file at a    the four words for a head; or the error's number, and its place and zeros
---   readC file at      the same for the value at an offset of a file
+--   readC mode file at
+--                      the same for the value at an offset of a file
 --   wordOf z           an integer as a word, in two's complement
 --   wordsC after r     the four words by a value's row (`ValueRow`); after is the offset just after the numbers, for a row
 --                      that does not have it

@@ -1,11 +1,13 @@
 -- Check (document 01, "Check and depths"): the walk over the region, then the entry.
 --
 --   entryAt p d done      the entry that the delta byte d at offset p names, or BAD_ENTRY
---   checkIn file cap      for a table of cap words, the starts of a file's values and its entry; or the first fault
+--   checkIn mode file cap
+--                         for a table of cap words, the starts of a file's values and its entry; or the first fault
 --   Checked, checked a t  an answer, and the table that it comes with
 --   filled cap ws         a table of cap words: ws at the front, and zeros after them
 --   listed cap a          answer and table for the outcome a of `checkIn`
---   checkOf file cap      what check answers and leaves in a table of cap words: count and entry, with the starts and
+--   checkOf mode file cap
+--                         what check answers and leaves in a table of cap words: count and entry, with the starts and
 --                         then zeros; or the first fault, with zeros only
 use Prim.Native.Nat.{ℕ, _-_}
 use mathlib.Core.Bool.{_&&_}

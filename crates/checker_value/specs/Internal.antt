@@ -3,12 +3,12 @@
 --   inValue at start pending done
 --                     the walk at `at`, in the value that begins at `start`, with that many items pending; after the
 --                     value if none is
---   rest r s cap done start
+--   rest mode r s cap done start
 --                     the result of the walk, if the `ValueResult` r reports the end of that value, or an error in it
 --   Ends r at n       the end that r reports is at least `at` and at most n
---   ChecksItems r s done at items
+--   ChecksItems mode r s done at items
 --                     r reports what the walk finds in that many items of a value, from `at` on
---   ChecksValue r s done at
+--   ChecksValue mode r s done at
 --                     the same for a whole value, if the table has a word for it
 use mathlib.Core.Path.{_≡_}
 use Prim.Native.Nat.{ℕ, _+_, _≤_, _<_}

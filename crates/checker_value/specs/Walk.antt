@@ -7,13 +7,14 @@
 --   Walk               where the walk is: the offset, the start of the value it is in, the items pending there, and the
 --                      starts of the values before it
 --   between at done    the walk between two values, at `at`
---   nextToken s cap done pending at
+--   nextToken mode s cap done pending at
 --                      the token at `at`, with that many items pending and a table of cap words: FULL for a new value,
 --                      then the token's own faults in their order
 --   walkAfter w h      the walk after a token with head h: a value's start is listed once none of its items is pending
 --   walkTurned w a     the turn at w, if `nextToken` answered a
---   walkTurn s cap w   one turn: at the region's end between two values, the starts; else a token
---   startsFrom s cap w
+--   walkTurn mode s cap w
+--                      one turn: at the region's end between two values, the starts; else a token
+--   startsFrom mode s cap w
 --                      the starts of a region's values, or the first fault; the walk goes on from w
 use Prim.Native.Nat.{ℕ, _-_}
 use mathlib.Core.Bool.{Bool, not, _&&_}

@@ -2,8 +2,9 @@
 --
 --   Deepened, deepened a t d   an answer, and the tables of starts and depths that it comes with
 --   depthsRefused cap room e   the error e, and zeros in both tables
---   deepen s cap room a        the depths of the values of the region s, for the outcome a of `checkIn`
---   depthsOf file cap room     what depths answers and leaves in tables of cap and room words: check's errors first;
+--   deepen mode s cap room a   the depths of the values of the region s, for the outcome a of `checkIn`
+--   depthsOf mode file cap room
+--                              what depths answers and leaves in tables of cap and room words: check's errors first;
 --                              then FULL at the first value without a word in the second table; else check's answer,
 --                              with the starts and the depths, each followed by zeros
 use Prim.Native.Nat.{ℕ, _-_}

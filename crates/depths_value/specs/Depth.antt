@@ -5,12 +5,15 @@
 --   DepthState, depthState at deep
 --                              an offset, and the greatest depth so far
 --   depthTurned ss ds w a      the turn at w, if the token there was scanned with the answer a
---   depthTurn s ss ds end w    one turn: a token that starts before `end`; the state keeps the greatest depth of a target
---   deepestFrom s ss ds end w  the greatest depth of a target of the tokens of the region s, from the state w on up to
+--   depthTurn mode s ss ds end w
+--                              one turn: a token that starts before `end`; the state keeps the greatest depth of a target
+--   deepestFrom mode s ss ds end w
+--                              the greatest depth of a target of the tokens of the region s, from the state w on up to
 --                              `end`; a token that does not scan ends it, which no accepted file has
---   deepestIn s ss ds end at   the same from the offset `at` on
---   depthAt s ss ds i          the depth of value number i: one more than the greatest depth of its targets
---   depthsTo s ss k            the depths of the first k values
+--   deepestIn mode s ss ds end at
+--                              the same from the offset `at` on
+--   depthAt mode s ss ds i     the depth of value number i: one more than the greatest depth of its targets
+--   depthsTo mode s ss k       the depths of the first k values
 use Prim.Native.Nat.{ℕ, zero, suc, _-_, max}
 use mathlib.Core.Bool.{false, _&&_}
 use mathlib.Core.List.{List, [], _∷_, _++_}

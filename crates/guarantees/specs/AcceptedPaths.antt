@@ -1,6 +1,6 @@
 -- What holds for the paths in a file that check accepts (demand 3, last sentence; document 01, "Check and depths", "Questions at an offset").
 --
---   AcceptedPaths file count entry
+--   AcceptedPaths mode file count entry
 --                the file has `count` values; no path from one of them meets a value twice, since the numbers of the values met fall; depths,
 --                with words enough in both tables, accepts the file, and leaves the starts, and one depth a value; a value's depth is the number
 --                of values on the longest path from it; and following from value number j leads, by at most j hops, to a value that is

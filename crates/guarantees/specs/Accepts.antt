@@ -1,9 +1,9 @@
 -- What check's answers mean, in terms of values (document 01, "Row of a file", "Check and depths").
 --
---   Accepted file cap count entry table
+--   Accepted mode file cap count entry table
 --                      the file is well formed, with `count` values and the entry `entry`; a table of cap words has a
 --                      word for each value, and becomes `table`: their starts, and zeros after them
---   Overfull file cap p
+--   Overfull mode file cap p
 --                      the first p bytes of the file are cap values that a file may begin with, and the region goes on
 --                      at p: with one value more than there are words
 use Prim.Native.Nat.{ℕ, _-_, _≤_, _<_}

@@ -3,7 +3,7 @@
 --
 --   Numbered       each call, on any input, gives no other errors than those of its list in Errors.antt
 --   Demand1        any input gets an answer
---   ReportsValues file vs
+--   ReportsValues mode file vs
 --                  of a well-formed file with the values vs the queries return what the Twine pages say
 --   Demand2        exactly the well-formed files, their values, and written again
 --   AfterCalls cs out table

@@ -1,12 +1,17 @@
 -- Which errors each call can give (document 01, "Numbers of refusal", "Check and depths", "Questions at an offset", "Writer"; document 02, W-201 and
 -- W-203), by their numbers. Each list has OVERLONG in the strict mode alone.
 --
---   checkErrors    check and depths: 1 to 11, 19 and 20
---   readErrors     reading and following: of the file and the offset, of a token that is read as a value of its own, so not NESTED, and BAD_TARGET of
+--   checkErrors mode
+--                  check and depths: 1 to 11, 19 and 20
+--   readErrors mode
+--                  reading and following: of the file and the offset, of a token that is read as a value of its own, so not NESTED, and BAD_TARGET of
 --                  a target below 0. Text bytes are not looked at
---   skipErrors     skipping: also NESTED, of an item
---   itemErrors     item access and lookup: also NO_ITEM and WRONG_KIND
---   bodyErrors     bodies: those of following, and WRONG_KIND
+--   skipErrors mode
+--                  skipping: also NESTED, of an item
+--   itemErrors mode
+--                  item access and lookup: also NO_ITEM and WRONG_KIND
+--   bodyErrors mode
+--                  bodies: those of following, and WRONG_KIND
 use Prim.Native.Nat.{ℕ}
 use mathlib.Core.List.{List, [], _∷_, _++_}
 use Rattle.error.specs.Error.{EMPTY, TOO_LONG, TRUNC, RESERVED, RANGE, NESTED, BAD_TEXT, BAD_TARGET, FULL, BAD_ENTRY, OUTSIDE, NO_ITEM}

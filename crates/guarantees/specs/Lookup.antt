@@ -2,14 +2,17 @@
 --
 -- On every file, by the other queries:
 --
---   Keyed file q key     following from q leads to a text, and its body is `key`. So a byte string is not a key, nor is a reference, which is not
+--   Keyed mode file q key
+--                        following from q leads to a text, and its body is `key`. So a byte string is not a key, nor is a reference, which is not
 --                        followed
---   OtherKey file at j key
+--   OtherKey mode file at j key
 --                        item 2j of the map at `at` is there, is followed without fault, and is not the key
---   Found file at key x  the value at `at` reads as a map; item 2i of it is the key for some i, item 2i + 1 is at x, and each earlier key is an
+--   Found mode file at key x
+--                        the value at `at` reads as a map; item 2i of it is the key for some i, item 2i + 1 is at x, and each earlier key is an
 --                        `OtherKey`
---   Missing file at key  the value at `at` reads as a map and is skipped without fault, and each key of it is an `OtherKey`
---   NoMap file at        the value at `at` reads, and is not a map
+--   Missing mode file at key
+--                        the value at `at` reads as a map and is skipped without fault, and each key of it is an `OtherKey`
+--   NoMap mode file at   the value at `at` reads, and is not a map
 --
 -- On a well-formed file, by its values:
 --

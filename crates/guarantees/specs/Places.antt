@@ -1,7 +1,8 @@
 -- The tokens of a file's values by their place, and where following leads.
 --
 --   TokenAt vs j q t       t is a token of value number j of the values vs, its head or an item, and its header is at q
---   FollowsTo file vs j q  following from q reaches the start of value number `number`, which is not a pointer; `hops`
+--   FollowsTo mode file vs j q
+--                          following from q reaches the start of value number `number`, which is not a pointer; `hops`
 --                          and `number` add up to at most j
 --   further a              the answer a of following, with one hop more
 use Prim.Native.Nat.{ℕ, _+_, _≤_}

@@ -2,10 +2,10 @@
 --
 --   Holds vs j q p     p is a part of value number j of the values vs, its head or an item, and its header is at q
 --   valueOfPart q p    what reading must return for p at q; for a reference or pointer, the offset that was handed in
---   GivesBack file vs entry
+--   GivesBack mode file vs entry
 --                      the file is well formed, with the values vs; check, given enough words, accepts it, with their
 --                      starts and this entry; reading, items and bodies return the values vs
---   ReadsBack b e c file
+--   ReadsBack mode b e c file
 --                      the model was b before it was closed at e, and is c after that: c's values are b's, and the
 --                      pointer if one was needed; the file gives them back, with the entry that document 01 asks for
 use Prim.Native.Nat.{ℕ, _+_, _-_, _≤_, _<_}

@@ -1,16 +1,18 @@
 -- What the refusals of check and depths mean (document 01, "Numbers of refusal"; document 02, W-201); FULL also has a statement of its own, `Overfull`.
 --
---   Unnamed file cap p   BAD_ENTRY: all else is well formed, but the delta byte, at p, does not name the start of a value
---   Begun cap len vs t is k
+--   Unnamed mode file cap p
+--                        BAD_ENTRY: all else is well formed, but the delta byte, at p, does not name the start of a value
+--   Begun mode cap len vs t is k
 --                        after the values vs, in a region of len bytes, a value is open: its head t and its items so
 --                        far, `is`, are allowed there, and k items are missing
---   Open cap len vs ts k
+--   Open mode cap len vs ts k
 --                        the tokens ts after the values vs are such an open value; or there are none, and no item is missing
---   Faulty file cap p f  a fault of the walk: all before p is well formed, finished values and an open one as far as it
+--   Faulty mode file cap p f
+--                        a fault of the walk: all before p is well formed, finished values and an open one as far as it
 --                        got; the token that is wanted at p is refused with f
---   RefusedCheck file cap f
+--   RefusedCheck mode file cap f
 --                        check refuses the file with f, number and place, with a table of cap words
---   RefusedDepths file cap room f
+--   RefusedDepths mode file cap room f
 --                        so does depths, with a second table of room words
 use Prim.Native.Nat.{ℕ, _+_, _-_, _≤_, _<_}
 use mathlib.Core.Path.{_≡_}

@@ -1,7 +1,9 @@
 -- Text is UTF-8 (document 02, W-202), over files.
 --
---   NotUtf8 s inner q     at q of the region s, as an item if `inner`, is a whole text whose bytes are not UTF-8
---   TextsUtf8 file vs     each text among the values vs of the file and their items is UTF-8, and the body query hands it back
+--   NotUtf8 mode s inner q
+--                         at q of the region s, as an item if `inner`, is a whole text whose bytes are not UTF-8
+--   TextsUtf8 mode file vs
+--                         each text among the values vs of the file and their items is UTF-8, and the body query hands it back
 use Prim.Native.Nat.{ℕ, _/_}
 use mathlib.Core.Path.{_≡_}
 use mathlib.Core.Bool.{Bool}

@@ -1,5 +1,5 @@
--- What a query answers, and what it is refused for (document 01, "Questions at an offset"; document 02, W-201), by the bytes and the kind table alone;
--- nothing here reads.
+-- What a query answers, and what it is refused for (document 01, "Questions at an offset"; document 02, W-201 and W-203), by the bytes and the kind
+-- table alone; nothing here reads.
 --
 -- "All work on unchecked files: EMPTY, TOO_LONG, OUTSIDE, the order above, then WRONG_KIND". As in specs/Faults.antt a row says its own fault f, number
 -- and place, and that no row above it applies.
@@ -10,7 +10,7 @@
 --   RefusedQuery file at P f
 --                        it is refused: EMPTY, TOO_LONG, OUTSIDE, or as P says of the region
 --
--- The others are about an offset q of a region s.
+-- The others are about an offset q of a region s, whose numbers are read in `mode`.
 --
 --   Read inner q         the token at q is read, as an item if `inner` is true: its body, its kind and n, how many items it has, the offset after its
 --                        numbers, which is the body's first, and its end, the offset after the body

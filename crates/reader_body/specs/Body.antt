@@ -2,10 +2,12 @@
 --
 --   bodyPlaceOn at h     first offset and length of the body of the value at `at` with head h; WRONG_KIND if it is
 --                        neither a text nor a byte string
---   bodyPlaceIn s at     the same for the value that `at` leads to, in a region
---   bodyPlaceOf file at  the same in a file; it begins with `inRegion`: EMPTY, TOO_LONG, OUTSIDE
+--   bodyPlaceIn mode s at
+--                        the same for the value that `at` leads to, in a region
+--   bodyPlaceOf mode file at
+--                        the same in a file; it begins with `inRegion`: EMPTY, TOO_LONG, OUTSIDE
 --   bodyPart file a      the bytes at such a place; none on an error
---   bodyOf file at       the bytes of the body that `at` leads to; none on an error
+--   bodyOf mode file at  the bytes of the body that `at` leads to; none on an error
 --   Placed whole a part  a part of a file starts at such a place, and the empty part of an error where the file starts:
 --                        `whole` and `part` are where file and part start in memory, a block and an offset in it
 use Prim.Native.Nat.{ℕ, _+_, _-_}

@@ -5,9 +5,11 @@
 --   Position, position at hops
 --                       an offset, and the pointers met before it
 --   followTurned p a    the turn at p, if the token there was looked at with the answer a
---   followTurn s p      one turn: a pointer leads on to its target; a value of another kind is the answer
---   followFrom s p      from the position p, from pointer to pointer to a value of another kind
---   followHeadOf file at
+--   followTurn mode s p
+--                       one turn: a pointer leads on to its target; a value of another kind is the answer
+--   followFrom mode s p
+--                       from the position p, from pointer to pointer to a value of another kind
+--   followHeadOf mode file at
 --                       the same from any offset of a file; it begins with `inRegion`: EMPTY, TOO_LONG, OUTSIDE
 --   followIn, followOf  the same from an offset of a region, and of a file: offset and hops
 use Prim.Native.Nat.{ℕ, _+_, _-_}

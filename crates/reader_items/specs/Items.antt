@@ -1,10 +1,12 @@
 -- The end of a value, and its items (document 01, "Questions at an offset"), in unchecked files. Each query begins with
 -- `inRegion`: EMPTY, TOO_LONG, OUTSIDE.
 --
---   skipItems s k at    the offset after k items from `at` on, each looked at
+--   skipItems mode s k at
+--                       the offset after k items from `at` on, each looked at
 --   skipIn, skipOf      where the value at an offset of a region, and of a file, ends; its items are looked at
 --   startsIn len q      the offset q, where an item is to start in a region of len bytes; TRUNC if that is the region's end
---   itemOn s at i h     the offset of item i of the value at `at` with head h: WRONG_KIND for a kind without items,
+--   itemOn mode s at i h
+--                       the offset of item i of the value at `at` with head h: WRONG_KIND for a kind without items,
 --                       NO_ITEM, the faults of the items before it, and TRUNC if it would start at the region's end
 --   itemIn, itemOf      the same for the value at an offset of a region, and of a file
 use Prim.Native.Nat.{ℕ, zero, suc}

@@ -1,9 +1,11 @@
 -- What this crate's private functions return. No public contract cites this file.
 --
 --   orStop a f          f applied to a's value, or a stop with a's error
---   matchKey s key q h  the rest of a pair whose key, followed, has the head h, and whose value starts at q: the key is
+--   matchKey mode s key q h
+--                       the rest of a pair whose key, followed, has the head h, and whose value starts at q: the key is
 --                       compared with `key`; if it differs, the value is looked at
---   pairAt s key q      one pair of a map, from q on: where the next one starts, or the answer; the key is looked at and followed
+--   pairAt mode s key q
+--                       one pair of a map, from q on: where the next one starts, or the answer; the key is looked at and followed
 --   pairAnswer r        what a `PairResult` means: go on at an offset, or stop with an answer
 use Prim.Native.Nat.{ℕ}
 use mathlib.Core.Bool.{true}

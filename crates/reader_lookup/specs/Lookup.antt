@@ -2,10 +2,12 @@
 --
 --   same a b             whether two lists of bytes are the same
 --   isKey s key h        whether the value with head h is a text with the bytes of `key`
---   pairs s at key k q   the lookup in k pairs from q on, of the map at `at`. For each pair, in this order: the faults of its
+--   pairs mode s at key k q
+--                        the lookup in k pairs from q on, of the map at `at`. For each pair, in this order: the faults of its
 --                        key as an item, and of following it; if it is the key, TRUNC if its value would start at the
 --                        region's end; else the faults of its value as an item. NO_ITEM if no pair has the key
---   lookupOn s at key h  the lookup in the value at `at` with head h; WRONG_KIND if it is not a map
+--   lookupOn mode s at key h
+--                        the lookup in the value at `at` with head h; WRONG_KIND if it is not a map
 --   lookupIn, lookupOf   in the map at an offset of a region, and of a file: the offset of the value of the first pair
 --                        whose key, followed, is a text with the bytes of `key`. In a file it begins with `inRegion`:
 --                        EMPTY, TOO_LONG, OUTSIDE

@@ -5,10 +5,12 @@
 --   inRegion file at k  k applied to the region, or `regionLen`'s error
 --   below at h          whether the token with head h at `at` is a reference or pointer that reaches below offset 0:
 --                       its target would be at - n - 1, and n < at does not hold
---   peekIn inner s at   the token at the offset `at` of the region s as a query looks at it, and as an item (NESTED) if
+--   peekIn mode inner s at
+--                       the token at the offset `at` of the region s as a query looks at it, and as an item (NESTED) if
 --                       `inner` is true: its faults, then BAD_TARGET if its target is below 0; text bytes and the
 --                       rest about targets are not looked at
---   peekOf file at      the same for a value at any offset of a file
+--   peekOf mode file at
+--                       the same for a value at any offset of a file
 use Prim.Native.Nat.{ℕ, _-_}
 use mathlib.Core.Bool.{Bool, false, _&&_}
 use mathlib.Core.List.{List}

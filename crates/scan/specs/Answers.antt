@@ -3,7 +3,8 @@
 --   answerOf r           a `ScanResult` in document 01's terms: the head, or the error's number and place
 --   headOf len r         what was scanned, by offsets of a region of len bytes: `first` is just after the numbers,
 --                        `end` just after the body
---   scanAt inner s at    the token at the offset `at` of the region s, as an item (NESTED) if `inner` is true
+--   scanAt mode inner s at
+--                        the token at the offset `at` of the region s, as an item (NESTED) if `inner` is true
 --   bodyOn s h           the bytes of the body of a token with head h in the region s
 use Prim.Native.Nat.{ℕ, _-_}
 use mathlib.Core.Bool.{Bool}

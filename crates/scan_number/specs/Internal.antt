@@ -1,7 +1,8 @@
 -- The number n of a header. No contract of a function for users cites this file.
 --
 --   inRange low most a   n from the low nibble and the number a after it, with the bytes left: RANGE if it is over `most`
---   numbered low most s  the same, with the number read from the front of s if low is 15
+--   numbered mode low most s
+--                        the same, with the number read from the front of s if low is 15
 use Prim.Native.Nat.{ℕ, _+_}
 use mathlib.Core.List.{List}
 use lib.Dec.{leb}

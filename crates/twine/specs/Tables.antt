@@ -2,10 +2,11 @@
 --
 --   CheckReply, checkReply r t
 --                    a reply, and the table of starts that it comes with
---   checkC file cap  what `twine_check` answers, and leaves in a table of cap words
+--   checkC mode file cap
+--                    what `twine_check` answers, and leaves in a table of cap words
 --   DepthsReply, depthsReply r t d
 --                    a reply, and the tables of starts and depths that it comes with
---   depthsC file cap room
+--   depthsC mode file cap room
 --                    what `twine_depths` answers, and leaves in tables of cap and room words
 use Prim.Native.Nat.{ℕ}
 use mathlib.Core.List.{List}
