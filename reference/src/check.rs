@@ -1,13 +1,14 @@
 //! Checking a file.
 
 use crate::error::Error;
+use crate::leb128::Mode;
 use crate::scan::{scan, Checked, Note};
 
 /// Checks a file: the count of its values and its entry, or the first fault.
 ///
 /// "Accepted: count, entry, the starts in rising order, every other word 0. Refused: every word 0."
-pub fn check(file: &[u8], starts: &mut [u32]) -> Result<Checked, Error> {
-    let answer = scan(file, starts, &mut Nothing);
+pub fn check(file: &[u8], mode: Mode, starts: &mut [u32]) -> Result<Checked, Error> {
+    let answer = scan(file, mode, starts, &mut Nothing);
     let used = answer.map_or(0, |checked| checked.count);
     starts[used..].fill(0);
     answer
@@ -29,13 +30,19 @@ mod tests {
     use super::*;
     use crate::error::ErrorKind::{self, *};
     use crate::leb128;
-    use crate::testing::{hex, refusal, DOCUMENT_001, JUNK};
+    use crate::leb128::Mode::{Strict, Tolerant};
+    use crate::testing::{hex, in_both, refusal, DOCUMENT_001, JUNK};
     use crate::MAX_LEN;
 
-    /// Checks a file with a table of `words` words and looks at the words that have to be 0.
+    /// Checks a file in both modes, see [`in_both`].
     fn checked(words: usize, file: &[u8]) -> Result<(usize, Vec<u32>), Error> {
+        in_both(|mode| checked_in(mode, words, file))
+    }
+
+    /// Checks a file with a table of `words` words and looks at the words that have to be 0.
+    fn checked_in(mode: Mode, words: usize, file: &[u8]) -> Result<(usize, Vec<u32>), Error> {
         let mut starts = vec![JUNK; words];
-        let answer = check(file, &mut starts);
+        let answer = check(file, mode, &mut starts);
         let rest = starts.split_off(answer.map_or(0, |checked| checked.count));
         assert!(rest.iter().all(|word| *word == 0));
         answer.map(|checked| {
@@ -54,6 +61,12 @@ mod tests {
 
     fn refused(file: &str, kind: ErrorKind, place: u64) {
         assert_eq!(checked(40, &hex(file)), Err(refusal(kind, place)), "{file}");
+    }
+
+    /// A file that is OVERLONG in the strict mode, at this place: its answer in the tolerant one.
+    fn padded(file: &str, place: u64) -> Result<(usize, Vec<u32>), Error> {
+        refused(file, Overlong, place);
+        checked_in(Tolerant, 40, &hex(file))
     }
 
     #[test]
@@ -118,6 +131,71 @@ mod tests {
         refused("c0 ff ff ff ff ff ff ff ff ff 02 00", Range, 0);
         refused("c0 80 00 00", Overlong, 0);
         refused("c3 00", Trunc, 0);
+    }
+
+    #[test]
+    fn padded_numbers() {
+        assert_eq!(padded("1f 80 00 02", 0), Ok((0, vec![0])));
+        assert_eq!(padded("10 1f 9b 80 80 80 00 05", 1), Ok((1, vec![0, 1])));
+        let nine = "80".repeat(9);
+        assert_eq!(padded(&format!("1f {nine} 00 0a"), 0), Ok((0, vec![0])));
+        refused(&format!("1f {nine} 01 0a"), Range, 0);
+        refused(&format!("1f {nine} 02 0a"), Range, 0);
+        refused(&format!("1f {nine} 80 00 0b"), Range, 0);
+        accepted(&format!("8f {nine} 01 10 0b"), 0, &[0]);
+        assert_eq!(padded(&format!("8f {nine} 00 10 0b"), 0), Ok((0, vec![0])));
+        // What comes after the number in the order of faults.
+        assert_eq!(padded("4f 81 00 61 61 00", 0), Err(refusal(LongBody, 3)));
+        assert_eq!(padded("6f 80 00 10 00", 0), Err(refusal(LongList, 3)));
+        assert_eq!(padded("7f 80 80 00 10 00", 0), Err(refusal(LongList, 4)));
+        assert_eq!(padded("1f f1 ff ff ff ff ff ff ff ff 00 0a", 0), Err(refusal(Range, 0)));
+        assert_eq!(padded(&format!("4f 80 00 ff {} 00", "61".repeat(14)), 0), Err(refusal(BadText, 0)));
+        assert_eq!(padded("bf 80 00 00", 0), Err(refusal(Trunc, 3)));
+        assert_eq!(padded("1f 80 00 09", 0), Err(refusal(BadEntry, 3)));
+        // The first fault wins, and an item has its own place.
+        refused("61 6f 80 00 00", Nested, 1);
+        refused("90 1f 80 00 00", Reserved, 0);
+        assert_eq!(padded("62 1f 80 00 90 00", 1), Err(refusal(Reserved, 4)));
+        assert_eq!(padded("1f 80 00 1f 80", 0), Err(refusal(Trunc, 3)));
+    }
+
+    #[test]
+    fn both_numbers_of_a_variant_of_many() {
+        for (numbers, count) in [("80 00 01", 5), ("00 81 00", 5), ("80 00 81 00", 6), ("80 80 80 80 00 81 80 80 80 00", 12)] {
+            assert_eq!(padded(&format!("cf {numbers} 10 {:02x}", count - 1), 0), Ok((0, vec![0])));
+            let long = padded(&format!("cf {numbers} 00"), 0);
+            assert_eq!(long, Err(refusal(LongList, count - 1)));
+        }
+        assert_eq!(padded("c3 80 00 02", 0), Ok((0, vec![0])));
+        let nine = "80".repeat(9);
+        assert_eq!(padded(&format!("cf {nine} 00 {nine} 00 14"), 0), Ok((0, vec![0])));
+        refused(&format!("c0 {nine} 02 0a"), Range, 0);
+        refused(&format!("c0 {nine} 01 0a"), LongList, 11);
+        // The strict answer is the first number's, the tolerant one the second's.
+        assert_eq!(padded(&format!("cf 80 00 {nine} 02 0c"), 0), Err(refusal(Range, 0)));
+        assert_eq!(padded("cf 80 00 80 00", 0), Err(refusal(Trunc, 0)));
+        assert_eq!(padded("cf f1 ff ff ff 8f 00 00", 0), Err(refusal(Range, 0)));
+    }
+
+    /// "A reference or pointer whose header is at q targets q - n - 1", however many bytes its number takes.
+    #[test]
+    fn padded_distances() {
+        let before = "10".repeat(16);
+        let starts: Vec<u32> = (0..=16).collect();
+        for kind in ["e", "f"] {
+            for size in 2..=10 {
+                let zeros = "80".repeat(size - 1);
+                let file = format!("{before} {kind}f {zeros} 00 {size:02x}");
+                assert_eq!(padded(&file, 16), Ok((16, starts.clone())), "{file}");
+                let below = format!("{} {kind}f {zeros} 00 00", &before[2..]);
+                assert_eq!(padded(&below, 15), Err(refusal(BadTarget, 15)), "{below}");
+                let inside = format!("51 10 {} {kind}f {zeros} 00 00", &before[2..]);
+                assert_eq!(padded(&inside, 17), Err(refusal(BadTarget, 17)), "{inside}");
+            }
+        }
+        // Padded numbers between a target and its pointer count with all their bytes.
+        assert_eq!(padded("10 1f 9b 80 80 80 00 f6 00", 1), Ok((7, vec![0, 1, 7])));
+        assert_eq!(padded("10 1f 9b 80 80 80 00 f2 00", 1), Err(refusal(BadTarget, 7)));
     }
 
     #[test]
@@ -303,7 +381,7 @@ mod tests {
         let mut file = vec![0x10; MAX_LEN];
         file[MAX_LEN - 1] = 0;
         let mut starts = vec![JUNK; MAX_LEN];
-        let answer = check(&file, &mut starts);
+        let answer = check(&file, Strict, &mut starts);
         let (count, entry) = (MAX_LEN - 1, MAX_LEN - 2);
         assert_eq!(answer, Ok(Checked { count, entry }));
         assert!(starts[..count].iter().zip(0..).all(|(&word, start)| word == start));

@@ -1,6 +1,7 @@
 //! The depths of the values of a file.
 
 use crate::error::{Error, ErrorKind};
+use crate::leb128::Mode;
 use crate::scan::{scan, Checked, Note};
 
 /// Checks a file and finds the depth of each value.
@@ -8,9 +9,9 @@ use crate::scan::{scan, Checked, Note};
 /// "Depths is lent a second such table; it gives check's refusals first, then FULL if the second is shorter than the count
 /// (place: the start of the first value without a word). Accepted: one depth a value, the rest 0. Refused: both tables all
 /// 0."
-pub fn depths(file: &[u8], starts: &mut [u32], depths: &mut [u32]) -> Result<Checked, Error> {
+pub fn depths(file: &[u8], mode: Mode, starts: &mut [u32], depths: &mut [u32]) -> Result<Checked, Error> {
     let mut note = Depths { words: depths, deepest: 0 };
-    let answer = scan(file, starts, &mut note).and_then(|checked| {
+    let answer = scan(file, mode, starts, &mut note).and_then(|checked| {
         if checked.count > depths.len() {
             Err(ErrorKind::Full.at(starts[depths.len()] as usize))
         } else {
@@ -52,12 +53,17 @@ impl Note for Depths<'_> {
 mod tests {
     use super::*;
     use crate::error::ErrorKind::*;
-    use crate::testing::{hex, refusal, DOCUMENT_001, JUNK};
+    use crate::testing::{hex, in_both, refusal, DOCUMENT_001, JUNK};
+
+    /// The depths of a file in both modes, see [`in_both`].
+    fn depths_of(words: [usize; 2], file: &str) -> Result<Vec<u32>, Error> {
+        in_both(|mode| depths_in(mode, words, file))
+    }
 
     /// The depths of a file by tables of these lengths; the words that have to be 0 are looked at.
-    fn depths_of(words: [usize; 2], file: &str) -> Result<Vec<u32>, Error> {
+    fn depths_in(mode: Mode, words: [usize; 2], file: &str) -> Result<Vec<u32>, Error> {
         let [mut first, mut second] = words.map(|words| vec![JUNK; words]);
-        let answer = depths(&hex(file), &mut first, &mut second);
+        let answer = depths(&hex(file), mode, &mut first, &mut second);
         let used = answer.map_or(0, |checked| checked.count);
         assert!(first.split_off(used).iter().all(|word| *word == 0));
         assert!(second.split_off(used).iter().all(|word| *word == 0));
@@ -98,13 +104,24 @@ mod tests {
     }
 
     #[test]
+    fn padded_distances_count() {
+        // A number, a pointer to it over 15 values, and an array of a reference to that and a pointer to the number.
+        let file = format!("1f 80 00 {} ff 82 80 80 80 00 62 e6 ff 8a 80 80 80 00 07", "10".repeat(15));
+        let depths: Vec<u32> = [vec![1; 16], vec![2, 3]].concat();
+        assert_eq!(depths_of([18, 18], &file), Err(refusal(Overlong, 0)));
+        assert_eq!(depths_in(Mode::Tolerant, [18, 19], &file), Ok(depths));
+        assert_eq!(depths_in(Mode::Tolerant, [18, 17], &file), Err(refusal(Full, 24)));
+        assert_eq!(depths_in(Mode::Tolerant, [17, 0], &file), Err(refusal(Full, 24)));
+    }
+
+    #[test]
     fn a_long_chain() {
         let mut file = vec![0x10];
         file.resize(100_000, 0xf0);
         file.push(0);
         let mut starts = vec![JUNK; 100_000];
         let mut words = vec![JUNK; 100_000];
-        assert!(depths(&file, &mut starts, &mut words).is_ok());
+        assert!(depths(&file, Mode::Strict, &mut starts, &mut words).is_ok());
         assert!(words.iter().zip(1..).all(|(&word, depth)| word == depth));
     }
 }

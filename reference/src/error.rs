@@ -14,7 +14,7 @@ pub enum ErrorKind {
     Trunc = 3,
     /// "Reserved kind or low".
     Reserved = 4,
-    /// "Last LEB128 byte 0 and not the first".
+    /// "Last LEB128 byte 0 and not the first"; in the strict mode alone.
     Overlong = 5,
     /// "Tenth LEB128 byte over 1; n over its kind's bound or over 2^64-1".
     Range = 6,

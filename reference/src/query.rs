@@ -7,6 +7,7 @@ use crate::file;
 use crate::kind::{
     Scalar, ARRAY, BYTES, FLOAT, MAP, NEGATIVE, POINTER, POSITIVE, SCALAR, TAG, TEXT, VARIANT0, VARIANT1, VARIANT_N,
 };
+use crate::leb128::Mode;
 use crate::token::{self, Token};
 
 /// A value as its header, its numbers and its fixed body describe it.
@@ -108,9 +109,9 @@ fn asked(file: &[u8], at: u64) -> Result<(&[u8], usize), Error> {
 /// Reads the value at an offset.
 ///
 /// "Reading one value looks at neither its items nor text bytes, and of a target only that it is not below 0."
-pub fn read(file: &[u8], at: u64) -> Result<Value, Error> {
+pub fn read(file: &[u8], mode: Mode, at: u64) -> Result<Value, Error> {
     let (region, at) = asked(file, at)?;
-    let token = token::read(region, at)?;
+    let token = token::read(region, mode, at)?;
     Ok(value(region, token))
 }
 
@@ -159,17 +160,17 @@ fn value(region: &[u8], token: Token) -> Value {
 /// Where the value at an offset ends.
 ///
 /// "Skipping tells where the value ends and does examine items, but neither text nor targets beyond 0."
-pub fn skip(file: &[u8], at: u64) -> Result<usize, Error> {
+pub fn skip(file: &[u8], mode: Mode, at: u64) -> Result<usize, Error> {
     let (region, at) = asked(file, at)?;
-    let token = token::read(region, at)?;
-    skip_items(region, token.end, token.items)
+    let token = token::read(region, mode, at)?;
+    skip_items(region, mode, token.end, token.items)
 }
 
 /// Passes items: "the items before it are examined as skipping does".
-fn skip_items(region: &[u8], first: usize, count: u64) -> Result<usize, Error> {
+fn skip_items(region: &[u8], mode: Mode, first: usize, count: u64) -> Result<usize, Error> {
     let mut at = first;
     for _ in 0..count {
-        at = token::read_item(region, at)?.end;
+        at = token::read_item(region, mode, at)?.end;
     }
     Ok(at)
 }
@@ -187,16 +188,16 @@ fn start_of_item(region: &[u8], at: usize) -> Result<usize, Error> {
 ///
 /// "`NO_ITEM` first; then the items before it are examined as skipping does; the item itself only has to start in the
 /// region (TRUNC)."
-pub fn item(file: &[u8], at: u64, index: u64) -> Result<usize, Error> {
+pub fn item(file: &[u8], mode: Mode, at: u64, index: u64) -> Result<usize, Error> {
     let (region, at) = asked(file, at)?;
-    let token = token::read(region, at)?;
+    let token = token::read(region, mode, at)?;
     if !matches!(token.kind, ARRAY | MAP | TAG | VARIANT1 | VARIANT_N) {
         return Err(ErrorKind::WrongKind.at(at));
     }
     if index >= token.items {
         return Err(ErrorKind::NoItem.at(at));
     }
-    let offset = skip_items(region, token.end, index)?;
+    let offset = skip_items(region, mode, token.end, index)?;
     start_of_item(region, offset)
 }
 
@@ -204,18 +205,18 @@ pub fn item(file: &[u8], at: u64, index: u64) -> Result<usize, Error> {
 ///
 /// "Following goes from pointer to pointer until a value of another kind; references stop it. Each value met is read, the
 /// last too."
-pub fn follow(file: &[u8], at: u64) -> Result<Followed, Error> {
+pub fn follow(file: &[u8], mode: Mode, at: u64) -> Result<Followed, Error> {
     let (region, at) = asked(file, at)?;
-    let (token, hops) = follow_in(region, at)?;
+    let (token, hops) = follow_in(region, mode, at)?;
     Ok(Followed { offset: token.at, hops })
 }
 
 /// The value that pointers lead to, and the pointers met.
-fn follow_in(region: &[u8], at: usize) -> Result<(Token, u64), Error> {
-    let mut token = token::read(region, at)?;
+fn follow_in(region: &[u8], mode: Mode, at: usize) -> Result<(Token, u64), Error> {
+    let mut token = token::read(region, mode, at)?;
     let mut hops = 0;
     while let (POINTER, Some(target)) = (token.kind, token.target()) {
-        token = token::read(region, target)?;
+        token = token::read(region, mode, target)?;
         hops += 1;
     }
     Ok((token, hops))
@@ -226,20 +227,20 @@ fn follow_in(region: &[u8], at: usize) -> Result<(Token, u64), Error> {
 /// "Pair by pair the key is examined as skipping the map does (TRUNC and NESTED too), then followed; the first text key with
 /// equal bytes gives its value item's offset, which has to be in the region (TRUNC); else the value is examined likewise.
 /// The first fault is the answer."
-pub fn lookup(file: &[u8], at: u64, key: &[u8]) -> Result<usize, Error> {
+pub fn lookup(file: &[u8], mode: Mode, at: u64, key: &[u8]) -> Result<usize, Error> {
     let (region, at) = asked(file, at)?;
-    let map = token::read(region, at)?;
+    let map = token::read(region, mode, at)?;
     if map.kind != MAP {
         return Err(ErrorKind::WrongKind.at(at));
     }
     let mut next = map.end;
     for _ in 0..map.n {
-        let held = token::read_item(region, next)?;
-        let (met, _) = follow_in(region, held.at)?;
+        let held = token::read_item(region, mode, next)?;
+        let (met, _) = follow_in(region, mode, held.at)?;
         if met.kind == TEXT && region[met.first..met.end] == *key {
             return start_of_item(region, held.end);
         }
-        next = token::read_item(region, held.end)?.end;
+        next = token::read_item(region, mode, held.end)?.end;
     }
     Err(ErrorKind::NoItem.at(at))
 }
@@ -249,17 +250,17 @@ pub fn lookup(file: &[u8], at: u64, key: &[u8]) -> Result<usize, Error> {
 /// "The body of a text or byte string, after following, is handed back as a part of the lent file itself; a refusal hands
 /// back an empty part."
 #[must_use]
-pub fn body(file: &[u8], at: u64) -> &[u8] {
-    match body_place(file, at) {
+pub fn body(file: &[u8], mode: Mode, at: u64) -> &[u8] {
+    match body_place(file, mode, at) {
         Ok(Body { first, length }) => &file[first..first + length],
         Err(_) => &[],
     }
 }
 
 /// "A second question on the same offset tells the body's first offset and length, or the refusal."
-pub fn body_place(file: &[u8], at: u64) -> Result<Body, Error> {
+pub fn body_place(file: &[u8], mode: Mode, at: u64) -> Result<Body, Error> {
     let (region, at) = asked(file, at)?;
-    let (token, _) = follow_in(region, at)?;
+    let (token, _) = follow_in(region, mode, at)?;
     if !matches!(token.kind, TEXT | BYTES) {
         return Err(ErrorKind::WrongKind.at(token.at));
     }
@@ -270,33 +271,39 @@ pub fn body_place(file: &[u8], at: u64) -> Result<Body, Error> {
 mod tests {
     use super::*;
     use crate::error::ErrorKind::*;
-    use crate::testing::{hex, refusal, DOCUMENT_001};
+    use crate::leb128::Mode::{Strict, Tolerant};
+    use crate::testing::{hex, in_both, refusal, DOCUMENT_001};
     use crate::MAX_LEN;
 
     fn read_at(at: u64, file: &str) -> Result<Value, Error> {
-        read(&hex(file), at)
+        in_both(|mode| read(&hex(file), mode, at))
     }
 
     fn skip_at(at: u64, file: &str) -> Result<usize, Error> {
-        skip(&hex(file), at)
+        in_both(|mode| skip(&hex(file), mode, at))
     }
 
     fn item_at(at: u64, index: u64, file: &str) -> Result<usize, Error> {
-        item(&hex(file), at, index)
+        in_both(|mode| item(&hex(file), mode, at, index))
     }
 
     fn follow_at(at: u64, file: &str) -> Result<(usize, u64), Error> {
-        follow(&hex(file), at).map(|Followed { offset, hops }| (offset, hops))
+        in_both(|mode| follow(&hex(file), mode, at)).map(|Followed { offset, hops }| (offset, hops))
     }
 
     fn lookup_at(at: u64, key: &str, file: &str) -> Result<usize, Error> {
-        lookup(&hex(file), at, &hex(key))
+        in_both(|mode| lookup(&hex(file), mode, at, &hex(key)))
     }
 
     fn body_at(at: u64, file: &str) -> Result<(usize, usize), Error> {
+        in_both(|mode| body_in(mode, at, file))
+    }
+
+    /// Both questions on a body.
+    fn body_in(mode: Mode, at: u64, file: &str) -> Result<(usize, usize), Error> {
         let file = hex(file);
-        let place = body_place(&file, at);
-        let part = body(&file, at);
+        let place = body_place(&file, mode, at);
+        let part = body(&file, mode, at);
         match place {
             Ok(Body { first, length }) => assert_eq!(part, &file[first..first + length]),
             Err(_) => assert!(part.is_empty()),
@@ -308,12 +315,13 @@ mod tests {
     fn lengths_and_offsets_that_are_refused() {
         let long = vec![0; MAX_LEN + 1];
         for at in [0, 1, u64::MAX] {
-            assert_eq!(read(&[], at), Err(refusal(Empty, 0)));
-            assert_eq!(skip(&long, at), Err(refusal(TooLong, 0)));
-            assert_eq!(item(&[0], at, 0), Err(refusal(Outside, at)));
-            assert_eq!(follow(&[0], at), Err(refusal(Outside, at)));
-            assert_eq!(lookup(&[0], at, &[]), Err(refusal(Outside, at)));
-            assert_eq!(body_place(&[0], at), Err(refusal(Outside, at)));
+            assert_eq!(read_at(at, ""), Err(refusal(Empty, 0)));
+            assert_eq!(skip(&long, Strict, at), Err(refusal(TooLong, 0)));
+            assert_eq!(skip(&long, Tolerant, at), Err(refusal(TooLong, 0)));
+            assert_eq!(item_at(at, 0, "00"), Err(refusal(Outside, at)));
+            assert_eq!(follow_at(at, "00"), Err(refusal(Outside, at)));
+            assert_eq!(lookup_at(at, "", "00"), Err(refusal(Outside, at)));
+            assert_eq!(body_at(at, "00"), Err(refusal(Outside, at)));
         }
         assert_eq!(read_at(1, "10 00"), Err(refusal(Outside, 1)));
     }
@@ -440,8 +448,9 @@ mod tests {
     #[test]
     fn the_body_is_a_part_of_the_file() {
         let file = hex(DOCUMENT_001);
-        assert!(std::ptr::eq(body(&file, 0), &file[1..6]));
+        assert!(std::ptr::eq(body(&file, Strict, 0), &file[1..6]));
     }
+
     /// "Every caller that passes a refusal on passes the new ones", with their place.
     #[test]
     fn long_bodies_and_lists_are_passed_on() {
@@ -497,5 +506,80 @@ mod tests {
         assert_eq!(lookup_at(1, "61", "65 71 f1 10 00"), Err(refusal(LongList, 1)));
         // The same as a value, which is not followed.
         assert_eq!(lookup_at(1, "61", "45 71 10 f2 00"), Err(refusal(NoItem, 1)));
+    }
+
+    /// "All reading calls .. take the choice, one a call": each question of a value with padded numbers, and of its items.
+    #[test]
+    fn padded_numbers_are_read_in_the_tolerant_mode() {
+        for (file, value, end) in [
+            ("10 1f 9b 80 80 80 00 00", Value::Integer(42), 7),
+            ("10 2f 80 00 00", Value::Integer(-16), 4),
+            ("10 af 81 80 00 00", Value::Variant0 { index: 16 }, 5),
+            ("10 8f 80 00 11 00", Value::Tag { tag: 15, first: 4 }, 5),
+            ("10 bf 80 00 11 00", Value::Variant1 { index: 15, first: 4 }, 5),
+            ("10 cf 80 00 01 11 00", Value::VariantN { index: 15, arguments: 1, first: 5 }, 6),
+            ("10 cf 00 81 00 11 00", Value::VariantN { index: 15, arguments: 1, first: 5 }, 6),
+            ("10 c2 82 80 00 11 12 00", Value::VariantN { index: 2, arguments: 2, first: 5 }, 7),
+        ] {
+            assert_eq!(read_at(1, file), Err(refusal(Overlong, 1)), "{file}");
+            assert_eq!(read(&hex(file), Tolerant, 1), Ok(value), "{file}");
+            assert_eq!(skip_at(1, file), Err(refusal(Overlong, 1)), "{file}");
+            assert_eq!(skip(&hex(file), Tolerant, 1), Ok(end), "{file}");
+            assert_eq!(follow_at(1, file), Err(refusal(Overlong, 1)), "{file}");
+            assert_eq!(follow(&hex(file), Tolerant, 1), Ok(Followed { offset: 1, hops: 0 }), "{file}");
+            assert_eq!(body_at(1, file), Err(refusal(Overlong, 1)), "{file}");
+            assert_eq!(body_in(Tolerant, 1, file), Err(refusal(WrongKind, 1)), "{file}");
+        }
+        // The items before the asked one are examined, the asked one is not.
+        let file = "63 10 1f 80 00 13 00";
+        assert_eq!(item_at(0, 1, file), Ok(2));
+        assert_eq!(item_at(0, 2, file), Err(refusal(Overlong, 2)));
+        assert_eq!(item(&hex(file), Tolerant, 0, 2), Ok(5));
+        let file = format!("6f 80 00 {} 00", "10".repeat(15));
+        assert_eq!(item_at(0, 14, &file), Err(refusal(Overlong, 0)));
+        assert_eq!(item(&hex(&file), Tolerant, 0, 14), Ok(17));
+        assert_eq!(item(&hex(&file), Tolerant, 0, 15), Err(refusal(NoItem, 0)));
+    }
+
+    /// "A reference or pointer whose header is at q targets q - n - 1", however many bytes its number takes.
+    #[test]
+    fn padded_distances() {
+        for size in 2..=10 {
+            let distance = format!("{} 00", "80".repeat(size - 1));
+            let file = hex(&format!("4f 80 00 {} ef {distance} ff {distance} 00", "61".repeat(15)));
+            assert_eq!(file.len(), 18 + 2 * (1 + size) + 1);
+            let (reference, pointer) = (18, 18 + 1 + size as u64);
+            assert_eq!(read(&file, Tolerant, reference), Ok(Value::Reference { target: 2 }));
+            assert_eq!(read(&file, Tolerant, pointer), Ok(Value::Pointer { target: pointer as usize - 16 }));
+            assert_eq!(skip(&file, Tolerant, pointer), Ok(pointer as usize + 1 + size));
+        }
+        // A padded pointer to a padded pointer to a padded text.
+        let file = format!("4f 80 00 {} ff 82 00 {} ff 82 80 80 80 00 00", "61".repeat(15), "10".repeat(15));
+        for (at, hops) in [(0, 0), (18, 1), (36, 2)] {
+            assert_eq!(follow_at(at, &file), Err(refusal(Overlong, at)));
+            assert_eq!(follow(&hex(&file), Tolerant, at), Ok(Followed { offset: 0, hops }), "{at}");
+            assert_eq!(body_in(Tolerant, at, &file), Ok((3, 15)));
+        }
+        assert_eq!(read(&hex("ff 80 00 00"), Tolerant, 0), Err(refusal(BadTarget, 0)));
+    }
+
+    #[test]
+    fn lookups_of_padded_keys() {
+        let key = "61".repeat(15);
+        let is_padded = |at: u64, overlong: u64, found: usize, file: &str| {
+            assert_eq!(lookup_at(at, &key, file), Err(refusal(Overlong, overlong)), "{file}");
+            assert_eq!(lookup(&hex(file), Tolerant, at, &hex(&key)), Ok(found), "{file}");
+        };
+        // The key itself, what it points at, the value before it, and the map's own number.
+        is_padded(0, 1, 19, &format!("71 4f 80 00 {key} 10 00"));
+        is_padded(18, 0, 21, &format!("4f 80 00 {key} 71 ff 03 10 00"));
+        is_padded(17, 18, 23, &format!("4f 00 {key} 71 ff 82 80 80 00 10 00"));
+        is_padded(0, 2, 22, &format!("72 10 1f 80 00 4f 00 {key} 10 00"));
+        let pairs = "10 11".repeat(14);
+        is_padded(0, 0, 48, &format!("7f 80 00 {pairs} 4f 00 {key} 10 00"));
+        // The value of the wanted key is not examined.
+        assert_eq!(lookup_at(0, "61", "71 41 61 1f 80 00 00"), Ok(3));
+        assert_eq!(lookup_at(0, "62", "71 41 61 1f 80 00 00"), Err(refusal(Overlong, 3)));
+        assert_eq!(lookup(&hex("71 41 61 1f 80 00 00"), Tolerant, 0, b"b"), Err(refusal(NoItem, 0)));
     }
 }

@@ -22,8 +22,11 @@ mod words;
 use std::fmt::{Display, Write};
 
 use reference::query::{Body, Followed};
-use reference::{Checked, Error, Scalar, Token, Value};
+use reference::{Checked, Error, Mode, Scalar, Token, Value};
 use words::{bytes, hex, number};
+
+/// "The program stays strict."
+const MODE: Mode = Mode::Strict;
 
 /// The words of a table at most.
 const MOST_WORDS: u64 = 32;
@@ -46,32 +49,32 @@ fn query(words: &[&str]) -> Option<String> {
     Some(match *words {
         ["tokens", region] => tokens(&bytes(region)?),
         ["read", at, file] => {
-            let value = reference::read(&bytes(file)?, number(at)?);
+            let value = reference::read(&bytes(file)?, MODE, number(at)?);
             result(value.map(|value| self::value(&value)))
         }
-        ["skip", at, file] => result(reference::skip(&bytes(file)?, number(at)?)),
+        ["skip", at, file] => result(reference::skip(&bytes(file)?, MODE, number(at)?)),
         ["item", at, index, file] => {
-            let offset = reference::item(&bytes(file)?, number(at)?, number(index)?);
+            let offset = reference::item(&bytes(file)?, MODE, number(at)?, number(index)?);
             result(offset)
         }
         ["follow", at, file] => {
-            let followed = reference::follow(&bytes(file)?, number(at)?);
+            let followed = reference::follow(&bytes(file)?, MODE, number(at)?);
             result(followed.map(|Followed { offset, hops }| format!("{offset} {hops}")))
         }
         ["lookup", at, key, file] => {
-            let offset = reference::lookup(&bytes(file)?, number(at)?, &bytes(key)?);
+            let offset = reference::lookup(&bytes(file)?, MODE, number(at)?, &bytes(key)?);
             result(offset)
         }
         ["body", at, file] => body(&bytes(file)?, number(at)?),
         ["check", starts, file] => {
             let mut starts = table(starts)?;
-            let checked = reference::check(&bytes(file)?, &mut starts);
+            let checked = reference::check(&bytes(file)?, MODE, &mut starts);
             format!("{}:{}", verdict(checked), list(&starts))
         }
         ["depths", starts, depths, file] => {
             let mut starts = table(starts)?;
             let mut depths = table(depths)?;
-            let checked = reference::depths(&bytes(file)?, &mut starts, &mut depths);
+            let checked = reference::depths(&bytes(file)?, MODE, &mut starts, &mut depths);
             let checked = verdict(checked);
             format!("{checked}:{} /{}", list(&starts), list(&depths))
         }
@@ -82,7 +85,7 @@ fn query(words: &[&str]) -> Option<String> {
 
 fn tokens(region: &[u8]) -> String {
     let mut answer = String::new();
-    for token in reference::tokens(region) {
+    for token in reference::tokens(region, MODE) {
         match token {
             Ok(token) => {
                 let Token { at, kind, n, items, first, end } = token;
@@ -118,8 +121,8 @@ fn value(value: &Value) -> String {
 }
 
 fn body(file: &[u8], at: u64) -> String {
-    let part = hex(reference::body(file, at));
-    let place = reference::body_place(file, at);
+    let part = hex(reference::body(file, MODE, at));
+    let place = reference::body_place(file, MODE, at);
     result(place.map(|Body { first, length }| format!("{first} {length}{part}")))
 }
 

@@ -1,12 +1,12 @@
 //! The walk over a row that check and depths share.
 //!
-//! "Check goes left to right and the first fault wins." A value or item that is surely without fault is passed quickly; all
-//! others are decided by their tokens in the order of document 01.
+//! "Check goes left to right and the first fault wins." A value or item that is surely without fault, in either mode, is passed
+//! quickly; all others are decided by their tokens in the order of document 01.
 
 use crate::error::{Error, ErrorKind};
 use crate::file::{self, MAX_LEN};
 use crate::kind::{Class, HEADERS, TEXT};
-use crate::leb128;
+use crate::leb128::{self, Mode};
 use crate::token::{self, Token};
 use crate::utf8;
 
@@ -35,20 +35,20 @@ pub(crate) trait Note {
 
 /// Walks over a whole file. The starts of the values are put into the first words of `starts`; on a refusal those words hold
 /// the starts found so far.
-pub(crate) fn scan<N: Note>(file: &[u8], starts: &mut [u32], note: &mut N) -> Result<Checked, Error> {
+pub(crate) fn scan<N: Note>(file: &[u8], mode: Mode, starts: &mut [u32], note: &mut N) -> Result<Checked, Error> {
     let (region, delta) = file::split(file)?;
     if region.len() <= SMALL {
         let mut before = [0; SMALL / BLOCK + 1];
-        walk(region, delta, starts, &mut before, note)
+        walk(region, mode, delta, starts, &mut before, note)
     } else {
-        scan_large(region, delta, starts, note)
+        scan_large(region, mode, delta, starts, note)
     }
 }
 
 #[inline(never)]
-fn scan_large<N: Note>(region: &[u8], delta: u8, starts: &mut [u32], note: &mut N) -> Result<Checked, Error> {
+fn scan_large<N: Note>(region: &[u8], mode: Mode, delta: u8, starts: &mut [u32], note: &mut N) -> Result<Checked, Error> {
     let mut before = [0; MAX_LEN / BLOCK + 1];
-    walk(region, delta, starts, &mut before, note)
+    walk(region, mode, delta, starts, &mut before, note)
 }
 
 /// The starts of the finished values.
@@ -90,7 +90,14 @@ impl Row<'_> {
 }
 
 #[inline(never)]
-fn walk<N: Note>(region: &[u8], delta: u8, starts: &mut [u32], before: &mut [u32], note: &mut N) -> Result<Checked, Error> {
+fn walk<N: Note>(
+    region: &[u8],
+    mode: Mode,
+    delta: u8,
+    starts: &mut [u32],
+    before: &mut [u32],
+    note: &mut N,
+) -> Result<Checked, Error> {
     let mut row = Row { starts, count: 0, before, block: 0 };
     let mut at = 0;
     while at < region.len() {
@@ -100,13 +107,13 @@ fn walk<N: Note>(region: &[u8], delta: u8, starts: &mut [u32], before: &mut [u32
         let start = at;
         let (mut pending, end) = match quick_value(region, at, &row, note) {
             Some(found) => found,
-            None => thorough(region, token::read(region, at)?, &row, note)?,
+            None => thorough(region, token::read(region, mode, at)?, &row, note)?,
         };
         at = end;
         while pending > 0 {
             at = match quick_immediate(region, at, &row, note) {
                 Some(end) => end,
-                None => thorough(region, token::read_item(region, at)?, &row, note)?.1,
+                None => thorough(region, token::read_item(region, mode, at)?, &row, note)?.1,
             };
             pending -= 1;
         }

@@ -1,8 +1,11 @@
 //! Helpers of the unit tests.
 
+use std::fmt::Debug;
+
 use crate::call::Call;
 use crate::error::{Error, ErrorKind};
 use crate::kind::Scalar;
+use crate::leb128::Mode;
 
 /// What a table holds before it is lent.
 pub const JUNK: u32 = 0xaaaa_aaaa;
@@ -43,4 +46,13 @@ pub fn border_bytes() -> Vec<u8> {
 /// The refusal of a name at a place.
 pub fn refusal(kind: ErrorKind, place: u64) -> Error {
     Error { kind, place }
+}
+
+/// The strict answer. If it is not OVERLONG, the tolerant one is the same; that is never OVERLONG.
+pub fn in_both<T: PartialEq + Debug>(ask: impl Fn(Mode) -> Result<T, Error>) -> Result<T, Error> {
+    let is_overlong = |answer: &Result<T, Error>| matches!(answer, Err(Error { kind: ErrorKind::Overlong, .. }));
+    let [strict, tolerant] = Mode::ALL.map(ask);
+    assert!(strict == tolerant || is_overlong(&strict), "strict {strict:?}, tolerant {tolerant:?}");
+    assert!(!is_overlong(&tolerant), "{tolerant:?}");
+    strict
 }

@@ -2,7 +2,7 @@
 
 use crate::error::{Error, ErrorKind};
 use crate::kind::{Body, KINDS, LONG, POINTER, REFERENCE};
-use crate::leb128;
+use crate::leb128::{self, Mode};
 
 /// What a header and its numbers say.
 #[derive(Clone, Copy, Debug, PartialEq, Eq)]
@@ -53,22 +53,22 @@ impl Token {
 /// second number of kind 12 likewise, TRUNC of the body", without `NESTED`, and "of a target only that it is not below 0".
 /// `LONG_BODY` and `LONG_LIST` are in the place of TRUNC of the body, which is left to floats: "Order stays".
 /// An `at` that is not in the region answers that an item is wanted there.
-pub(crate) fn read(region: &[u8], at: usize) -> Result<Token, Error> {
-    parse(region, at, false)?.judge_target()
+pub(crate) fn read(region: &[u8], mode: Mode, at: usize) -> Result<Token, Error> {
+    parse(region, mode, at, false)?.judge_target()
 }
 
 /// Reads the token of an item, which is `NESTED` unless it is an immediate.
-pub(crate) fn read_item(region: &[u8], at: usize) -> Result<Token, Error> {
-    parse(region, at, true)?.judge_target()
+pub(crate) fn read_item(region: &[u8], mode: Mode, at: usize) -> Result<Token, Error> {
+    parse(region, mode, at, true)?.judge_target()
 }
 
 #[inline(always)]
-fn parse(region: &[u8], at: usize, item: bool) -> Result<Token, Error> {
+fn parse(region: &[u8], mode: Mode, at: usize, item: bool) -> Result<Token, Error> {
     let Some(&header) = region.get(at) else {
         return Err(ErrorKind::Trunc.at(region.len()));
     };
     let mut after_numbers = at;
-    decide(region, at, header, item, &mut after_numbers).map_err(|kind| match kind {
+    decide(region, mode, at, header, item, &mut after_numbers).map_err(|kind| match kind {
         // "The place for both becomes the offset just after the numbers."
         ErrorKind::LongBody | ErrorKind::LongList => kind.at(after_numbers),
         _ => kind.at(at),
@@ -77,7 +77,7 @@ fn parse(region: &[u8], at: usize, item: bool) -> Result<Token, Error> {
 
 /// Decides on a token without its place, and leaves where its numbers end, if they are without fault.
 #[inline(always)]
-fn decide(region: &[u8], at: usize, header: u8, item: bool, after_numbers: &mut usize) -> Result<Token, ErrorKind> {
+fn decide(region: &[u8], mode: Mode, at: usize, header: u8, item: bool, after_numbers: &mut usize) -> Result<Token, ErrorKind> {
     let (high, low) = (header >> 4, header & 15);
     let kind = &KINDS[usize::from(high)];
     if low >= kind.reserved_from {
@@ -86,10 +86,10 @@ fn decide(region: &[u8], at: usize, header: u8, item: bool, after_numbers: &mut 
     if item && !kind.immediate {
         return Err(ErrorKind::Nested);
     }
-    let (n, after) = number(region, at, low, kind.most)?;
+    let (n, after) = number(region, mode, at, low, kind.most)?;
     let (first, second) = match kind.body {
         Body::Arguments => {
-            let (count, end) = leb128::read(region, after)?;
+            let (count, end) = leb128::read(region, mode, after)?;
             (end, count)
         }
         _ => (after, 0),
@@ -117,11 +117,11 @@ fn decide(region: &[u8], at: usize, header: u8, item: bool, after_numbers: &mut 
 
 /// The number of a header at `at`, and the offset after it.
 #[inline(always)]
-fn number(region: &[u8], at: usize, low: u8, most: u64) -> Result<(u64, usize), ErrorKind> {
+fn number(region: &[u8], mode: Mode, at: usize, low: u8, most: u64) -> Result<(u64, usize), ErrorKind> {
     if low < LONG {
         return Ok((u64::from(low), at + 1));
     }
-    let (rest, end) = leb128::read(region, at + 1)?;
+    let (rest, end) = leb128::read(region, mode, at + 1)?;
     match rest.checked_add(u64::from(LONG)) {
         Some(n) if n <= most => Ok((n, end)),
         _ => Err(ErrorKind::Range),
@@ -131,14 +131,14 @@ fn number(region: &[u8], at: usize, low: u8, most: u64) -> Result<(u64, usize), 
 /// The tokens of a region from left to right, those of values and of items, up to the first fault.
 ///
 /// The region is one without the delta byte. Neither texts nor targets are looked at.
-pub fn tokens(region: &[u8]) -> impl Iterator<Item = Result<Token, Error>> + '_ {
+pub fn tokens(region: &[u8], mode: Mode) -> impl Iterator<Item = Result<Token, Error>> + '_ {
     let mut next = Some((0, 0));
     std::iter::from_fn(move || {
         let (at, pending) = next.take()?;
         if at == region.len() && pending == 0 {
             return None;
         }
-        let token = parse(region, at, pending > 0);
+        let token = parse(region, mode, at, pending > 0);
         if let Ok(token) = token {
             let pending = if pending == 0 { token.items } else { pending - 1 };
             next = Some((token.end, pending));
@@ -150,13 +150,21 @@ pub fn tokens(region: &[u8]) -> impl Iterator<Item = Result<Token, Error>> + '_ 
 #[cfg(test)]
 mod tests {
     use super::*;
+    use crate::leb128::Mode::{Strict, Tolerant};
+    use crate::leb128::MOST;
+    use crate::testing::in_both;
+
+    /// The tokens of a region in both modes, see [`in_both`].
+    fn read_all(region: &[u8]) -> Result<Vec<Token>, Error> {
+        in_both(|mode| tokens(region, mode).collect())
+    }
 
     fn kinds_and_ends(region: &[u8]) -> Result<Vec<(u8, u64, usize)>, Error> {
-        tokens(region).map(|token| token.map(|token| (token.kind, token.n, token.end))).collect()
+        Ok(read_all(region)?.into_iter().map(|token| (token.kind, token.n, token.end)).collect())
     }
 
     fn fault(region: &[u8]) -> Option<Error> {
-        tokens(region).find_map(Result::err)
+        read_all(region).err()
     }
 
     #[test]
@@ -206,15 +214,25 @@ mod tests {
 
     /// A header with low 15 and its number, to which 15 is still to be added: n may be over 2^64-1.
     fn long(kind: u8, rest: u64) -> Vec<u8> {
+        long_in(kind, rest, leb128::size(rest))
+    }
+
+    /// The same with a number of `size` bytes.
+    fn long_in(kind: u8, rest: u64, size: usize) -> Vec<u8> {
         let mut bytes = vec![kind << 4 | 15];
-        append(&mut bytes, rest);
+        append_in(&mut bytes, rest, size);
         bytes
     }
 
     /// Appends a LEB128 number.
     fn append(bytes: &mut Vec<u8>, number: u64) {
+        append_in(bytes, number, leb128::size(number));
+    }
+
+    /// Appends a LEB128 number of `size` bytes.
+    fn append_in(bytes: &mut Vec<u8>, number: u64, size: usize) {
         let from = bytes.len();
-        bytes.resize(from + leb128::size(number), 0);
+        bytes.resize(from + size, 0);
         leb128::write(&mut bytes[from..], number);
     }
 
@@ -301,7 +319,7 @@ mod tests {
         for kind in [14, 15] {
             let below = long(kind, u64::MAX - 15);
             assert_eq!(fault(&below), None);
-            assert_eq!(read(&below, 0), Err(ErrorKind::BadTarget.at(0)));
+            assert_eq!(read(&below, Strict, 0), Err(ErrorKind::BadTarget.at(0)));
             assert_eq!(fault(&long(kind, u64::MAX - 14)), range);
         }
         assert_eq!(fault(&long(8, u64::MAX - 15)), Some(ErrorKind::Trunc.at(11)));
@@ -331,8 +349,7 @@ mod tests {
     fn the_argument_count_is_a_bare_number() {
         let mut region = vec![0xc0, 0x0f];
         region.extend([0x10; 15]);
-        assert_eq!(tokens(&region).count(), 16);
-        assert_eq!(fault(&region), None);
+        assert_eq!(read_all(&region).map(|tokens| tokens.len()), Ok(16));
         assert_eq!(fault(&[0xc0, 0x80, 0x00]), Some(ErrorKind::Overlong.at(0)));
         assert_eq!(fault(&[0xc3]), Some(ErrorKind::Trunc.at(0)));
     }
@@ -346,10 +363,76 @@ mod tests {
 
     #[test]
     fn targets_below_zero() {
-        assert_eq!(read(&[0xf0], 0), Err(ErrorKind::BadTarget.at(0)));
-        assert_eq!(read(&[0x10, 0xe1], 1), Err(ErrorKind::BadTarget.at(1)));
-        let target = read(&[0x10, 0xe0], 1).map(|token| token.target());
+        assert_eq!(read(&[0xf0], Strict, 0), Err(ErrorKind::BadTarget.at(0)));
+        assert_eq!(read(&[0x10, 0xe1], Strict, 1), Err(ErrorKind::BadTarget.at(1)));
+        let target = read(&[0x10, 0xe0], Strict, 1).map(|token| token.target());
         assert_eq!(target, Ok(Some(0)));
         assert_eq!(fault(&[0xf0]), None, "tokens do not tell targets");
+    }
+
+    /// The first token of a region in the tolerant mode.
+    fn tolerant(region: &[u8]) -> Result<Token, Error> {
+        tokens(region, Tolerant).next().expect("a region of some bytes")
+    }
+
+    /// A number of every kind that has one, in every number of bytes. What comes after it is as after the shortest form.
+    #[test]
+    fn padded_numbers_of_every_kind() {
+        for kind in [1, 2, 4, 5, 6, 7, 8, 10, 11, 12, 14, 15] {
+            for rest in [0, 1, 127, 128, 300, 1 << 31, 1 << 32, i64::MAX as u64, 1 << 63, u64::MAX] {
+                // A count of no arguments, if it is a variant of many.
+                let after = [0; 700];
+                let shortest = [&long(kind, rest)[..], &after].concat();
+                let expected = tolerant(&shortest);
+                assert_eq!(expected, tokens(&shortest, Strict).next().expect("a token"));
+                for size in leb128::size(rest) + 1..=MOST {
+                    let padded = [&long_in(kind, rest, size)[..], &after].concat();
+                    assert_eq!(fault(&padded), Some(ErrorKind::Overlong.at(0)));
+                    let more = size - leb128::size(rest);
+                    let expected = match expected {
+                        Ok(token) => Ok(Token { first: token.first + more, end: token.end + more, ..token }),
+                        Err(Error { kind, place: 0 }) => Err(kind.at(0)),
+                        Err(Error { kind, place }) => Err(kind.at(place as usize + more)),
+                    };
+                    assert_eq!(tolerant(&padded), expected, "kind {kind}, number {rest} in {size} bytes");
+                }
+            }
+        }
+    }
+
+    #[test]
+    fn both_numbers_of_a_variant_of_many_may_be_padded() {
+        for (index_size, count_size) in (1..=MOST).flat_map(|size| (1..=MOST).map(move |other| (size, other))) {
+            let mut region = long_in(12, 3, index_size);
+            append_in(&mut region, 2, count_size);
+            let first = region.len();
+            region.extend([0x10, 0x11]);
+            let token = Token { at: 0, kind: 12, n: 18, items: 2, first, end: first };
+            assert_eq!(tolerant(&region), Ok(token));
+            let expected = (index_size > 1 || count_size > 1).then(|| ErrorKind::Overlong.at(0));
+            assert_eq!(fault(&region), expected, "{index_size} and {count_size} bytes");
+            // The tenth byte of either.
+            for (size, last) in [(index_size, index_size), (count_size, first - 1)] {
+                let mut over = region.clone();
+                over[last] = 2;
+                assert!(size < MOST || tolerant(&over) == Err(ErrorKind::Range.at(0)), "{over:x?}");
+            }
+        }
+    }
+
+    #[test]
+    fn padded_distances_and_their_targets() {
+        for kind in [14, 15] {
+            for size in 1..=MOST {
+                for (before, target) in [(15, None), (16, Some(0)), (19, Some(3))] {
+                    let region = [vec![0x10; before], long_in(kind, 0, size)].concat();
+                    let token = read(&region, Tolerant, before);
+                    match target {
+                        None => assert_eq!(token, Err(ErrorKind::BadTarget.at(before))),
+                        Some(_) => assert_eq!(token.map(|token| (token.target(), token.end)), Ok((target, region.len()))),
+                    }
+                }
+            }
+        }
     }
 }

@@ -8,7 +8,7 @@
 use reference::{check, Call, Scalar, Writer};
 
 use super::words::{hex, integer, number, parse_hex};
-use super::{list, verdict, JUNK_WORD, MOST_WORDS};
+use super::{list, verdict, JUNK_WORD, MODE, MOST_WORDS};
 
 /// The bytes of an output at most, and those of a byte string of zeros.
 const MOST_BYTES: u64 = 1024;
@@ -36,7 +36,7 @@ pub fn answer(room: u64, words: usize, calls: &[&str]) -> String {
     if writer.closed {
         let mut table = [JUNK_WORD; MOST_WORDS as usize];
         answer += " / ";
-        answer += &verdict(check(bytes, &mut table));
+        answer += &verdict(check(bytes, MODE, &mut table));
     }
     answer
 }

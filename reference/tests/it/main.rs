@@ -3,6 +3,7 @@
 mod ends;
 mod lines;
 mod model;
+mod modes;
 mod plain;
 mod random;
 mod rewrite;

@@ -1,7 +1,7 @@
 //! The writer against the reference model, call by call.
 
 use reference::model::Model;
-use reference::{check, Call, ErrorKind, Writer};
+use reference::{check, Call, ErrorKind, Mode, Writer};
 
 use crate::random::Random;
 use crate::rewrite::calls_of;
@@ -54,13 +54,13 @@ fn compare(random: &mut Random, room: usize, words: usize, calls: usize) -> Vec<
 /// A closed file is accepted by check, with the writer's starts, and holds what was written.
 fn read_back(file: &[u8], listed: &[u32], accepted: &[Call<'_>]) {
     let mut starts = vec![JUNK_WORD; file.len()];
-    let checked = check(file, &mut starts).expect("a closed file is well-formed");
+    let checked = check(file, Mode::Strict, &mut starts).expect("a closed file is well-formed");
     assert_eq!(starts[..checked.count], listed[..checked.count]);
 
     let Some((Call::Close(entry), values)) = accepted.split_last() else {
         panic!("the last accepted call is the close");
     };
-    let mut read = calls_of(file);
+    let mut read = calls_of(file, Mode::Strict);
     assert_eq!(read.pop(), Some(Call::Close(checked.entry as u64)));
     if checked.entry as u64 != *entry {
         assert_eq!(read.pop(), Some(Call::Pointer(*entry)));

@@ -1,7 +1,7 @@
 //! Check and depths against a plain restatement of the rules, without tables, blocks or quick ways.
 
 use reference::ErrorKind::{self, *};
-use reference::{check, depths, follow, skip};
+use reference::{check, depths, follow, skip, Mode};
 
 use crate::random::Random;
 
@@ -22,7 +22,7 @@ struct Head {
 type Fault = (ErrorKind, usize);
 
 /// "LEB128: seven bits a byte, lowest first, high bit set on all but the last."
-fn number(region: &[u8], at: usize) -> Result<(u128, usize), ErrorKind> {
+fn number(region: &[u8], mode: Mode, at: usize) -> Result<(u128, usize), ErrorKind> {
     let mut value = 0;
     let mut place = 0;
     loop {
@@ -33,7 +33,7 @@ fn number(region: &[u8], at: usize) -> Result<(u128, usize), ErrorKind> {
         value += u128::from(byte & 0x7f) << (7 * place);
         place += 1;
         if byte & 0x80 == 0 {
-            if byte == 0 && place > 1 {
+            if byte == 0 && place > 1 && mode == Mode::Strict {
                 return Err(Overlong);
             }
             return Ok((value, at + place));
@@ -42,7 +42,7 @@ fn number(region: &[u8], at: usize) -> Result<(u128, usize), ErrorKind> {
 }
 
 /// The head at an offset, or its first fault and the place.
-fn head(region: &[u8], at: usize, is_item: bool) -> Result<Head, Fault> {
+fn head(region: &[u8], mode: Mode, at: usize, is_item: bool) -> Result<Head, Fault> {
     let fault = |kind| (kind, at);
     let kind = region[at] / 16;
     let low = region[at] % 16;
@@ -60,7 +60,7 @@ fn head(region: &[u8], at: usize, is_item: bool) -> Result<Head, Fault> {
     }
     let (mut n, mut end) = (u128::from(low), at + 1);
     if low == 15 {
-        (n, end) = number(region, end).map_err(fault)?;
+        (n, end) = number(region, mode, end).map_err(fault)?;
         n += 15;
     }
     let most = match kind {
@@ -73,7 +73,7 @@ fn head(region: &[u8], at: usize, is_item: bool) -> Result<Head, Fault> {
     }
     let mut count = 0;
     if kind == 12 {
-        (count, end) = number(region, end).map_err(fault)?;
+        (count, end) = number(region, mode, end).map_err(fault)?;
     }
     let left = (region.len() - end) as u128;
     let (bytes, items, least) = match kind {
@@ -100,7 +100,7 @@ fn head(region: &[u8], at: usize, is_item: bool) -> Result<Head, Fault> {
 }
 
 /// The row and the entry of a file.
-fn row(file: &[u8], words: usize) -> Result<(Vec<Plain>, usize), Fault> {
+fn row(file: &[u8], mode: Mode, words: usize) -> Result<(Vec<Plain>, usize), Fault> {
     let Some((delta, region)) = file.split_last() else {
         return Err((Empty, 0));
     };
@@ -117,7 +117,7 @@ fn row(file: &[u8], words: usize) -> Result<(Vec<Plain>, usize), Fault> {
             if at == region.len() {
                 return Err((Trunc, at));
             }
-            let found = head(region, at, at > start)?;
+            let found = head(region, mode, at, at > start)?;
             if found.kind >= 14 {
                 let target = row.iter().map(|value| value.start).find(|target| at as u128 == *target as u128 + found.n + 1);
                 targets.push(target.ok_or((BadTarget, at))?);
@@ -143,11 +143,15 @@ fn depth(row: &[Plain], start: usize) -> u32 {
     1 + deepest.unwrap_or(0)
 }
 
-/// Asks both, by tables of these lengths.
-fn compare(file: &[u8], words: usize, more_words: usize) -> Result<(), ErrorKind> {
-    let plain = row(file, words);
+/// Asks both in both modes, by tables of these lengths. Returns the strict and the tolerant answer.
+fn compare(file: &[u8], words: usize, more_words: usize) -> [Result<(), ErrorKind>; 2] {
+    Mode::ALL.map(|mode| compare_in(file, mode, words, more_words))
+}
+
+fn compare_in(file: &[u8], mode: Mode, words: usize, more_words: usize) -> Result<(), ErrorKind> {
+    let plain = row(file, mode, words);
     let mut starts = vec![0xaaaa_aaaa; words];
-    let answer = check(file, &mut starts);
+    let answer = check(file, mode, &mut starts);
     let mut expected = vec![0; words];
     match &plain {
         Ok((row, entry)) => {
@@ -166,7 +170,7 @@ fn compare(file: &[u8], words: usize, more_words: usize) -> Result<(), ErrorKind
 
     let mut starts = vec![0xaaaa_aaaa; words];
     let mut deep = vec![0xaaaa_aaaa; more_words];
-    let deep_answer = depths(file, &mut starts, &mut deep);
+    let deep_answer = depths(file, mode, &mut starts, &mut deep);
     let mut expected_depths = vec![0; more_words];
     match &plain {
         Ok((row, _)) if row.len() > more_words => {
@@ -191,18 +195,18 @@ fn compare(file: &[u8], words: usize, more_words: usize) -> Result<(), ErrorKind
     assert_eq!(starts, expected);
     assert_eq!(deep, expected_depths);
     if let Ok((row, _)) = &plain {
-        questions_fit(file, row);
+        questions_fit(file, mode, row);
     }
     plain.map(|_| ()).map_err(|(kind, _)| kind)
 }
 
 /// In an accepted file a value ends where the next starts, and following takes at most j hops from value number j.
-fn questions_fit(file: &[u8], row: &[Plain]) {
+fn questions_fit(file: &[u8], mode: Mode, row: &[Plain]) {
     for (number, value) in row.iter().enumerate() {
         let end = row.get(number + 1).map_or(file.len() - 1, |next| next.start);
         let at = value.start as u64;
-        assert_eq!(skip(file, at), Ok(end));
-        let followed = follow(file, at).expect("a target");
+        assert_eq!(skip(file, mode, at), Ok(end));
+        let followed = follow(file, mode, at).expect("a target");
         assert!(followed.hops <= number as u64);
         assert!(row.iter().any(|value| value.start == followed.offset));
     }
@@ -224,8 +228,7 @@ fn files_of_two_and_three_bytes() {
 fn any_bytes() {
     let mut random = Random::new(5);
     for _ in 0..200_000 {
-        let length = random.below(24);
-        let file: Vec<u8> = (0..length).map(|_| random.next() as u8).collect();
+        let file = random.bytes(24);
         let words = random.below(6) as usize;
         let more_words = random.below(6) as usize;
         let _ = compare(&file, words, more_words);
@@ -236,20 +239,25 @@ fn any_bytes() {
 fn written_and_spoilt_files() {
     let mut random = Random::new(6);
     let mut refused = Vec::new();
-    for _ in 0..6000 {
+    for _ in 0..3000 {
         let longest = 8 + random.below(500) as usize;
         let file = random.file(longest);
-        assert_eq!(compare(&file, file.len(), file.len()), Ok(()));
-        for _ in 0..4 {
-            let spoilt = random.spoilt(&file);
-            refused.extend(compare(&spoilt, spoilt.len(), spoilt.len()).err());
-            let words = random.below(30) as usize;
-            let more_words = random.below(30) as usize;
-            refused.extend(compare(&spoilt, words, more_words).err());
+        assert_eq!(compare(&file, file.len(), file.len()), [Ok(()); 2]);
+        let padded = random.padded(&file);
+        let strict = if padded == file { Ok(()) } else { Err(Overlong) };
+        assert_eq!(compare(&padded, padded.len(), padded.len()), [strict, Ok(())]);
+        for file in [file, padded] {
+            for _ in 0..4 {
+                let spoilt = random.spoilt(&file);
+                refused.extend(compare(&spoilt, spoilt.len(), spoilt.len()));
+                let words = random.below(30) as usize;
+                let more_words = random.below(30) as usize;
+                refused.extend(compare(&spoilt, words, more_words));
+            }
         }
     }
     for kind in [Trunc, LongBody, LongList, Reserved, Overlong, Range, Nested, BadText, BadTarget, Full, BadEntry] {
-        assert!(refused.contains(&kind), "{kind}");
+        assert!(refused.contains(&Err(kind)), "{kind}");
     }
 }
 
@@ -263,7 +271,9 @@ fn files_of_many_blocks() {
                 break file;
             }
         };
-        assert_eq!(compare(&file, file.len(), file.len()), Ok(()));
+        assert_eq!(compare(&file, file.len(), file.len()), [Ok(()); 2]);
+        let padded = random.padded(&file);
+        assert_eq!(compare(&padded, padded.len(), padded.len()), [Err(Overlong), Ok(())]);
         for _ in 0..3 {
             let spoilt = random.spoilt(&file);
             let _ = compare(&spoilt, spoilt.len(), spoilt.len());

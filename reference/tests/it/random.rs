@@ -1,6 +1,6 @@
 //! Made-up numbers, calls and files; the same ones in each run.
 
-use reference::{Call, Scalar, Writer};
+use reference::{export, Call, Scalar, Writer};
 
 /// Texts that a made-up call may hold, and bytes that are not a text.
 const TEXTS: [&[u8]; 20] = [
@@ -151,6 +151,18 @@ impl Random {
         }
         out.truncate(writer.written as usize);
         out
+    }
+
+    /// The values of a well-formed file with their numbers padded: to five bytes, or each by any number of them.
+    pub fn padded(&mut self, file: &[u8]) -> Vec<u8> {
+        let is_five = self.one_in(2);
+        let size = |size| if is_five { 5 } else { size + self.below(10) as usize };
+        export(file, size).expect("a well-formed file")
+    }
+
+    /// Any bytes, fewer than `bound`.
+    pub fn bytes(&mut self, bound: u64) -> Vec<u8> {
+        (0..self.below(bound)).map(|_| self.next() as u8).collect()
     }
 
     /// A file with a few bytes changed, put in or taken out.

@@ -1,21 +1,21 @@
 //! A well-formed file, read value by value and written again, has the same bytes.
 
-use reference::{body, check, item, read, Call, Value, Writer};
+use reference::{body, check, depths, export, item, read, Call, ErrorKind, Mode, Value, Writer};
 
 use crate::random::Random;
 
-/// The calls that write a well-formed file, found by the questions at an offset.
-pub fn calls_of(file: &[u8]) -> Vec<Call<'_>> {
+/// The calls that write the values of a well-formed file, found by the questions at an offset. Targets are those in the file.
+pub fn calls_of(file: &[u8], mode: Mode) -> Vec<Call<'_>> {
     let mut starts = vec![0; file.len()];
-    let checked = check(file, &mut starts).expect("a well-formed file");
+    let checked = check(file, mode, &mut starts).expect("a well-formed file");
     let mut calls = Vec::new();
     for start in &starts[..checked.count] {
         let start = u64::from(*start);
-        let (call, items) = call_at(file, start);
+        let (call, items) = call_at(file, mode, start);
         calls.push(call);
         for index in 0..items {
-            let offset = item(file, start, index).expect("an item");
-            calls.push(call_at(file, offset as u64).0);
+            let offset = item(file, mode, start, index).expect("an item");
+            calls.push(call_at(file, mode, offset as u64).0);
         }
     }
     calls.push(Call::Close(checked.entry as u64));
@@ -23,14 +23,14 @@ pub fn calls_of(file: &[u8]) -> Vec<Call<'_>> {
 }
 
 /// The call of the value at an offset, and the items that it opens.
-fn call_at(file: &[u8], at: u64) -> (Call<'_>, u64) {
-    match read(file, at).expect("a value") {
+fn call_at(file: &[u8], mode: Mode, at: u64) -> (Call<'_>, u64) {
+    match read(file, mode, at).expect("a value") {
         Value::Scalar(scalar) => (Call::Scalar(scalar), 0),
         Value::Integer(integer) => (Call::Integer(integer), 0),
         Value::Float32(bits) => (Call::Float32(bits), 0),
         Value::Float64(bits) => (Call::Float64(bits), 0),
-        Value::Text(_) => (Call::Text(body(file, at)), 0),
-        Value::Bytes(_) => (Call::Bytes(body(file, at)), 0),
+        Value::Text(_) => (Call::Text(body(file, mode, at)), 0),
+        Value::Bytes(_) => (Call::Bytes(body(file, mode, at)), 0),
         Value::Array { items, .. } => (Call::Array(items), items),
         Value::Map { pairs, .. } => (Call::Map(pairs), 2 * pairs),
         Value::Tag { tag, .. } => (Call::Tag(tag), 1),
@@ -45,11 +45,11 @@ fn call_at(file: &[u8], at: u64) -> (Call<'_>, u64) {
 /// Writes a well-formed file again, with just enough room and words.
 fn assert_rewritten(file: &[u8]) {
     let mut starts = vec![0; file.len()];
-    let count = check(file, &mut starts).expect("a well-formed file").count;
+    let count = check(file, Mode::Strict, &mut starts).expect("a well-formed file").count;
     let mut out = vec![0; file.len()];
     let mut starts = vec![0; count];
     let mut writer = Writer::new();
-    for call in calls_of(file) {
+    for call in calls_of(file, Mode::Strict) {
         let answer;
         (answer, writer) = writer.step(call, &mut out, &mut starts);
         assert_eq!(answer, Ok(()), "{call:?}");
@@ -92,10 +92,61 @@ fn spoilt_files_that_are_still_well_formed() {
         let longest = 8 + random.below(60) as usize;
         let file = random.file(longest);
         let file = random.spoilt(&file);
-        if check(&file, &mut vec![0; file.len()]).is_ok() {
+        if check(&file, Mode::Strict, &mut vec![0; file.len()]).is_ok() {
             assert_rewritten(&file);
             accepted += 1;
         }
     }
     assert!(accepted > 1000, "{accepted} files");
+}
+
+/// The calls that write the values of a well-formed file, with each target as the number of the value that starts there, and
+/// the depths of the values.
+fn numbered(file: &[u8], mode: Mode) -> (Vec<Call<'_>>, Vec<u32>) {
+    let mut starts = vec![0; file.len()];
+    let mut words = starts.clone();
+    let count = depths(file, mode, &mut starts, &mut words).expect("a well-formed file").count;
+    words.truncate(count);
+    let number = |at: u64| starts[..count].partition_point(|start| u64::from(*start) < at) as u64;
+    let calls = calls_of(file, mode).into_iter().map(|call| match call {
+        Call::Reference(at) => Call::Reference(number(at)),
+        Call::Pointer(at) => Call::Pointer(number(at)),
+        Call::Close(at) => Call::Close(number(at)),
+        call => call,
+    });
+    (calls.collect(), words)
+}
+
+/// A file with padded numbers holds the same values, and has the same bytes once its numbers are in their shortest form.
+#[test]
+fn padded_files() {
+    let mut random = Random::new(12);
+    let mut overlong = 0;
+    for _ in 0..1500 {
+        let longest = 8 + random.below(400) as usize;
+        let file = random.file(longest);
+        let padded = random.padded(&file);
+        let answer = check(&padded, Mode::Strict, &mut vec![0; padded.len()]);
+        if padded == file {
+            assert!(answer.is_ok());
+            continue;
+        }
+        assert_eq!(answer.map_err(|error| error.kind), Err(ErrorKind::Overlong));
+        overlong += 1;
+        let (calls, depths) = numbered(&file, Mode::Strict);
+        let (mut padded_calls, mut padded_depths) = numbered(&padded, Mode::Tolerant);
+        if padded_depths.len() > depths.len() {
+            // The entry is out of the delta byte's reach, and the last value leads to it.
+            let [.., Call::Pointer(entry), Call::Close(_)] = padded_calls[..] else {
+                panic!("no pointer to the entry: {padded_calls:?}");
+            };
+            padded_calls.truncate(padded_calls.len() - 2);
+            padded_calls.push(Call::Close(entry));
+            padded_depths.pop();
+        } else {
+            assert_eq!(export(&padded, |fewest| fewest), Ok(file.clone()));
+        }
+        assert_eq!((padded_calls, padded_depths), (calls, depths));
+    }
+    assert!(overlong > 1000, "{overlong} files");
 }
