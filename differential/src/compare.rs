@@ -1,10 +1,10 @@
 //! Asks both programs the same, and compares all that they answer and leave in what they are lent.
 
 use reference::query::{Body, Followed};
-use reference::{Call, Checked, Error, ErrorKind, Value, Writer};
+use reference::{kind, Call, Checked, Error, ErrorKind, Mode, Value, Writer};
 
 use crate::difference::{self, Difference};
-use crate::ffi::{NAME, STATE};
+use crate::ffi::{self, NAME, STATE};
 use crate::guarded::Guarded;
 use crate::make;
 use crate::product::Product;
@@ -17,6 +17,8 @@ const JUNK_OUT: u64 = 0x5a5a_5a5a_a5a5_a5a5;
 
 /// The numbers of answers, OK among them.
 pub const ANSWERS: usize = 1 + ErrorKind::ALL.len();
+
+const OVERLONG: u32 = ErrorKind::Overlong as u32;
 
 /// What is asked, for the counts of answers.
 #[derive(Clone, Copy, Debug, PartialEq, Eq)]
@@ -65,18 +67,73 @@ impl Asked {
 /// An answer's number and its out array.
 type Answer<const N: usize> = (u32, [u64; N]);
 
+/// What a question hands to the product.
+struct Handed<'h, const N: usize> {
+    file: &'h [u8],
+    mode: u32,
+    /// The key of a lookup.
+    key: &'h [u8],
+    starts: &'h mut [u32],
+    depths: &'h mut [u32],
+    out: &'h mut [u64; N],
+}
+
+/// The product's answer, and what it left in the memory that it was lent.
+#[derive(Debug, PartialEq)]
+struct Left {
+    number: u32,
+    out: Guarded<u64>,
+    starts: Guarded<u32>,
+    depths: Guarded<u32>,
+}
+
+impl Left {
+    fn new() -> Self {
+        Self {
+            number: 0,
+            out: Guarded::new(0x0bad_0bad_0bad_0bad),
+            starts: Guarded::new(0x0bad_cafe),
+            depths: Guarded::new(0x0bad_f00d),
+        }
+    }
+
+    /// Fills memory of these lengths with junk.
+    fn refill(&mut self, out: usize, [starts, depths]: [usize; 2]) {
+        self.out.fill(out, JUNK_OUT);
+        self.starts.fill(starts, JUNK);
+        self.depths.fill(depths, JUNK);
+    }
+
+    fn is_guarded(&self) -> bool {
+        self.out.is_guarded() && self.starts.is_guarded() && self.depths.is_guarded()
+    }
+
+    /// Whether this may be what the tolerant mode left after `strict`: if that is not OVERLONG, only the same.
+    fn may_follow(&self, strict: &Self) -> bool {
+        strict.number == OVERLONG || self == strict
+    }
+
+    fn answer(&self) -> String {
+        difference::answer(self.number, self.out.slice())
+    }
+}
+
 /// Puts questions to both programs.
 #[derive(Debug)]
 pub struct Comparer<P> {
     product: P,
     /// How often each answer was met, by what was asked.
     met: [[u64; ANSWERS]; Asked::Call as usize + 1],
+    /// How often an answer that is OVERLONG in the strict mode was OK in the tolerant one, by what was asked.
+    padded: [u64; Asked::Call as usize + 1],
     file: Guarded<u8>,
+    /// A number of neither mode that the file is asked with too.
+    other_mode: Option<u32>,
     /// A key, or the bytes of a writer's call.
     argument: Guarded<u8>,
-    starts: Guarded<u32>,
-    depths: Guarded<u32>,
-    out: Guarded<u64>,
+    left: Left,
+    /// What the strict mode left, when the tolerant one is asked.
+    strict: Left,
     expected_starts: Vec<u32>,
     expected_depths: Vec<u32>,
 }
@@ -87,11 +144,12 @@ impl<P: Product> Comparer<P> {
         Self {
             product,
             met: [[0; ANSWERS]; Asked::Call as usize + 1],
+            padded: [0; Asked::Call as usize + 1],
             file: Guarded::new(0),
+            other_mode: None,
             argument: Guarded::new(0x41),
-            starts: Guarded::new(0x0bad_cafe),
-            depths: Guarded::new(0x0bad_f00d),
-            out: Guarded::new(0x0bad_0bad_0bad_0bad),
+            left: Left::new(),
+            strict: Left::new(),
             expected_starts: Vec::new(),
             expected_depths: Vec::new(),
         }
@@ -107,14 +165,21 @@ impl<P: Product> Comparer<P> {
         self.met.iter().map(|met| met[number as usize]).sum()
     }
 
+    /// How often an answer to this was OVERLONG in the strict mode and OK in the tolerant one.
+    pub fn padded_by(&self, asked: Asked) -> u64 {
+        self.padded[asked as usize]
+    }
+
     /// Asks something of a file, and then checks that it is as it was. `guard` is the byte around the file, which must not
-    /// matter.
+    /// matter; `other_mode` is a number of neither mode, with which it is asked too, as strict.
     pub fn of_file(
         &mut self,
         file: &[u8],
         guard: u8,
+        other_mode: Option<u32>,
         ask: impl FnOnce(&mut Self) -> Result<(), Difference>,
     ) -> Result<(), Difference> {
+        self.other_mode = other_mode;
         self.file.guard_with(guard);
         self.file.copy_from(file);
         ask(self)?;
@@ -129,99 +194,107 @@ impl<P: Product> Comparer<P> {
         }
     }
 
-    /// `twine_check`, with a table of this length. Returns the count of an accepted file.
+    /// `twine_check`, with a table of this length. Returns the count of a file that the tolerant mode accepts.
     pub fn check(&mut self, words: usize) -> Result<Option<usize>, Difference> {
-        self.starts.fill(words, JUNK);
-        self.depths.fill(0, JUNK);
-        self.out.fill(2, JUNK_OUT);
-        refill(&mut self.expected_starts, words);
-        refill(&mut self.expected_depths, 0);
-        let out = array(self.out.slice_mut());
-        let number = self.product.check(self.file.slice(), self.starts.slice_mut(), out);
-        let expected = reference::check(self.file.slice(), &mut self.expected_starts);
-        let question = || format!("check with {words} words");
-        self.compare(Asked::Check, number, checked(expected), self.are_tables_same(), question)?;
-        Ok(expected.ok().map(|checked| checked.count))
+        let (number, [count, _]) = self.ask(
+            Asked::Check,
+            [words, 0],
+            || format!("check with {words} words"),
+            |product, handed| product.check(handed.file, handed.mode, handed.starts, handed.out),
+            |file, mode, [starts, _]| checked(reference::check(file, mode, starts)),
+        )?;
+        Ok((number == 0).then_some(count as usize))
     }
 
     /// `twine_depths`, with tables of these lengths.
     pub fn depths(&mut self, words: usize, words2: usize) -> Result<(), Difference> {
-        self.starts.fill(words, JUNK);
-        self.depths.fill(words2, JUNK);
-        self.out.fill(2, JUNK_OUT);
-        refill(&mut self.expected_starts, words);
-        refill(&mut self.expected_depths, words2);
-        let (starts, depths) = (self.starts.slice_mut(), self.depths.slice_mut());
-        let out = array(self.out.slice_mut());
-        let number = self.product.depths(self.file.slice(), starts, depths, out);
-        let (starts, depths) = (&mut self.expected_starts, &mut self.expected_depths);
-        let expected = reference::depths(self.file.slice(), starts, depths);
-        let question = || format!("depths with {words} and {words2} words");
-        self.compare(Asked::Depths, number, checked(expected), self.are_tables_same(), question)
+        self.ask(
+            Asked::Depths,
+            [words, words2],
+            || format!("depths with {words} and {words2} words"),
+            |product, handed| product.depths(handed.file, handed.mode, handed.starts, handed.depths, handed.out),
+            |file, mode, [starts, depths]| checked(reference::depths(file, mode, starts, depths)),
+        )?;
+        Ok(())
     }
 
-    /// `twine_read`. Returns the kind and the count of items of a value that can be read.
+    /// `twine_read`. Returns what the value is if the tolerant mode reads it.
     pub fn read(&mut self, at: u64) -> Result<Option<Read>, Difference> {
-        self.out.fill(4, JUNK_OUT);
-        let out = array(self.out.slice_mut());
-        let number = self.product.read(self.file.slice(), at as usize, out);
-        let file = self.file.slice();
-        let expected = reference::read(file, at);
-        let end = reference::skip(file, at);
-        self.compare(Asked::Read, number, read(expected, at, end), true, || format!("read at {at}"))?;
-        Ok(expected.ok().map(Read::of))
+        let (number, out) = self.ask(
+            Asked::Read,
+            [0; 2],
+            || format!("read at {at}"),
+            |product, handed| product.read(handed.file, handed.mode, at as usize, handed.out),
+            |file, mode, _| read(reference::read(file, mode, at), at, reference::skip(file, mode, at)),
+        )?;
+        Ok((number == 0).then(|| Read::of(out)))
     }
 
     /// `twine_skip`.
     pub fn skip(&mut self, at: u64) -> Result<(), Difference> {
-        self.out.fill(2, JUNK_OUT);
-        let out = array(self.out.slice_mut());
-        let number = self.product.skip(self.file.slice(), at as usize, out);
-        let expected = reference::skip(self.file.slice(), at);
-        self.compare(Asked::Skip, number, offset(expected), true, || format!("skip at {at}"))
+        self.ask(
+            Asked::Skip,
+            [0; 2],
+            || format!("skip at {at}"),
+            |product, handed| product.skip(handed.file, handed.mode, at as usize, handed.out),
+            |file, mode, _| offset(reference::skip(file, mode, at)),
+        )?;
+        Ok(())
     }
 
     /// `twine_item`.
     pub fn item(&mut self, at: u64, index: u64) -> Result<(), Difference> {
-        self.out.fill(2, JUNK_OUT);
-        let out = array(self.out.slice_mut());
-        let number = self.product.item(self.file.slice(), at as usize, index as usize, out);
-        let expected = reference::item(self.file.slice(), at, index);
-        self.compare(Asked::Item, number, offset(expected), true, || format!("item {index} at {at}"))
+        self.ask(
+            Asked::Item,
+            [0; 2],
+            || format!("item {index} at {at}"),
+            |product, handed| product.item(handed.file, handed.mode, at as usize, index as usize, handed.out),
+            |file, mode, _| offset(reference::item(file, mode, at, index)),
+        )?;
+        Ok(())
     }
 
     /// `twine_follow`.
     pub fn follow(&mut self, at: u64) -> Result<(), Difference> {
-        self.out.fill(2, JUNK_OUT);
-        let out = array(self.out.slice_mut());
-        let number = self.product.follow(self.file.slice(), at as usize, out);
-        let expected = reference::follow(self.file.slice(), at);
-        let answer = answer_of(expected, |Followed { offset, hops }| [offset as u64, hops]);
-        self.compare(Asked::Follow, number, answer, true, || format!("follow at {at}"))
+        self.ask(
+            Asked::Follow,
+            [0; 2],
+            || format!("follow at {at}"),
+            |product, handed| product.follow(handed.file, handed.mode, at as usize, handed.out),
+            |file, mode, _| answer_of(reference::follow(file, mode, at), |Followed { offset, hops }| [offset as u64, hops]),
+        )?;
+        Ok(())
     }
 
     /// `twine_lookup`.
     pub fn lookup(&mut self, at: u64, key: &[u8]) -> Result<(), Difference> {
-        self.out.fill(2, JUNK_OUT);
-        self.argument.copy_from(key);
-        let out = array(self.out.slice_mut());
-        let number = self.product.lookup(self.file.slice(), at as usize, self.argument.slice(), out);
-        let expected = reference::lookup(self.file.slice(), at, key);
         let question = || format!("lookup at {at} of the key of {}", difference::hex(key));
+        self.argument.copy_from(key);
+        self.ask(
+            Asked::Lookup,
+            [0; 2],
+            question,
+            |product, handed| product.lookup(handed.file, handed.mode, at as usize, handed.key, handed.out),
+            |file, mode, _| offset(reference::lookup(file, mode, at, key)),
+        )?;
         if self.argument.slice() != key || !self.argument.is_guarded() {
             return Err(self.touched("the key", question()));
         }
-        self.compare(Asked::Lookup, number, offset(expected), true, question)
+        Ok(())
     }
 
     /// `twine_body`. That the part of the file which it returns is the body follows from the two numbers.
     pub fn body(&mut self, at: u64) -> Result<(), Difference> {
-        self.out.fill(2, JUNK_OUT);
-        let out = array(self.out.slice_mut());
-        let number = self.product.body(self.file.slice(), at as usize, out);
-        let expected = reference::query::body_place(self.file.slice(), at);
-        let answer = answer_of(expected, |Body { first, length }| [first as u64, length as u64]);
-        self.compare(Asked::Body, number, answer, true, || format!("body at {at}"))
+        self.ask(
+            Asked::Body,
+            [0; 2],
+            || format!("body at {at}"),
+            |product, handed| product.body(handed.file, handed.mode, at as usize, handed.out),
+            |file, mode, _| {
+                answer_of(reference::body_place(file, mode, at), |Body { first, length }| [first as u64, length as u64])
+            },
+        )?;
+        Ok(())
     }
 
     /// `twine_spell_error`.
@@ -244,39 +317,78 @@ impl<P: Product> Comparer<P> {
         })
     }
 
-    /// Compares an answer and its out array, and looks at the guards; the tables were compared before.
+    /// Puts a question to both programs in each mode, with tables of these lengths, and compares answers and memory. If the
+    /// product's strict answer is not OVERLONG, its tolerant one has to be the same. Returns the tolerant answer.
+    fn ask<const N: usize>(
+        &mut self,
+        asked: Asked,
+        tables: [usize; 2],
+        question: impl Fn() -> String,
+        product: impl Fn(&P, Handed<'_, N>) -> u32,
+        second: impl Fn(&[u8], Mode, [&mut [u32]; 2]) -> Answer<N>,
+    ) -> Result<Answer<N>, Difference> {
+        let in_mode = |comparer: &mut Self, mode: u32| {
+            comparer.left.refill(N, tables);
+            let Left { number, out, starts, depths } = &mut comparer.left;
+            let handed = Handed {
+                file: comparer.file.slice(),
+                mode,
+                key: comparer.argument.slice(),
+                starts: starts.slice_mut(),
+                depths: depths.slice_mut(),
+                out: array(out.slice_mut()),
+            };
+            *number = product(&comparer.product, handed);
+            let [words, words2] = tables;
+            let expected = [refill(&mut comparer.expected_starts, words), refill(&mut comparer.expected_depths, words2)];
+            let answer = second(comparer.file.slice(), ffi::mode(mode), expected);
+            comparer.compare(asked, mode, answer, &question)
+        };
+        if let Some(other) = self.other_mode {
+            in_mode(self, other)?;
+        }
+        in_mode(self, ffi::STRICT)?;
+        std::mem::swap(&mut self.left, &mut self.strict);
+        let answer = in_mode(self, ffi::TOLERANT)?;
+        if self.strict.number == OVERLONG && self.left.number == 0 {
+            self.padded[asked as usize] += 1;
+        }
+        if !self.left.may_follow(&self.strict) {
+            return Err(self.divided(question()));
+        }
+        Ok(answer)
+    }
+
+    /// Compares what the product answered and left with what it should have, and looks at the guards.
     #[inline]
     fn compare<const N: usize>(
         &mut self,
         asked: Asked,
-        number: u32,
-        (expected, out): Answer<N>,
-        are_tables_same: bool,
+        mode: u32,
+        answer: Answer<N>,
         question: impl FnOnce() -> String,
-    ) -> Result<(), Difference> {
+    ) -> Result<Answer<N>, Difference> {
+        let (expected, out) = answer;
         self.met[asked as usize][expected as usize] += 1;
-        let is_same = number == expected && self.out.slice() == out && are_tables_same;
-        if is_same && self.out.is_guarded() && self.file.is_guarded() {
-            return Ok(());
+        let Left { number, out: left_out, starts, depths } = &self.left;
+        let is_same = *number == expected
+            && left_out.slice().first_chunk() == Some(&out)
+            && starts.slice() == self.expected_starts
+            && depths.slice() == self.expected_depths;
+        if is_same && self.left.is_guarded() && self.file.is_guarded() {
+            return Ok(answer);
         }
-        Err(self.difference(number, expected, &out, question()))
-    }
-
-    /// Compares both tables and looks at their guards.
-    fn are_tables_same(&self) -> bool {
-        self.starts.slice() == self.expected_starts
-            && self.depths.slice() == self.expected_depths
-            && self.starts.is_guarded()
-            && self.depths.is_guarded()
+        Err(self.difference(mode, expected, &out, question()))
     }
 
     #[cold]
-    fn difference(&self, number: u32, expected: u32, out: &[u64], question: String) -> Difference {
-        let mut product = difference::answer(number, self.out.slice());
+    fn difference(&self, mode: u32, expected: u32, out: &[u64], question: String) -> Difference {
+        let mut product = self.left.answer();
         let mut second = difference::answer(expected, out);
-        let tables =
-            [("starts", self.starts.slice(), &self.expected_starts), ("depths", self.depths.slice(), &self.expected_depths)];
-        for (table, words, expected) in tables {
+        let Left { out, starts, depths, .. } = &self.left;
+        for (table, words, expected) in
+            [("starts", starts.slice(), &self.expected_starts), ("depths", depths.slice(), &self.expected_depths)]
+        {
             if let Some((one, other)) = difference::first(table, words, expected) {
                 product += &format!(", {table} of {} words: {one}", words.len());
                 second += &format!(", {other}");
@@ -284,16 +396,26 @@ impl<P: Product> Comparer<P> {
         }
         for (table, is_guarded) in [
             ("the file", self.file.is_guarded()),
-            ("out", self.out.is_guarded()),
-            ("starts", self.starts.is_guarded()),
-            ("depths", self.depths.is_guarded()),
+            ("out", out.is_guarded()),
+            ("starts", starts.is_guarded()),
+            ("depths", depths.is_guarded()),
         ] {
             if !is_guarded {
                 product += &format!(", memory beside {table} was written to");
             }
         }
-        let question = format!("{question} of the file of {}", difference::hex(self.file.slice()));
+        let question = format!("{question}, mode {mode}, of the file of {}", difference::hex(self.file.slice()));
         Difference { question, product, second }
+    }
+
+    /// The modes differ although strict is not OVERLONG.
+    #[cold]
+    fn divided(&self, question: String) -> Difference {
+        Difference {
+            question: format!("{question}, in both modes, of the file of {}", difference::hex(self.file.slice())),
+            product: format!("strict {}, tolerant {}", self.strict.answer(), self.left.answer()),
+            second: "the same, tables included, unless strict is OVERLONG".into(),
+        }
     }
 
     #[cold]
@@ -383,20 +505,12 @@ pub struct Read {
 }
 
 impl Read {
-    fn of(value: Value) -> Self {
-        let items = match value {
-            Value::Array { items, .. } => items,
-            // A count that was read is no more than half the bytes.
-            Value::Map { pairs, .. } => 2 * pairs,
-            Value::Tag { .. } | Value::Variant1 { .. } => 1,
-            Value::VariantN { arguments, .. } => arguments,
-            _ => 0,
-        };
-        let text = match value {
-            Value::Text(body) => Some(body),
-            _ => None,
-        };
-        Self { items, is_map: matches!(value, Value::Map { .. }), text }
+    /// Of the words that `twine_read` leaves.
+    fn of([kind, _, first, count]: [u64; 4]) -> Self {
+        let kind = kind as u8;
+        let text = (kind == kind::TEXT).then_some(Body { first: first as usize, length: count as usize });
+        let has_items = matches!(kind, kind::ARRAY | kind::MAP | kind::TAG | kind::VARIANT1 | kind::VARIANT_N);
+        Self { items: if has_items { count } else { 0 }, is_map: kind == kind::MAP, text }
     }
 }
 
@@ -470,9 +584,11 @@ fn words(writer: Writer) -> [u64; STATE] {
     [written, count, pending, start, closed.into()]
 }
 
-fn refill(table: &mut Vec<u32>, words: usize) {
+/// A table of that many words of junk.
+fn refill(table: &mut Vec<u32>, words: usize) -> &mut [u32] {
     table.clear();
     table.resize(words, JUNK);
+    table
 }
 
 /// A slice that was made with this many elements.
@@ -520,4 +636,25 @@ fn read(answer: Result<Value, Error>, at: u64, end: Result<usize, Error>) -> Ans
         Value::Reference { target } => [14, target as u64, end, 0],
         Value::Pointer { target } => [15, target as u64, end, 0],
     })
+}
+
+#[cfg(test)]
+mod tests {
+    use super::*;
+
+    #[test]
+    fn the_tolerant_mode_may_differ_after_overlong_alone() {
+        let left = |number, start| {
+            let mut left = Left::new();
+            left.refill(2, [1, 0]);
+            left.number = number;
+            left.starts.slice_mut()[0] = start;
+            left
+        };
+        assert!(left(0, 7).may_follow(&left(0, 7)));
+        assert!(left(0, 7).may_follow(&left(OVERLONG, 0)));
+        for (strict, tolerant) in [((0, 7), (0, 8)), ((0, 7), (6, 7)), ((6, 0), (0, 0)), ((6, 0), (OVERLONG, 0))] {
+            assert!(!left(tolerant.0, tolerant.1).may_follow(&left(strict.0, strict.1)), "{strict:?} {tolerant:?}");
+        }
+    }
 }

@@ -5,7 +5,16 @@
 mod c;
 
 pub use c::*;
-use reference::{Call, Scalar};
+use reference::{Call, Mode, Scalar};
+
+/// The mode of a number: any but `TOLERANT` is strict.
+pub fn mode(number: u32) -> Mode {
+    if number == TOLERANT {
+        Mode::Tolerant
+    } else {
+        Mode::Strict
+    }
+}
 
 /// Makes a call of the writer, by the one function that twine.h has for it.
 #[inline(always)]

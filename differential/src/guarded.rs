@@ -6,7 +6,7 @@ use std::fmt::Debug;
 const GUARD: usize = 8;
 
 /// A slice of any length with guards before and after it, which no call may touch.
-#[derive(Debug)]
+#[derive(Debug, PartialEq)]
 pub struct Guarded<T> {
     guard: T,
     /// Guard, slice, guard.
@@ -21,8 +21,7 @@ impl<T: Copy + PartialEq + Debug> Guarded<T> {
 
     /// Makes it `length` times this element.
     pub fn fill(&mut self, length: usize, element: T) {
-        self.elements.clear();
-        self.elements.resize(GUARD, self.guard);
+        self.elements.truncate(GUARD);
         self.elements.resize(GUARD + length, element);
         self.elements.resize(GUARD + length + GUARD, self.guard);
     }
@@ -64,9 +63,9 @@ impl<T: Copy + PartialEq + Debug> Guarded<T> {
 
     /// Whether no guard was touched.
     pub fn is_guarded(&self) -> bool {
-        let (before, rest) = self.elements.split_at(GUARD);
-        let after = &rest[rest.len() - GUARD..];
-        before.iter().chain(after).all(|element| *element == self.guard)
+        // Without a branch for each element, since this is asked more often than anything.
+        let is_guard = |elements: &[T; GUARD]| elements.iter().fold(true, |is, element| is & (*element == self.guard));
+        self.elements.first_chunk().is_some_and(is_guard) && self.elements.last_chunk().is_some_and(is_guard)
     }
 }
 

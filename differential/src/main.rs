@@ -10,6 +10,7 @@ mod ffi;
 mod guarded;
 mod make;
 mod options;
+mod padded;
 mod product;
 mod random;
 mod sections;
@@ -77,13 +78,15 @@ fn run<P: Product>(product: P, options: &Options) -> Result<(), Failed> {
     let answers = 0..compare::ANSWERS as u32;
     let met: Vec<String> = answers.map(|number| format!("{} {}", difference::name(number), comparer.met(number))).collect();
     println!("answers: {}", met.join(", "));
-    // Which end was hit, by each call that has to pass it on.
+    // Which end was hit, and that a padded number was read, by each call that has to pass it on.
     for (kind, number) in ENDS.map(|kind| (kind, kind.number().into())) {
         if comparer.met(number) > 0 {
             let times = |asked: Asked| format!("{} {}", asked.name(), comparer.met_by(asked, number));
             println!("{kind}: {}", Asked::OF_FILES.map(times).join(", "));
         }
     }
+    let padded = Asked::OF_FILES.map(|asked| format!("{} {}", asked.name(), comparer.padded_by(asked)));
+    println!("OVERLONG, and OK in the tolerant mode: {}", padded.join(", "));
     Ok(())
 }
 
@@ -105,7 +108,8 @@ fn run_section<P: Product>(
             return Err(Failed { case: repeat.case });
         }
         repeat.case += 1;
-        let is_over = repeat.case.is_multiple_of(section.stride) && Instant::now() >= end;
+        let is_enough = repeat.case >= section.least && repeat.case.is_multiple_of(section.stride);
+        let is_over = is_enough && Instant::now() >= end;
         if only.is_some() || section.cases == Some(repeat.case) || is_over {
             return Ok(repeat.case - first);
         }

@@ -2,7 +2,7 @@
 
 use std::sync::LazyLock;
 
-use reference::{Call, ErrorKind, Scalar, Writer};
+use reference::{export, Call, ErrorKind, Scalar, Writer};
 
 use crate::random::Random;
 
@@ -239,14 +239,59 @@ pub fn written(random: &mut Random, longest: usize) -> Vec<u8> {
     out
 }
 
-/// Appends a LEB128 number.
-pub fn number(bytes: &mut Vec<u8>, n: u64) {
+/// Appends a LEB128 number in at least `size` bytes.
+pub fn number(bytes: &mut Vec<u8>, n: u64, size: usize) {
+    let end = bytes.len() + size;
     let mut rest = n;
-    while rest > 0x7f {
+    while rest > 0x7f || bytes.len() + 1 < end {
         bytes.push(rest as u8 | 0x80);
         rest >>= 7;
     }
     bytes.push(rest as u8);
+}
+
+/// Appends a header and its number, which has at least `size` bytes if it has one.
+pub fn head(bytes: &mut Vec<u8>, kind: u8, n: u64, size: usize) {
+    if n < 15 {
+        bytes.push(kind << 4 | n as u8);
+    } else {
+        bytes.push(kind << 4 | 15);
+        number(bytes, n - 15, size);
+    }
+}
+
+/// How many bytes the numbers of a file have.
+#[derive(Clone, Copy, Debug, PartialEq, Eq)]
+pub enum Padding {
+    /// No more than they need.
+    None,
+    /// Five, or more if they need more: as by the old exporter.
+    Five,
+    /// Each as many as it happens to get, up to ten.
+    Any,
+}
+
+impl Padding {
+    /// The least bytes of the next number.
+    pub fn size(self, random: &mut Random) -> usize {
+        match self {
+            Self::None => 1,
+            Self::Five => 5,
+            Self::Any => 1 + random.index(10),
+        }
+    }
+}
+
+/// The values of a well-formed file with their numbers padded.
+pub fn padded(random: &mut Random, file: &[u8], padding: Padding) -> Vec<u8> {
+    export(file, |_| padding.size(random)).expect("a well-formed file")
+}
+
+/// A number of neither mode, for one in eight files: the next, the greatest, one whose lowest byte is the tolerant mode's, or any.
+pub fn other_mode(random: &mut Random) -> Option<u32> {
+    let any = (random.next() as u32).max(2);
+    let tolerant = 1 | 0x100 << random.below(24);
+    random.one_in(8).then(|| random.pick(&[2, 3, u32::MAX, tolerant, any]))
 }
 
 /// A file that is built byte by byte, without a writer.
@@ -257,12 +302,13 @@ struct Builder<'r> {
     starts: Vec<usize>,
     /// One in this many tokens is made odd; none if it is 0.
     odd: u64,
+    padding: Padding,
 }
 
-/// A file of about `length` bytes, built byte by byte. One in `odd` tokens is odd, most of them not well-formed; none if `odd`
-/// is 0.
-pub fn built(random: &mut Random, length: usize, odd: u64) -> Vec<u8> {
-    let mut builder = Builder { random, bytes: Vec::new(), starts: Vec::new(), odd };
+/// A file of about `length` bytes, built byte by byte, with its numbers padded. One in `odd` tokens is odd, most of them not
+/// well-formed; none if `odd` is 0.
+pub fn built(random: &mut Random, length: usize, odd: u64, padding: Padding) -> Vec<u8> {
+    let mut builder = Builder { random, bytes: Vec::new(), starts: Vec::new(), odd, padding };
     while builder.bytes.len() < length.max(1) {
         builder.value();
     }
@@ -286,28 +332,27 @@ impl Builder<'_> {
 
     /// A LEB128 number; an odd one is padded, too long or too large.
     fn number(&mut self, n: u64) {
+        let size = self.padding.size(self.random);
         if !self.is_odd() {
-            return number(&mut self.bytes, n);
+            return number(&mut self.bytes, n, size);
         }
         match self.random.below(4) {
             0 => {
-                number(&mut self.bytes, n);
-                if let Some(last) = self.bytes.last_mut() {
-                    *last |= 0x80;
-                }
-                let more = self.random.below(4);
-                self.bytes.extend((0..more).map(|_| 0x80));
-                self.bytes.push(0);
+                let size = 1 + self.random.index(11);
+                number(&mut self.bytes, n, size);
             }
             1 => {
-                let long = self.random.index(12);
+                // Most often of nine or ten bytes.
+                let any = self.random.index(12);
+                let long = self.random.pick(&[8, 9, 9, any]);
+                let byte = self.random.pick(&[0x80, 0xff]);
                 let last = self.random.pick(&[0, 1, 2, 0x7f, 0x80, 0x81]);
-                self.bytes.extend(std::iter::repeat_n(0xff, long));
+                self.bytes.extend(std::iter::repeat_n(byte, long));
                 self.bytes.push(last);
             }
             _ => {
                 let bound = self.random.pick(&BOUNDS);
-                number(&mut self.bytes, bound);
+                number(&mut self.bytes, bound, size);
             }
         }
     }
@@ -425,19 +470,21 @@ impl Builder<'_> {
     }
 }
 
-/// A well-formed file that is to be cut at each of its bytes: of at most 100 bytes, or with a list whose count takes two.
-pub fn cuttable(random: &mut Random) -> Vec<u8> {
+/// A well-formed file, with its numbers padded, that is to be cut at each of its bytes: of at most 100 bytes, or with a list whose
+/// count takes two or more.
+pub fn cuttable(random: &mut Random, padding: Padding) -> Vec<u8> {
     match random.below(8) {
         0 => {
             let mut file = b"\x41k".to_vec();
             let count = 128 + 15 + random.below(60);
             let kind = random.pick(&[6, 7, 12]);
+            let size = padding.size(random);
             if kind == 12 {
                 let index = random.number() as u32;
-                head(&mut file, 12, index.into());
-                number(&mut file, count);
+                head(&mut file, 12, index.into(), size);
+                number(&mut file, count, size);
             } else {
-                head(&mut file, kind, count);
+                head(&mut file, kind, count, size);
             }
             let items = if kind == 7 { 2 * count } else { count };
             for _ in 0..items {
@@ -449,7 +496,7 @@ pub fn cuttable(random: &mut Random) -> Vec<u8> {
         }
         1..=3 => {
             let length = random.index(70);
-            let file = built(random, length, 0);
+            let file = built(random, length, 0, padding);
             if file.len() <= 100 {
                 file
             } else {
@@ -458,7 +505,13 @@ pub fn cuttable(random: &mut Random) -> Vec<u8> {
         }
         _ => {
             let longest = 20 + random.index(75);
-            written(random, longest)
+            let file = written(random, longest);
+            let longer = padded(random, &file, padding);
+            if longer.len() <= 100 {
+                longer
+            } else {
+                file
+            }
         }
     }
 }
@@ -487,16 +540,17 @@ pub fn overstated(random: &mut Random) -> Vec<u8> {
         4 => most + 1 + random.below(200),
         _ => random.pick(&GREAT),
     };
+    let size = random.pick(&[Padding::None, Padding::None, Padding::Five, Padding::Any]).size(random);
     if kind == 12 {
         let index = random.pick(&[0, 14, 15, 142, 143, 1 << 20, u32::MAX.into()]);
-        head(&mut file, 12, index);
-        number(&mut file, n);
+        head(&mut file, 12, index, size);
+        number(&mut file, n, size);
     } else if n > u64::MAX - 15 || random.one_in(8) {
         // The number itself is so great, and 15 more may be too great.
         file.push(kind << 4 | 15);
-        number(&mut file, n);
+        number(&mut file, n, size);
     } else {
-        head(&mut file, kind, n);
+        head(&mut file, kind, n, size);
     }
     let end = file.len() + left as usize;
     while file.len() < end {
@@ -508,23 +562,13 @@ pub fn overstated(random: &mut Random) -> Vec<u8> {
             1 => file.push(0x02),
             _ => {
                 let distance = file.len() - at - 1;
-                head(&mut file, 15, distance as u64);
+                head(&mut file, 15, distance as u64, 1);
             }
         }
     }
     file.truncate(end);
     file.push(random.below(4) as u8);
     file
-}
-
-/// Appends a header and its number.
-pub fn head(bytes: &mut Vec<u8>, kind: u8, n: u64) {
-    if n < 15 {
-        bytes.push(kind << 4 | n as u8);
-    } else {
-        bytes.push(kind << 4 | 15);
-        number(bytes, n - 15);
-    }
 }
 
 /// A file with a few damages.
@@ -559,20 +603,21 @@ fn damage(random: &mut Random, file: &mut Vec<u8>) {
         }
         8 => file[last] = random.pick(&[0, 1, file[last].wrapping_add(1), file[last].wrapping_sub(1), 0xff]),
         9 => {
-            // A number after a header of low 15 is padded.
+            // A number after a header of low 15 is padded by some bytes.
             let header = file.iter().skip(place).position(|byte| byte & 15 == 15);
             let number = place + header.unwrap_or(0) + 1;
             let length = file.iter().skip(number).position(|byte| *byte < 0x80);
-            if let Some(length) = length {
-                file[number + length] |= 0x80;
-                file.insert(number + length + 1, 0);
+            if let Some(last) = length.map(|length| number + length) {
+                file[last] |= 0x80;
+                let more = random.index(9);
+                file.splice(last + 1..last + 1, std::iter::repeat_n(0x80, more).chain([0]));
             }
         }
         10 => {
             // A value's number becomes one of the great ones.
             file[place] |= 15;
             let mut bound = Vec::new();
-            number(&mut bound, random.pick(&BOUNDS));
+            number(&mut bound, random.pick(&BOUNDS), 1);
             file.splice(place + 1..place + 1, bound);
         }
         _ => {
@@ -584,9 +629,14 @@ fn damage(random: &mut Random, file: &mut Vec<u8>) {
 #[cfg(test)]
 mod tests {
     use super::*;
+    use reference::{Checked, Mode};
+
+    fn check(file: &[u8], mode: Mode) -> Result<Checked, ErrorKind> {
+        reference::check(file, mode, &mut vec![0; file.len()]).map_err(|error| error.kind)
+    }
 
     fn is_accepted(file: &[u8]) -> bool {
-        reference::check(file, &mut vec![0; file.len()]).is_ok()
+        check(file, Mode::Strict).is_ok()
     }
 
     #[test]
@@ -596,11 +646,39 @@ mod tests {
             let length = random.pick(&[1, 2, 9, 40, 300, 700]);
             assert!(is_accepted(&written(&mut random, length)), "written {case}");
             // A last value of more than 256 bytes is out of a delta's reach.
-            let file = built(&mut random, length.min(40), 0);
-            let answer = reference::check(&file, &mut vec![0; file.len()]);
-            let kind = answer.map_err(|error| error.kind);
-            assert!(matches!(kind, Ok(_) | Err(reference::ErrorKind::BadEntry)), "built {case}: {kind:?}");
+            let file = built(&mut random, length.min(40), 0, Padding::None);
+            let answer = check(&file, Mode::Strict);
+            assert!(matches!(answer, Ok(_) | Err(ErrorKind::BadEntry)), "built {case}: {answer:?}");
         }
+    }
+
+    #[test]
+    fn padded_files_are_well_formed_in_the_tolerant_mode() {
+        for padding in [Padding::Five, Padding::Any] {
+            let mut overlong = 0;
+            for case in 0..1000 {
+                let mut random = Random::new(1, "make", case);
+                let file = written(&mut random, 300);
+                let file = padded(&mut random, &file, padding);
+                assert!(check(&file, Mode::Tolerant).is_ok(), "written {case}");
+                overlong += u32::from(check(&file, Mode::Strict) == Err(ErrorKind::Overlong));
+                let file = built(&mut random, 60, 0, padding);
+                let answer = check(&file, Mode::Tolerant);
+                assert!(matches!(answer, Ok(_) | Err(ErrorKind::BadEntry)), "built {case}: {answer:?}");
+                overlong += u32::from(check(&file, Mode::Strict) == Err(ErrorKind::Overlong));
+            }
+            assert!(overlong > 1500, "{overlong} of 2000");
+        }
+    }
+
+    #[test]
+    fn other_modes_are_neither() {
+        let modes: Vec<Option<u32>> = (0..4000).map(|case| other_mode(&mut Random::new(1, "make", case))).collect();
+        assert!(modes.iter().flatten().all(|mode| *mode > 1));
+        for mode in [2, 3, 0x101, u32::MAX] {
+            assert!(modes.contains(&Some(mode)), "{mode}");
+        }
+        assert!((400..600).contains(&modes.iter().flatten().count()));
     }
 
     #[test]
@@ -610,7 +688,7 @@ mod tests {
             let mut random = Random::new(1, "make", case);
             let file = written(&mut random, 60);
             accepted[0] += u32::from(is_accepted(&damaged(&mut random, &file)));
-            accepted[1] += u32::from(is_accepted(&built(&mut random, 60, 20)));
+            accepted[1] += u32::from(is_accepted(&built(&mut random, 60, 20, Padding::None)));
         }
         assert!(accepted.iter().all(|accepted| (20..1500).contains(accepted)), "{accepted:?}");
     }
@@ -651,11 +729,11 @@ mod tests {
         end: usize,
     }
 
-    /// What check refuses a file for, if that is one of its tokens.
+    /// What check refuses a file for in the tolerant mode, if that is one of its tokens.
     fn refused(file: &[u8]) -> Option<Refused> {
         let (_, region) = file.split_last()?;
         let (mut at, mut pending) = (0, 0);
-        for token in reference::tokens(region) {
+        for token in reference::tokens(region, Mode::Tolerant) {
             match token {
                 Ok(token) => {
                     pending = if pending == 0 { token.items } else { pending - 1 };
@@ -703,9 +781,11 @@ mod tests {
     #[test]
     fn files_that_are_cut_were_well_formed() {
         let mut ends = [[0; 2]; 3];
-        for case in 0..200 {
-            let mut file = cuttable(&mut Random::new(1, "make", case));
-            assert!(is_accepted(&file), "{case}");
+        let paddings = [Padding::None, Padding::Five, Padding::Any];
+        for (case, padding) in (0..100).flat_map(|case| paddings.map(|padding| (case, padding))) {
+            let mut file = cuttable(&mut Random::new(1, "make", case), padding);
+            assert!(check(&file, Mode::Tolerant).is_ok(), "{case}");
+            assert!(padding != Padding::None || is_accepted(&file), "{case}");
             while file.pop().is_some() {
                 if let Some(Refused { error, is_item, .. }) = refused(&file) {
                     let end = crate::ENDS.iter().position(|end| *end == error.kind);

@@ -11,43 +11,43 @@ pub trait Product {
     }
 
     /// `twine_check`.
-    fn check(&self, file: &[u8], starts: &mut [u32], out: &mut [u64; 2]) -> u32 {
-        ffi::check(file, starts, out)
+    fn check(&self, file: &[u8], mode: u32, starts: &mut [u32], out: &mut [u64; 2]) -> u32 {
+        ffi::check(file, mode, starts, out)
     }
 
     /// `twine_depths`.
-    fn depths(&self, file: &[u8], starts: &mut [u32], depths: &mut [u32], out: &mut [u64; 2]) -> u32 {
-        ffi::depths(file, starts, depths, out)
+    fn depths(&self, file: &[u8], mode: u32, starts: &mut [u32], depths: &mut [u32], out: &mut [u64; 2]) -> u32 {
+        ffi::depths(file, mode, starts, depths, out)
     }
 
     /// `twine_read`.
-    fn read(&self, file: &[u8], at: usize, out: &mut [u64; 4]) -> u32 {
-        ffi::read(file, at, out)
+    fn read(&self, file: &[u8], mode: u32, at: usize, out: &mut [u64; 4]) -> u32 {
+        ffi::read(file, mode, at, out)
     }
 
     /// `twine_skip`.
-    fn skip(&self, file: &[u8], at: usize, out: &mut [u64; 2]) -> u32 {
-        ffi::skip(file, at, out)
+    fn skip(&self, file: &[u8], mode: u32, at: usize, out: &mut [u64; 2]) -> u32 {
+        ffi::skip(file, mode, at, out)
     }
 
     /// `twine_item`.
-    fn item(&self, file: &[u8], at: usize, index: usize, out: &mut [u64; 2]) -> u32 {
-        ffi::item(file, at, index, out)
+    fn item(&self, file: &[u8], mode: u32, at: usize, index: usize, out: &mut [u64; 2]) -> u32 {
+        ffi::item(file, mode, at, index, out)
     }
 
     /// `twine_follow`.
-    fn follow(&self, file: &[u8], at: usize, out: &mut [u64; 2]) -> u32 {
-        ffi::follow(file, at, out)
+    fn follow(&self, file: &[u8], mode: u32, at: usize, out: &mut [u64; 2]) -> u32 {
+        ffi::follow(file, mode, at, out)
     }
 
     /// `twine_lookup`.
-    fn lookup(&self, file: &[u8], at: usize, key: &[u8], out: &mut [u64; 2]) -> u32 {
-        ffi::lookup(file, at, key, out)
+    fn lookup(&self, file: &[u8], mode: u32, at: usize, key: &[u8], out: &mut [u64; 2]) -> u32 {
+        ffi::lookup(file, mode, at, key, out)
     }
 
     /// `twine_body`.
-    fn body(&self, file: &[u8], at: usize, out: &mut [u64; 2]) -> u32 {
-        ffi::body(file, at, out)
+    fn body(&self, file: &[u8], mode: u32, at: usize, out: &mut [u64; 2]) -> u32 {
+        ffi::body(file, mode, at, out)
     }
 
     /// `twine_writer_new`.

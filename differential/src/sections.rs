@@ -6,7 +6,8 @@ use reference::{Call, Scalar, MAX_LEN};
 use crate::compare::{Comparer, Writing};
 use crate::difference::{self, Difference};
 use crate::ffi::STATE;
-use crate::make;
+use crate::make::{self, Padding};
+use crate::padded;
 use crate::product::Product;
 use crate::random::Random;
 use crate::text;
@@ -18,6 +19,8 @@ pub struct Section<P> {
     pub name: &'static str,
     /// How many cases there are, if they come to an end.
     pub cases: Option<u64>,
+    /// How many cases are run, however long they take.
+    pub least: u64,
     /// Its part of the time, beside the parts of the others.
     pub share: u32,
     /// How many cases are run between two looks at the clock.
@@ -39,13 +42,14 @@ pub struct Case {
 const SHORT: u64 = 1 + (1 << 8) + (1 << 16) + (1 << 24);
 
 /// All sections in their order.
-pub fn all<P: Product>() -> [Section<P>; 11] {
-    let section = |name, share, run| Section { name, cases: None, share, stride: 1, run };
+pub fn all<P: Product>() -> [Section<P>; 12] {
+    let section = |name, share, run| Section { name, cases: None, least: 1, share, stride: 1, run };
     [
         Section { cases: Some(40), ..section("names", 1, names) },
-        Section { cases: Some(SHORT), stride: 1 << 12, ..section("short", 60, short) },
-        // It takes some seconds and is always run to the end.
-        Section { cases: Some(text::CASES), stride: text::CASES, ..section("text", 20, text::text) },
+        Section { cases: Some(SHORT), stride: 1 << 12, ..section("short", 70, short) },
+        // These two take some seconds at least: the one always ends, the other goes on with made-up files.
+        Section { cases: Some(text::CASES), least: text::CASES, ..section("text", 20, text::text) },
+        Section { least: padded::SYSTEMATIC, ..section("padded", 20, padded::padded) },
         section("written", 15, written),
         section("built", 15, built),
         section("damaged", 20, damaged),
@@ -67,17 +71,20 @@ fn names<P: Product>(comparer: &mut Comparer<P>, case: Case) -> Result<(), Diffe
 
 /// Every file of no to three bytes: check with every table, depths, and every query at every offset. Queries do not read the
 /// delta byte; of files of three bytes they are asked with five of the 256.
-fn short<P: Product>(comparer: &mut Comparer<P>, case: Case) -> Result<(), Difference> {
+fn short<P: Product>(comparer: &mut Comparer<P>, mut case: Case) -> Result<(), Difference> {
     let mut rest = case.number % SHORT;
     let mut length = 0;
     while rest >= 1 << (8 * length) {
         rest -= 1 << (8 * length);
         length += 1;
     }
+    // Times an odd number: if there is no time for all files of this length, those asked for are spread over them.
+    rest = rest * 0x9e37_79b1 % (1 << (8 * length));
     let bytes = (rest as u32).to_be_bytes();
     let file = &bytes[4 - length..];
     let guard = [0x10, 0x00, 0x80, 0xff, 0x41][rest as usize % 5];
-    comparer.of_file(file, guard, |comparer| {
+    let other_mode = make::other_mode(&mut case.random);
+    comparer.of_file(file, guard, other_mode, |comparer| {
         let most = length.saturating_sub(1);
         for words in 0..=most + 1 {
             comparer.check(words)?;
@@ -106,7 +113,7 @@ fn written<P: Product>(comparer: &mut Comparer<P>, mut case: Case) -> Result<(),
 fn built<P: Product>(comparer: &mut Comparer<P>, mut case: Case) -> Result<(), Difference> {
     let random = &mut case.random;
     let odd = random.pick(&[0, 60, 20, 6]);
-    let file = small_or_not(random, |random, length| make::built(random, length, odd));
+    let file = small_or_not(random, |random, length| make::built(random, length, odd, Padding::None));
     whole(comparer, random, &file)
 }
 
@@ -116,7 +123,7 @@ fn damaged<P: Product>(comparer: &mut Comparer<P>, mut case: Case) -> Result<(),
     let file = if random.one_in(2) {
         small_or_not(random, make::written)
     } else {
-        small_or_not(random, |random, length| make::built(random, length, 0))
+        small_or_not(random, |random, length| make::built(random, length, 0, Padding::None))
     };
     let file = make::damaged(random, &file);
     whole(comparer, random, &file)
@@ -129,7 +136,8 @@ fn ends<P: Product>(comparer: &mut Comparer<P>, mut case: Case) -> Result<(), Di
         let file = make::overstated(random);
         return whole(comparer, random, &file);
     }
-    let mut file = make::cuttable(random);
+    let padding = random.pick(&[Padding::None, Padding::Five, Padding::Any]);
+    let mut file = make::cuttable(random, padding);
     // The last byte that is left is the delta.
     while file.pop().is_some() {
         whole(comparer, random, &file)?;
@@ -138,7 +146,7 @@ fn ends<P: Product>(comparer: &mut Comparer<P>, mut case: Case) -> Result<(), Di
 }
 
 /// A file, of a length for all queries most often.
-fn small_or_not(random: &mut Random, make: impl FnOnce(&mut Random, usize) -> Vec<u8>) -> Vec<u8> {
+pub fn small_or_not(random: &mut Random, make: impl FnOnce(&mut Random, usize) -> Vec<u8>) -> Vec<u8> {
     let length = match random.below(64) {
         0 => random.index(20_000),
         1..=5 => random.index(1_500),
@@ -149,9 +157,10 @@ fn small_or_not(random: &mut Random, make: impl FnOnce(&mut Random, usize) -> Ve
 }
 
 /// Check and depths with tables of many lengths, and queries at many offsets: all of them, if the file is small.
-fn whole<P: Product>(comparer: &mut Comparer<P>, random: &mut Random, file: &[u8]) -> Result<(), Difference> {
+pub fn whole<P: Product>(comparer: &mut Comparer<P>, random: &mut Random, file: &[u8]) -> Result<(), Difference> {
     let guard = random.pick(&[0x00, 0x10, 0x41, 0x80, 0xf0, 0xff]);
-    comparer.of_file(file, guard, |comparer| {
+    let other_mode = make::other_mode(random);
+    comparer.of_file(file, guard, other_mode, |comparer| {
         let count = comparer.check(file.len())?;
         tables(comparer, random, count.unwrap_or(file.len() / 2))?;
         offsets(comparer, random, file, 40)
@@ -242,7 +251,8 @@ fn long<P: Product>(comparer: &mut Comparer<P>, mut case: Case) -> Result<(), Di
         _ => 70_000 + random.index(1 << 20),
     };
     let file = long_file(random, length);
-    comparer.of_file(&file, 0x10, |comparer| {
+    let other_mode = make::other_mode(random);
+    comparer.of_file(&file, 0x10, other_mode, |comparer| {
         let count = comparer.check(file.len())?;
         let count = count.unwrap_or(file.len() / 2);
         for words in [count, count - 1] {
@@ -250,8 +260,8 @@ fn long<P: Product>(comparer: &mut Comparer<P>, mut case: Case) -> Result<(), Di
         }
         comparer.depths(count, count)?;
         comparer.depths(count, random.index(count))?;
-        // Each may go over the whole file.
-        let some = if length > 1 << 21 { 6 } else { 30 };
+        // Each may go over the whole file, in each mode.
+        let some = if length > 1 << 21 { 3 } else { 15 };
         offsets(comparer, random, &file, some)
     })
 }
@@ -261,11 +271,11 @@ fn long_file(random: &mut Random, length: usize) -> Vec<u8> {
     // Two bytes after the long part: a value, and the delta.
     let (region, part) = (length - 2, length - 40);
     let mut file = Vec::with_capacity(length);
-    let head = |file: &mut Vec<u8>, kind: u8, n: usize| {
-        file.push(kind << 4 | 15);
-        make::number(file, n as u64 - 15);
-    };
-    match random.below(8) {
+    let shape = random.below(8);
+    let padding = random.pick(&[Padding::None, Padding::None, Padding::Five, Padding::Any]);
+    let size = padding.size(random);
+    let head = |file: &mut Vec<u8>, kind: u8, n: usize| make::head(file, kind, n as u64, size);
+    match shape {
         0 => {
             // Pointers one after the other.
             file.push(0x10);
@@ -282,11 +292,7 @@ fn long_file(random: &mut Random, length: usize) -> Vec<u8> {
             head(&mut file, 7, pairs);
             for _ in 0..pairs {
                 let distance = file.len() - 1;
-                if distance < 15 {
-                    file.push(0xf0 | distance as u8);
-                } else {
-                    head(&mut file, 15, distance);
-                }
+                head(&mut file, 15, distance);
                 file.push(0x02);
             }
         }
@@ -322,7 +328,7 @@ fn long_file(random: &mut Random, length: usize) -> Vec<u8> {
                 let mut numbers = Vec::new();
                 if kind == 12 {
                     numbers.push(0xc3);
-                    make::number(&mut numbers, n as u64);
+                    make::number(&mut numbers, n as u64, size);
                 } else {
                     head(&mut numbers, kind, n);
                 }
@@ -332,9 +338,9 @@ fn long_file(random: &mut Random, length: usize) -> Vec<u8> {
             let most = (0..3).fold(part, |n, _| (length - 1 - with(n).len()) / if kind == 7 { 2 } else { 1 });
             file = with(most + random.index(3) - 1);
         }
-        kind => {
-            let odd = if kind == 5 { 100_000 } else { 0 };
-            file = make::built(random, part - 1000, odd);
+        shape => {
+            let odd = if shape == 5 { 100_000 } else { 0 };
+            file = make::built(random, part - 1000, odd, padding);
             file.pop();
         }
     }
@@ -384,7 +390,7 @@ fn calls<P: Product>(comparer: &mut Comparer<P>, mut case: Case) -> Result<(), D
         return Ok(());
     }
     let file = &memory.out.slice()[..written as usize];
-    comparer.of_file(file, 0xff, |comparer| {
+    comparer.of_file(file, 0xff, None, |comparer| {
         let checked = comparer.check(words)?;
         if checked == Some(count as usize) {
             return Ok(());
@@ -518,7 +524,7 @@ fn listed(random: &mut Random, length: usize, words: usize) -> Vec<u32> {
 #[cfg(test)]
 mod tests {
     use super::*;
-    use reference::ErrorKind;
+    use reference::{ErrorKind, Mode};
 
     #[test]
     fn some_long_files_announce_more_than_they_have() {
@@ -526,7 +532,7 @@ mod tests {
             let mut random = Random::new(1, "long", case);
             let length = 70_000 + random.index(1 << 12);
             let file = long_file(&mut random, length);
-            reference::check(&file, &mut vec![0; length]).err().map(|error| error.kind)
+            reference::check(&file, Mode::Tolerant, &mut vec![0; length]).err().map(|error| error.kind)
         });
         let kinds: Vec<ErrorKind> = kinds.collect();
         for kind in [ErrorKind::LongBody, ErrorKind::LongList] {

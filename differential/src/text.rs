@@ -91,7 +91,7 @@ fn alone<P: Product>(comparer: &mut Comparer<P>, memory: &mut Writing, text: &[u
     file[0] = 0x40 | length as u8;
     file[1..=length].copy_from_slice(text);
     file[length + 1] = VARIANT;
-    comparer.of_file(&file[..length + 3], 0x80, |comparer| {
+    comparer.of_file(&file[..length + 3], 0x80, None, |comparer| {
         let count = comparer.check(2)?;
         agrees("check of the text", text, count.is_some())
     })?;
@@ -105,12 +105,13 @@ fn between<P: Product>(comparer: &mut Comparer<P>, random: &mut Random, bytes: &
     let [before, after] = [random.index(20), random.index(20)];
     let text = [&b"the letters before it"[..before], bytes, &b"and those that follow"[..after]].concat();
     let mut file = vec![0x71];
-    make::head(&mut file, 4, text.len() as u64);
+    make::head(&mut file, 4, text.len() as u64, 1);
     file.extend(&text);
     file.push(VARIANT);
     let delta = file.len() as u8 - 1;
     file.push(delta);
-    comparer.of_file(&file, 0x80, |comparer| {
+    let other_mode = make::other_mode(random);
+    comparer.of_file(&file, 0x80, other_mode, |comparer| {
         let count = comparer.check(1)?;
         comparer.depths(1, 1)?;
         sections::queries(comparer, 0, &[&text, &text[1..]])?;
