@@ -49,17 +49,19 @@ impl<W: Write> Page<W> {
         let mut grown = Vec::new();
         for shape in Shape::ALL {
             let files = rows::files(shape, FILES);
-            let one = rows::check(&self.clock, &files[..1]);
+            let one = rows::check(&self.clock, ffi::STRICT, &files[..1]);
             self.row(&format!("{}, 16 KB, one file", shape.name()), &one)?;
-            let short = rows::check(&self.clock, &files);
+            let short = rows::check(&self.clock, ffi::STRICT, &files);
             self.row(&format!("{}, 16 KB, 1,024 files", shape.name()), &short)?;
             let mut long = short;
             for (length, name) in &LENGTHS[1..] {
-                long = rows::check(&self.clock, &[plans::make(shape, *length, 1)]);
+                long = rows::check(&self.clock, ffi::STRICT, &[plans::make(shape, *length, 1)]);
                 self.row(&format!("{}, {name}", shape.name()), &long)?;
             }
             grown.push((shape, short, long));
         }
+        let padded = rows::check(&self.clock, ffi::TOLERANT, &rows::padded_files(Shape::Plan, FILES));
+        self.row("plan-like, 16 KB, 1,024 files, padded to five bytes, tolerant mode", &padded)?;
         writeln!(self.out, "\nThe time for a byte in a file of 16 MB, over that in 1,024 files of 16 KB:\n")?;
         writeln!(self.out, "| files | libtwine.a | second |\n|---|--:|--:|")?;
         for (shape, short, long) in grown {

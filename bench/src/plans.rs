@@ -1,6 +1,6 @@
 //! Made-up files of four shapes.
 
-use reference::{Call, Scalar, Writer};
+use reference::{Call, Mode, Scalar, Writer};
 
 /// What a file is mostly made of.
 #[derive(Clone, Copy, Debug, PartialEq, Eq)]
@@ -80,6 +80,15 @@ pub fn make(shape: Shape, length: usize, seed: u64) -> Plan {
     out.truncate(writer.written as usize);
     starts.truncate(writer.count as usize);
     Plan { file: out, starts, calls }
+}
+
+/// The values of a file with each number in five bytes, or more if it needs them. No call writes them.
+pub fn padded(plan: &Plan) -> Plan {
+    let file = reference::export(&plan.file, |_| 5).expect("what was written is well-formed");
+    let mut starts = vec![0; file.len()];
+    let checked = reference::check(&file, Mode::Tolerant, &mut starts).expect("padded numbers are tolerated");
+    starts.truncate(checked.count);
+    Plan { file, starts, calls: Vec::new() }
 }
 
 /// A file that is being written.

@@ -2,7 +2,7 @@
 
 use std::hint::black_box;
 
-use reference::{Value, Writer};
+use reference::{Mode, Value, Writer};
 
 use crate::ffi;
 use crate::plans::{self, Plan, Said, Shape};
@@ -31,6 +31,11 @@ pub fn files(shape: Shape, count: usize) -> Vec<Plan> {
     (1..=count as u64).map(|seed| plans::make(shape, 16 << 10, seed)).collect()
 }
 
+/// The same files with their numbers padded.
+pub fn padded_files(shape: Shape, count: usize) -> Vec<Plan> {
+    files(shape, count).iter().map(plans::padded).collect()
+}
+
 /// The values and the bytes of files.
 fn size(plans: &[Plan]) -> (usize, usize) {
     let values = plans.iter().map(|plan| plan.starts.len()).sum();
@@ -44,15 +49,19 @@ fn table(plans: &[Plan]) -> Vec<u32> {
     vec![0; most.unwrap_or(0)]
 }
 
-/// Check of one file after the other.
-pub fn check(clock: &Clock, plans: &[Plan]) -> Row {
+/// Check of one file after the other, in this mode. All other rows are strict.
+pub fn check(clock: &Clock, mode: u32, plans: &[Plan]) -> Row {
     let (mut starts, mut starts2) = (table(plans), table(plans));
     let nanoseconds = clock.race(
         &mut || {
             let mut out = [0; 2];
-            plans.iter().all(|plan| ffi::check(black_box(&plan.file), &mut starts[..plan.starts.len()], &mut out) == 0)
+            plans.iter().all(|plan| ffi::check(black_box(&plan.file), mode, &mut starts[..plan.starts.len()], &mut out) == 0)
         },
-        &mut || plans.iter().all(|plan| reference::check(black_box(&plan.file), &mut starts2[..plan.starts.len()]).is_ok()),
+        &mut || {
+            plans
+                .iter()
+                .all(|plan| reference::check(black_box(&plan.file), ffi::mode(mode), &mut starts2[..plan.starts.len()]).is_ok())
+        },
     );
     assert_eq!(starts, starts2);
     let (units, bytes) = size(plans);
@@ -68,13 +77,13 @@ pub fn depths(clock: &Clock, plans: &[Plan]) -> Row {
             let mut out = [0; 2];
             plans.iter().all(|plan| {
                 let count = plan.starts.len();
-                ffi::depths(black_box(&plan.file), &mut starts[..count], &mut depths[..count], &mut out) == 0
+                ffi::depths(black_box(&plan.file), ffi::STRICT, &mut starts[..count], &mut depths[..count], &mut out) == 0
             })
         },
         &mut || {
             plans.iter().all(|plan| {
                 let count = plan.starts.len();
-                reference::depths(black_box(&plan.file), &mut starts2[..count], &mut depths2[..count]).is_ok()
+                reference::depths(black_box(&plan.file), Mode::Strict, &mut starts2[..count], &mut depths2[..count]).is_ok()
             })
         },
     );
@@ -90,7 +99,7 @@ pub fn items(clock: &Clock, plan: &Plan) -> Row {
         .starts
         .iter()
         .flat_map(|&start| {
-            let items = match reference::read(file, start.into()) {
+            let items = match reference::read(file, Mode::Strict, start.into()) {
                 Ok(Value::Array { items, .. }) => items,
                 Ok(Value::Map { pairs, .. }) => 2 * pairs,
                 Ok(Value::Tag { .. } | Value::Variant1 { .. }) => 1,
@@ -121,9 +130,11 @@ fn items_of(clock: &Clock, file: &[u8], questions: &[(usize, usize)]) -> Row {
     let nanoseconds = clock.race(
         &mut || {
             let mut out = [0; 2];
-            questions.iter().all(|&(at, index)| ffi::item(black_box(file), at, index, &mut out) == 0)
+            questions.iter().all(|&(at, index)| ffi::item(black_box(file), ffi::STRICT, at, index, &mut out) == 0)
         },
-        &mut || questions.iter().all(|&(at, index)| reference::item(black_box(file), at as u64, index as u64).is_ok()),
+        &mut || {
+            questions.iter().all(|&(at, index)| reference::item(black_box(file), Mode::Strict, at as u64, index as u64).is_ok())
+        },
     );
     Row { units: questions.len(), bytes: 0, nanoseconds }
 }
@@ -133,21 +144,25 @@ pub fn lookups(clock: &Clock, plan: &Plan, is_present: bool) -> Row {
     let file = &plan.file;
     let mut questions: Vec<(usize, &[u8])> = Vec::new();
     for &start in &plan.starts {
-        let Ok(Value::Map { pairs, .. }) = reference::read(file, start.into()) else {
+        let Ok(Value::Map { pairs, .. }) = reference::read(file, Mode::Strict, start.into()) else {
             continue;
         };
         for pair in 0..pairs {
-            let key = reference::item(file, start.into(), 2 * pair).expect("a pair has a key");
-            let key = if is_present { reference::body(file, key as u64) } else { b"nowhere" };
+            let key = reference::item(file, Mode::Strict, start.into(), 2 * pair).expect("a pair has a key");
+            let key = if is_present { reference::body(file, Mode::Strict, key as u64) } else { b"nowhere" };
             questions.push((start as usize, key));
         }
     }
     let nanoseconds = clock.race(
         &mut || {
             let mut out = [0; 2];
-            questions.iter().all(|&(at, key)| (ffi::lookup(black_box(file), at, key, &mut out) == 0) == is_present)
+            questions.iter().all(|&(at, key)| (ffi::lookup(black_box(file), ffi::STRICT, at, key, &mut out) == 0) == is_present)
         },
-        &mut || questions.iter().all(|&(at, key)| reference::lookup(black_box(file), at as u64, key).is_ok() == is_present),
+        &mut || {
+            questions
+                .iter()
+                .all(|&(at, key)| reference::lookup(black_box(file), Mode::Strict, at as u64, key).is_ok() == is_present)
+        },
     );
     Row { units: questions.len(), bytes: 0, nanoseconds }
 }
