@@ -38,12 +38,12 @@ extern "C" {
    function that is named after its version, and whatever includes this header refers to it: compiled against another
    version, it does not link. gcc and clang keep the reference, also with --gc-sections (before gcc 11 and clang 13 only
    without); another compiler may drop it. */
-#define TWINE_ABI 1
+#define TWINE_ABI 2
 
 #define TWINE_ABI_PASTE(version) twine_abi_##version
 #define TWINE_ABI_NAME(version) TWINE_ABI_PASTE(version)
 
-/* twine_abi_1: the version of the archive, TWINE_ABI. */
+/* twine_abi_2: the version of the archive, TWINE_ABI. */
 uint32_t TWINE_ABI_NAME(TWINE_ABI)(void);
 
 #ifdef __has_attribute
@@ -83,7 +83,7 @@ enum twine_error {
     TWINE_TRUNC = 3,
     /* a reserved kind or low nibble [the header] */
     TWINE_RESERVED = 4,
-    /* a number that is not in its shortest form [the header] */
+    /* a padded number, in strict mode alone (see enum twine_mode) [the header] */
     TWINE_OVERLONG = 5,
     /* a number over its kind's bound or over 64 bits [the header] */
     TWINE_RANGE = 6,
@@ -150,20 +150,34 @@ static inline const char *twine_error_name(uint32_t number) {
 /* The same from the archive, where it is proved: the name, and 0 in every byte after it. TWINE_OK. */
 uint32_t twine_spell_error(uint32_t number, char name[TWINE_NAME]);
 
+/* The mode of a reading call: whether it reads padded numbers. A number is padded if it has more bytes than it needs: its
+   last byte is 00, and is not its first. The old exporter padded lengths to five bytes. TWINE_TOLERANT is for its files
+   alone, and then for every call on such a file.
+
+   The mode changes nothing else. In both, a number has at most ten bytes and is within its bounds (TWINE_RANGE), and
+   offsets count every byte of the file. What is not TWINE_OVERLONG in strict mode has the same answer in tolerant mode,
+   and leaves the same in memory. The writer has no mode: it never pads. */
+enum twine_mode {
+    /* a padded number is TWINE_OVERLONG; any mode but TWINE_TOLERANT is this one */
+    TWINE_STRICT = 0,
+    /* a padded number is read */
+    TWINE_TOLERANT = 1
+};
+
 /* ---- check and depths */
 
 /* Checks a file. out = {count of values, offset of the entry}; starts gets the offset at which each value starts, in
    rising order, and 0 in every other word. On an error out = {place, 0}, and starts gets 0 in every word. A value
    has at least one byte, so that len - 1 words, one for each byte of the region, are always enough. In a file that is
    accepted every text is UTF-8. */
-uint32_t twine_check(const uint8_t *file, size_t len,
+uint32_t twine_check(const uint8_t *file, size_t len, uint32_t mode,
                      uint32_t *starts, size_t words, uint64_t out[2]);
 
 /* Checks a file, and reports how deep each value is: how many values the longest path from it has along pointers and
    references, itself counted. out and starts as twine_check; depths gets the depth of each value, and 0 in every
    other word. Check's errors come first, then TWINE_FULL if words2 is less than the count. On an error
    out = {place, 0}, and both tables get 0 in every word. */
-uint32_t twine_depths(const uint8_t *file, size_t len,
+uint32_t twine_depths(const uint8_t *file, size_t len, uint32_t mode,
                       uint32_t *starts, size_t words, uint32_t *depths, size_t words2, uint64_t out[2]);
 
 /* ---- queries
@@ -190,33 +204,33 @@ uint32_t twine_depths(const uint8_t *file, size_t len,
      VARIANT1              the index                           1
      VARIANTN              the index                           how many items
      REFERENCE, POINTER    the offset of the target            0                                            */
-uint32_t twine_read(const uint8_t *file, size_t len, size_t at, uint64_t out[4]);
+uint32_t twine_read(const uint8_t *file, size_t len, uint32_t mode, size_t at, uint64_t out[4]);
 
 /* Where the value at an offset ends, its items included, which are read. out = {offset just after it, 0}. */
-uint32_t twine_skip(const uint8_t *file, size_t len, size_t at, uint64_t out[2]);
+uint32_t twine_skip(const uint8_t *file, size_t len, uint32_t mode, size_t at, uint64_t out[2]);
 
 /* An item of the value at an offset; neither is followed. For a map keys and values alternate.
    out = {offset of the item, 0}. TWINE_WRONG_KIND for a kind without items, TWINE_NO_ITEM for an index at or past the
    count; the errors of the items before it; TWINE_TRUNC if it would start at the region's end. Its time grows with the
    items before it: for a value that twine_skip accepts, as in a checked file, a loop over items takes item 0, and then
    what twine_skip returns for each. */
-uint32_t twine_item(const uint8_t *file, size_t len, size_t at, size_t index, uint64_t out[2]);
+uint32_t twine_item(const uint8_t *file, size_t len, uint32_t mode, size_t at, size_t index, uint64_t out[2]);
 
 /* Follows pointers, but not references, from the value at an offset to one that is not a pointer.
    out = {its offset, pointers met}. */
-uint32_t twine_follow(const uint8_t *file, size_t len, size_t at, uint64_t out[2]);
+uint32_t twine_follow(const uint8_t *file, size_t len, uint32_t mode, size_t at, uint64_t out[2]);
 
 /* The value that the map at an offset has for a key: that of the first pair whose key, followed, is a text of these
    bytes, which may be any, UTF-8 or not; a key that is, or points at, a reference is no such key. Neither the map nor
    the value is followed.
    out = {offset of the value, 0}. TWINE_WRONG_KIND for another kind; the errors of the pairs before it and of its key;
    TWINE_TRUNC if the value would start at the region's end; TWINE_NO_ITEM if there is no such key. */
-uint32_t twine_lookup(const uint8_t *file, size_t len, size_t at,
+uint32_t twine_lookup(const uint8_t *file, size_t len, uint32_t mode, size_t at,
                       const uint8_t *key, size_t key_len, uint64_t out[2]);
 
 /* The bytes of the text or byte string that the value at an offset is or that pointers lead to; they are not tested.
    out = {offset of the first byte, count of bytes}. TWINE_WRONG_KIND for another kind. */
-uint32_t twine_body(const uint8_t *file, size_t len, size_t at, uint64_t out[2]);
+uint32_t twine_body(const uint8_t *file, size_t len, uint32_t mode, size_t at, uint64_t out[2]);
 
 /* ---- writer
 
