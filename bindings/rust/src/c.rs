@@ -16,24 +16,30 @@ pub const STATE: usize = 5;
 /// The bytes of an error's name (TWINE_NAME), the 0 at its end included.
 pub const NAME: usize = 11;
 
+/// The mode that gives OVERLONG (TWINE_STRICT). So does every number but `TOLERANT`.
+pub const STRICT: u32 = 0;
+
+/// The mode that reads padded numbers (TWINE_TOLERANT).
+pub const TOLERANT: u32 = 1;
+
 #[rustfmt::skip]
 mod declared {
     unsafe extern "C" {
-        pub fn twine_abi_1() -> u32;
+        pub fn twine_abi_2() -> u32;
 
         pub fn twine_spell_error(number: u32, name: *mut u8) -> u32;
 
-        pub fn twine_check(file: *const u8, len: usize, starts: *mut u32, words: usize, out: *mut u64) -> u32;
+        pub fn twine_check(file: *const u8, len: usize, mode: u32, starts: *mut u32, words: usize, out: *mut u64) -> u32;
         pub fn twine_depths(
-            file: *const u8, len: usize, starts: *mut u32, words: usize, depths: *mut u32, words2: usize, out: *mut u64,
+            file: *const u8, len: usize, mode: u32, starts: *mut u32, words: usize, depths: *mut u32, words2: usize, out: *mut u64,
         ) -> u32;
 
-        pub fn twine_read(file: *const u8, len: usize, at: usize, out: *mut u64) -> u32;
-        pub fn twine_skip(file: *const u8, len: usize, at: usize, out: *mut u64) -> u32;
-        pub fn twine_item(file: *const u8, len: usize, at: usize, index: usize, out: *mut u64) -> u32;
-        pub fn twine_follow(file: *const u8, len: usize, at: usize, out: *mut u64) -> u32;
-        pub fn twine_lookup(file: *const u8, len: usize, at: usize, key: *const u8, key_len: usize, out: *mut u64) -> u32;
-        pub fn twine_body(file: *const u8, len: usize, at: usize, out: *mut u64) -> u32;
+        pub fn twine_read(file: *const u8, len: usize, mode: u32, at: usize, out: *mut u64) -> u32;
+        pub fn twine_skip(file: *const u8, len: usize, mode: u32, at: usize, out: *mut u64) -> u32;
+        pub fn twine_item(file: *const u8, len: usize, mode: u32, at: usize, index: usize, out: *mut u64) -> u32;
+        pub fn twine_follow(file: *const u8, len: usize, mode: u32, at: usize, out: *mut u64) -> u32;
+        pub fn twine_lookup(file: *const u8, len: usize, mode: u32, at: usize, key: *const u8, key_len: usize, out: *mut u64) -> u32;
+        pub fn twine_body(file: *const u8, len: usize, mode: u32, at: usize, out: *mut u64) -> u32;
 
         pub fn twine_writer_new(state: *mut u64) -> u32;
         pub fn twine_write_bool(state: *mut u64, value: bool, out: *mut u8, out_len: usize, starts: *mut u32, words: usize) -> u32;
@@ -64,7 +70,7 @@ mod declared {
 /// The version of the interface. Whoever calls this does not link with an archive of another one.
 pub fn version() -> u32 {
     // SAFETY: it takes nothing
-    unsafe { declared::twine_abi_1() }
+    unsafe { declared::twine_abi_2() }
 }
 
 /// The letters of an error's name, and zeros after them.
@@ -75,53 +81,53 @@ pub fn error_name(number: u32, name: &mut [u8; NAME]) -> u32 {
 }
 
 /// The count of values and the offset of the entry.
-pub fn check(file: &[u8], starts: &mut [u32], out: &mut [u64; 2]) -> u32 {
+pub fn check(file: &[u8], mode: u32, starts: &mut [u32], out: &mut [u64; 2]) -> u32 {
     // SAFETY: slices
-    unsafe { declared::twine_check(file.as_ptr(), file.len(), starts.as_mut_ptr(), starts.len(), out.as_mut_ptr()) }
+    unsafe { declared::twine_check(file.as_ptr(), file.len(), mode, starts.as_mut_ptr(), starts.len(), out.as_mut_ptr()) }
 }
 
 /// As `check`, with the depths.
-pub fn depths(file: &[u8], starts: &mut [u32], depths: &mut [u32], out: &mut [u64; 2]) -> u32 {
+pub fn depths(file: &[u8], mode: u32, starts: &mut [u32], depths: &mut [u32], out: &mut [u64; 2]) -> u32 {
     let (list, words) = (starts.as_mut_ptr(), starts.len());
     let (deep, words2) = (depths.as_mut_ptr(), depths.len());
     // SAFETY: slices
-    unsafe { declared::twine_depths(file.as_ptr(), file.len(), list, words, deep, words2, out.as_mut_ptr()) }
+    unsafe { declared::twine_depths(file.as_ptr(), file.len(), mode, list, words, deep, words2, out.as_mut_ptr()) }
 }
 
 /// Kind, number, first, count.
-pub fn read(file: &[u8], at: usize, out: &mut [u64; 4]) -> u32 {
+pub fn read(file: &[u8], mode: u32, at: usize, out: &mut [u64; 4]) -> u32 {
     // SAFETY: slices
-    unsafe { declared::twine_read(file.as_ptr(), file.len(), at, out.as_mut_ptr()) }
+    unsafe { declared::twine_read(file.as_ptr(), file.len(), mode, at, out.as_mut_ptr()) }
 }
 
 /// The offset just after the value, and 0.
-pub fn skip(file: &[u8], at: usize, out: &mut [u64; 2]) -> u32 {
+pub fn skip(file: &[u8], mode: u32, at: usize, out: &mut [u64; 2]) -> u32 {
     // SAFETY: slices
-    unsafe { declared::twine_skip(file.as_ptr(), file.len(), at, out.as_mut_ptr()) }
+    unsafe { declared::twine_skip(file.as_ptr(), file.len(), mode, at, out.as_mut_ptr()) }
 }
 
 /// The offset of the item, and 0.
-pub fn item(file: &[u8], at: usize, index: usize, out: &mut [u64; 2]) -> u32 {
+pub fn item(file: &[u8], mode: u32, at: usize, index: usize, out: &mut [u64; 2]) -> u32 {
     // SAFETY: slices
-    unsafe { declared::twine_item(file.as_ptr(), file.len(), at, index, out.as_mut_ptr()) }
+    unsafe { declared::twine_item(file.as_ptr(), file.len(), mode, at, index, out.as_mut_ptr()) }
 }
 
 /// The offset of the value that is not a pointer, and the pointers met.
-pub fn follow(file: &[u8], at: usize, out: &mut [u64; 2]) -> u32 {
+pub fn follow(file: &[u8], mode: u32, at: usize, out: &mut [u64; 2]) -> u32 {
     // SAFETY: slices
-    unsafe { declared::twine_follow(file.as_ptr(), file.len(), at, out.as_mut_ptr()) }
+    unsafe { declared::twine_follow(file.as_ptr(), file.len(), mode, at, out.as_mut_ptr()) }
 }
 
 /// The offset of the key's value, and 0.
-pub fn lookup(file: &[u8], at: usize, key: &[u8], out: &mut [u64; 2]) -> u32 {
+pub fn lookup(file: &[u8], mode: u32, at: usize, key: &[u8], out: &mut [u64; 2]) -> u32 {
     // SAFETY: slices
-    unsafe { declared::twine_lookup(file.as_ptr(), file.len(), at, key.as_ptr(), key.len(), out.as_mut_ptr()) }
+    unsafe { declared::twine_lookup(file.as_ptr(), file.len(), mode, at, key.as_ptr(), key.len(), out.as_mut_ptr()) }
 }
 
 /// The offset of the body's first byte, and its length.
-pub fn body(file: &[u8], at: usize, out: &mut [u64; 2]) -> u32 {
+pub fn body(file: &[u8], mode: u32, at: usize, out: &mut [u64; 2]) -> u32 {
     // SAFETY: slices
-    unsafe { declared::twine_body(file.as_ptr(), file.len(), at, out.as_mut_ptr()) }
+    unsafe { declared::twine_body(file.as_ptr(), file.len(), mode, at, out.as_mut_ptr()) }
 }
 
 /// The state of a writer that has written nothing.

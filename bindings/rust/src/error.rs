@@ -14,7 +14,7 @@ pub enum ErrorKind {
     Trunc = 3,
     /// A reserved kind or low nibble.
     Reserved = 4,
-    /// A number that is not in its shortest form.
+    /// A padded number, in strict mode alone; see [`Mode`](crate::Mode). The place is its header.
     Overlong = 5,
     /// A number over its kind's bound or over 64 bits.
     Range = 6,

@@ -4,6 +4,7 @@ use std::fmt;
 use std::iter::FusedIterator;
 
 use crate::error::{Error, ErrorKind};
+use crate::mode::Mode;
 use crate::query::{self, Kind};
 use crate::sys;
 use crate::text::Text;
@@ -16,17 +17,18 @@ fn always<T>(answer: Result<T, Error>) -> T {
 
 /// A file that was checked: every value and item in it can be read, every text is UTF-8, and no pointer leads astray or around in a loop.
 ///
-/// It borrows the bytes and owns the list of the offsets at which the values start.
+/// It borrows the bytes and owns the list of the offsets at which the values start. It is read in the mode in which it was checked.
 #[derive(Clone)]
 pub struct File<'a> {
     bytes: &'a [u8],
+    mode: Mode,
     starts: Vec<u32>,
     entry: usize,
 }
 
 impl<'a> File<'a> {
-    /// Checks a file, or returns the first error from the left. While it checks, it takes four bytes of memory for each byte of the file, and
-    /// keeps four for each value.
+    /// Checks a file in strict mode, or returns the first error from the left. While it checks, it takes four bytes of memory for each byte
+    /// of the file, and keeps four for each value.
     ///
     /// ```
     /// use twine::{ErrorKind, File};
@@ -45,18 +47,40 @@ impl<'a> File<'a> {
     /// # Ok::<(), twine::Error>(())
     /// ```
     pub fn check(bytes: &'a [u8]) -> Result<File<'a>, Error> {
+        File::check_with(Mode::Strict, bytes)
+    }
+
+    /// As [`check`](File::check), in a mode, which goes with the file: its values and items are read in it too.
+    ///
+    /// ```
+    /// use twine::{File, Mode, Value};
+    ///
+    /// // the integer 15 + 9, whose 9 is padded to five bytes, and an array with a pointer to it
+    /// let bytes = [0x1f, 0x89, 0x80, 0x80, 0x80, 0x00, 0x61, 0xf6, 0x01];
+    /// let file = File::check_with(Mode::Tolerant, &bytes)?;
+    /// assert_eq!(file.mode(), Mode::Tolerant);
+    /// assert!(matches!(file.entry().item(0)?.follow().value(), Value::Integer(24)));
+    /// assert!(File::check(&bytes).is_err());
+    /// # Ok::<(), twine::Error>(())
+    /// ```
+    pub fn check_with(mode: Mode, bytes: &'a [u8]) -> Result<File<'a>, Error> {
         // a value has at least one byte, and the last byte is none's; a file over the limit is refused without a table
         let words = if bytes.len() <= LIMIT { bytes.len().saturating_sub(1) } else { 0 };
         let mut starts = vec![0; words];
-        let [count, entry] = sys::check(bytes, &mut starts)?;
+        let [count, entry] = sys::check(bytes, mode, &mut starts)?;
         starts.truncate(count as usize);
         starts.shrink_to_fit();
-        Ok(File { bytes, starts, entry: entry as usize })
+        Ok(File { bytes, mode, starts, entry: entry as usize })
     }
 
     /// The bytes of the file.
     pub fn bytes(&self) -> &'a [u8] {
         self.bytes
+    }
+
+    /// The mode in which it was checked, and is read.
+    pub fn mode(&self) -> Mode {
+        self.mode
     }
 
     /// How many values it has, items not counted. At least 1.
@@ -93,12 +117,12 @@ impl<'a> File<'a> {
     pub fn depths(&self) -> Vec<u32> {
         let mut starts = vec![0; self.count()];
         let mut depths = vec![0; self.count()];
-        always(sys::depths(self.bytes, &mut starts, &mut depths));
+        always(sys::depths(self.bytes, self.mode, &mut starts, &mut depths));
         depths
     }
 
     fn node(&self, at: usize) -> Node<'a> {
-        Node { file: self.bytes, at }
+        Node { file: self.bytes, mode: self.mode, at }
     }
 }
 
@@ -106,6 +130,7 @@ impl fmt::Debug for File<'_> {
     fn fmt(&self, f: &mut fmt::Formatter<'_>) -> fmt::Result {
         f.debug_struct("File")
             .field("bytes", &self.bytes.len())
+            .field("mode", &self.mode)
             .field("count", &self.count())
             .field("entry", &self.entry)
             .finish()
@@ -114,11 +139,12 @@ impl fmt::Debug for File<'_> {
 
 /// A value or an item of a checked file.
 ///
-/// It is an offset and the borrowed bytes, and can be copied freely. A query that does not fit is NO_ITEM or WRONG_KIND; nothing else can
-/// be wrong.
+/// It is an offset, the borrowed bytes and their mode, and can be copied freely. A query that does not fit is NO_ITEM or WRONG_KIND; nothing
+/// else can be wrong.
 #[derive(Clone, Copy)]
 pub struct Node<'a> {
     file: &'a [u8],
+    mode: Mode,
     at: usize,
 }
 
@@ -130,7 +156,7 @@ impl<'a> Node<'a> {
 
     /// What it is.
     pub fn value(self) -> Value<'a> {
-        let token = always(query::read(self.file, self.at));
+        let token = always(query::read(self.file, self.mode, self.at));
         let body = || &self.file[token.first..][..token.count];
         let first = self.to(token.first);
         let items = Items { next: first, left: token.count };
@@ -155,14 +181,14 @@ impl<'a> Node<'a> {
 
     /// The value that it is or that pointers lead to. References are not followed.
     pub fn follow(self) -> Node<'a> {
-        self.to(always(query::follow(self.file, self.at)).0)
+        self.to(always(query::follow(self.file, self.mode, self.at)).0)
     }
 
     /// Its items; for a map, keys and values alternate. Going through all of them takes time in proportion to their bytes.
     ///
     /// WRONG_KIND if its kind has none. It is not followed.
     pub fn items(self) -> Result<Items<'a>, Error> {
-        let token = query::read(self.file, self.at)?;
+        let token = query::read(self.file, self.mode, self.at)?;
         if token.kind.has_items() {
             Ok(Items { next: self.to(token.first), left: token.count })
         } else {
@@ -174,14 +200,14 @@ impl<'a> Node<'a> {
     ///
     /// NO_ITEM at or past the count, WRONG_KIND if its kind has none. It is not followed.
     pub fn item(self, index: usize) -> Result<Node<'a>, Error> {
-        Ok(self.to(query::item(self.file, self.at, index)?))
+        Ok(self.to(query::item(self.file, self.mode, self.at, index)?))
     }
 
     /// The value of a key in a map: that of the first pair whose key, followed, is a text of these bytes.
     ///
     /// NO_ITEM if there is no such key, WRONG_KIND if this is not a map. It is not followed.
     pub fn lookup(self, key: impl AsRef<[u8]>) -> Result<Node<'a>, Error> {
-        Ok(self.to(query::lookup(self.file, self.at, key)?))
+        Ok(self.to(query::lookup(self.file, self.mode, self.at, key)?))
     }
 
     /// As [`lookup`](Node::lookup), with none for every error.
@@ -200,16 +226,16 @@ impl<'a> Node<'a> {
     ///
     /// WRONG_KIND for another kind.
     pub fn body(self) -> Result<&'a [u8], Error> {
-        query::body(self.file, self.at)
+        query::body(self.file, self.mode, self.at)
     }
 
     /// The offset just after it and its items.
     pub fn end(self) -> usize {
-        always(query::skip(self.file, self.at))
+        always(query::skip(self.file, self.mode, self.at))
     }
 
     fn to(self, at: usize) -> Node<'a> {
-        Node { file: self.file, at }
+        Node { at, ..self }
     }
 }
 

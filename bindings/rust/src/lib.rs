@@ -3,6 +3,7 @@
 //! - [`File::check`] checks a whole file, and in one that it accepts every [`Text`] is UTF-8; a [`Node`] is a value or an item of it.
 //! - [`Writer`] writes a file.
 //! - [`query`] asks at any offset of any bytes, checked or not.
+//! - [`Mode`] is for whoever reads files of the old exporter, whose numbers are padded.
 //!
 //! ```
 //! use twine::{File, Value, Writer};
@@ -33,6 +34,7 @@ compile_error!("libtwine.a is for 64-bit targets");
 mod c;
 mod error;
 mod file;
+mod mode;
 pub mod query;
 mod sys;
 mod text;
@@ -40,6 +42,7 @@ mod writer;
 
 pub use error::{Error, ErrorKind};
 pub use file::{File, Items, Node, Pairs, Value};
+pub use mode::Mode;
 pub use text::Text;
 pub use writer::Writer;
 

@@ -1,23 +1,25 @@
 //! Queries at any offset of any bytes, checked or not.
 //!
 //! Each returns an answer or an error. First come EMPTY, TOO_LONG and OUTSIDE, then the value's own errors. None tests the bytes of a
-//! text, so that BAD_TEXT never comes. On a checked file, [`Node`](crate::Node) asks them.
+//! text, so that BAD_TEXT never comes. The [`Mode`] says whether padded numbers are read. On a checked file, [`Node`](crate::Node) asks
+//! them.
 //!
 //! ```
-//! use twine::{query, ErrorKind};
+//! use twine::{query, ErrorKind, Mode::Strict};
 //!
 //! // a text, and an array of two pointers to it
 //! let file = [0x42, b'h', b'i', 0x62, 0xf3, 0xf4, 0x02];
-//! let item = query::item(&file, 3, 1)?;
+//! let item = query::item(&file, Strict, 3, 1)?;
 //! assert_eq!(item, 5);
-//! assert_eq!(query::follow(&file, item)?, (0, 1));
-//! assert_eq!(query::body(&file, item)?, b"hi");
-//! assert_eq!(query::skip(&file, 3)?, 6);
-//! assert_eq!(query::item(&file, 3, 2).unwrap_err().kind, ErrorKind::NoItem);
+//! assert_eq!(query::follow(&file, Strict, item)?, (0, 1));
+//! assert_eq!(query::body(&file, Strict, item)?, b"hi");
+//! assert_eq!(query::skip(&file, Strict, 3)?, 6);
+//! assert_eq!(query::item(&file, Strict, 3, 2).unwrap_err().kind, ErrorKind::NoItem);
 //! # Ok::<(), twine::Error>(())
 //! ```
 
 use crate::error::Error;
+use crate::mode::Mode;
 use crate::sys;
 
 /// What a value is.
@@ -114,35 +116,35 @@ pub struct Token {
 /// items; TRUNC if the region ends inside a number or a float.
 ///
 /// ```
-/// use twine::{query, ErrorKind};
+/// use twine::{query, ErrorKind, Mode::Strict};
 ///
 /// // an array of three items, with one byte left for them
-/// let error = query::read(&[0x63, 0x10, 0x00], 0).unwrap_err();
+/// let error = query::read(&[0x63, 0x10, 0x00], Strict, 0).unwrap_err();
 /// assert_eq!((error.kind, error.place), (ErrorKind::LongList, Some(1)));
 /// ```
-pub fn read(file: &[u8], at: usize) -> Result<Token, Error> {
-    let [kind, number, first, count] = sys::read(file, at)?;
+pub fn read(file: &[u8], mode: Mode, at: usize) -> Result<Token, Error> {
+    let [kind, number, first, count] = sys::read(file, mode, at)?;
     Ok(Token { kind: Kind::from_number(kind), number, first: first as usize, count: count as usize })
 }
 
 /// The offset just after the value at `at`. Its items are read too, with their errors; TRUNC if the region ends where one is wanted.
-pub fn skip(file: &[u8], at: usize) -> Result<usize, Error> {
-    Ok(sys::skip(file, at)?[0] as usize)
+pub fn skip(file: &[u8], mode: Mode, at: usize) -> Result<usize, Error> {
+    Ok(sys::skip(file, mode, at)?[0] as usize)
 }
 
 /// The offset of an item of the value at `at`, which is not followed; for a map keys and values alternate.
 ///
 /// NO_ITEM for an index at or past the count, WRONG_KIND for a kind without items; the errors of the items before it; TRUNC if it would
 /// start at the region's end. Its time grows with the items before it.
-pub fn item(file: &[u8], at: usize, index: usize) -> Result<usize, Error> {
-    Ok(sys::item(file, at, index)?[0] as usize)
+pub fn item(file: &[u8], mode: Mode, at: usize, index: usize) -> Result<usize, Error> {
+    Ok(sys::item(file, mode, at, index)?[0] as usize)
 }
 
 /// Follows pointers from the value at `at` to one that is not a pointer: its offset, and how many pointers were met.
 ///
 /// References are not followed.
-pub fn follow(file: &[u8], at: usize) -> Result<(usize, usize), Error> {
-    let [at, met] = sys::follow(file, at)?;
+pub fn follow(file: &[u8], mode: Mode, at: usize) -> Result<(usize, usize), Error> {
+    let [at, met] = sys::follow(file, mode, at)?;
     Ok((at as usize, met as usize))
 }
 
@@ -151,15 +153,15 @@ pub fn follow(file: &[u8], at: usize) -> Result<(usize, usize), Error> {
 ///
 /// NO_ITEM if there is no such key, WRONG_KIND for another kind than a map; the errors of the pairs before it and of its key; TRUNC if the
 /// value would start at the region's end.
-pub fn lookup(file: &[u8], at: usize, key: impl AsRef<[u8]>) -> Result<usize, Error> {
-    Ok(sys::lookup(file, at, key.as_ref())?[0] as usize)
+pub fn lookup(file: &[u8], mode: Mode, at: usize, key: impl AsRef<[u8]>) -> Result<usize, Error> {
+    Ok(sys::lookup(file, mode, at, key.as_ref())?[0] as usize)
 }
 
 /// The bytes of the text or byte string that the value at `at` is or that pointers lead to.
 ///
 /// They are not looked at: in a file that was not checked, those of a text may be anything. [`Text`](crate::Text) shows them all the same.
 /// WRONG_KIND for another kind.
-pub fn body(file: &[u8], at: usize) -> Result<&[u8], Error> {
-    let [first, len] = sys::body(file, at)?;
+pub fn body(file: &[u8], mode: Mode, at: usize) -> Result<&[u8], Error> {
+    let [first, len] = sys::body(file, mode, at)?;
     Ok(&file[first as usize..][..len as usize])
 }

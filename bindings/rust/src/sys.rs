@@ -2,6 +2,7 @@
 
 use crate::c;
 use crate::error::{Error, ErrorKind};
+use crate::mode::Mode;
 
 /// The words of a writer's state: written, count, pending, start, closed.
 pub(crate) type State = [u64; c::STATE];
@@ -36,43 +37,43 @@ pub(crate) fn error_name(number: u32) -> [u8; c::NAME] {
 }
 
 /// The count of values and the offset of the entry.
-pub(crate) fn check(file: &[u8], starts: &mut [u32]) -> Result<[u64; 2], Error> {
-    ask(|out| c::check(file, starts, out))
+pub(crate) fn check(file: &[u8], mode: Mode, starts: &mut [u32]) -> Result<[u64; 2], Error> {
+    ask(|out| c::check(file, mode as u32, starts, out))
 }
 
 /// As `check`, with the depths.
-pub(crate) fn depths(file: &[u8], starts: &mut [u32], depths: &mut [u32]) -> Result<[u64; 2], Error> {
-    ask(|out| c::depths(file, starts, depths, out))
+pub(crate) fn depths(file: &[u8], mode: Mode, starts: &mut [u32], depths: &mut [u32]) -> Result<[u64; 2], Error> {
+    ask(|out| c::depths(file, mode as u32, starts, depths, out))
 }
 
 /// Kind, number, first, count.
-pub(crate) fn read(file: &[u8], at: usize) -> Result<[u64; 4], Error> {
-    ask(|out| c::read(file, at, out))
+pub(crate) fn read(file: &[u8], mode: Mode, at: usize) -> Result<[u64; 4], Error> {
+    ask(|out| c::read(file, mode as u32, at, out))
 }
 
 /// The offset just after the value, and 0.
-pub(crate) fn skip(file: &[u8], at: usize) -> Result<[u64; 2], Error> {
-    ask(|out| c::skip(file, at, out))
+pub(crate) fn skip(file: &[u8], mode: Mode, at: usize) -> Result<[u64; 2], Error> {
+    ask(|out| c::skip(file, mode as u32, at, out))
 }
 
 /// The offset of the item, and 0.
-pub(crate) fn item(file: &[u8], at: usize, index: usize) -> Result<[u64; 2], Error> {
-    ask(|out| c::item(file, at, index, out))
+pub(crate) fn item(file: &[u8], mode: Mode, at: usize, index: usize) -> Result<[u64; 2], Error> {
+    ask(|out| c::item(file, mode as u32, at, index, out))
 }
 
 /// The offset of the value that is not a pointer, and the pointers met.
-pub(crate) fn follow(file: &[u8], at: usize) -> Result<[u64; 2], Error> {
-    ask(|out| c::follow(file, at, out))
+pub(crate) fn follow(file: &[u8], mode: Mode, at: usize) -> Result<[u64; 2], Error> {
+    ask(|out| c::follow(file, mode as u32, at, out))
 }
 
 /// The offset of the key's value, and 0.
-pub(crate) fn lookup(file: &[u8], at: usize, key: &[u8]) -> Result<[u64; 2], Error> {
-    ask(|out| c::lookup(file, at, key, out))
+pub(crate) fn lookup(file: &[u8], mode: Mode, at: usize, key: &[u8]) -> Result<[u64; 2], Error> {
+    ask(|out| c::lookup(file, mode as u32, at, key, out))
 }
 
 /// The offset of the body's first byte, and its length.
-pub(crate) fn body(file: &[u8], at: usize) -> Result<[u64; 2], Error> {
-    ask(|out| c::body(file, at, out))
+pub(crate) fn body(file: &[u8], mode: Mode, at: usize) -> Result<[u64; 2], Error> {
+    ask(|out| c::body(file, mode as u32, at, out))
 }
 
 /// The state of a writer that has written nothing.

@@ -22,12 +22,12 @@ use std::str::Utf8Error;
 /// them is a `str` only if they are UTF-8. It can be compared and shown all the same.
 ///
 /// ```
-/// use twine::{query, File, Text};
+/// use twine::{query, File, Mode, Text};
 ///
 /// // "a" and a surrogate, U+D800
 /// let bytes = [0x44, b'a', 0xed, 0xa0, 0x80, 0x04];
 /// assert_eq!(File::check(&bytes).unwrap_err().to_string(), "BAD_TEXT at 0");
-/// let text = Text::from(query::body(&bytes, 0)?);
+/// let text = Text::from(query::body(&bytes, Mode::Strict, 0)?);
 /// assert!(text.to_str().is_err());
 /// assert_eq!(text.as_bytes(), [b'a', 0xed, 0xa0, 0x80]);
 /// assert_eq!(format!("{text}"), "a\u{fffd}\u{fffd}\u{fffd}");

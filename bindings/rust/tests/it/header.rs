@@ -3,7 +3,7 @@
 use std::collections::BTreeMap;
 
 use twine::query::Kind;
-use twine::ErrorKind;
+use twine::{ErrorKind, Mode};
 
 const HEADER: &str = include_str!("../../../c/twine.h");
 const DECLARED: &str = include_str!("../../src/c.rs");
@@ -97,6 +97,10 @@ fn numbers() {
     }
 
     let listed = |from, prefix| between(&header, from, "};").matches(prefix).count();
+    for (mode, end) in [(Mode::Strict, ","), (Mode::Tolerant, "\n")] {
+        defined(format!(" TWINE_{} = {}{end}", format!("{mode:?}").to_uppercase(), mode as u32));
+    }
+    assert_eq!(listed("enum twine_mode {", " TWINE_"), 2);
     for kind in ErrorKind::ALL {
         let end = if Some(&kind) == ErrorKind::ALL.last() { "\n" } else { "," };
         defined(format!(" TWINE_{} = {}{end}", kind.name(), kind.number()));

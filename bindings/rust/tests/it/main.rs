@@ -1,13 +1,16 @@
 //! Tests of the crate against the archive.
 
 mod header;
+mod mode;
 mod queries;
 mod random;
 mod samples;
 mod text;
 mod writer;
 
-use twine::{Error, ErrorKind, Node, Value};
+use std::fmt::Debug;
+
+use twine::{Error, ErrorKind, Mode, Node, Value};
 
 /// The bytes of a row in hex.
 fn hex(row: &str) -> Vec<u8> {
@@ -22,6 +25,23 @@ fn error(kind: ErrorKind, place: usize) -> Error {
 /// An error of the writer.
 fn refused(kind: ErrorKind) -> Error {
     Error { kind, place: None }
+}
+
+/// The answers in strict and in tolerant mode: the same, unless the strict one is OVERLONG, which the tolerant one never is.
+fn both<T: Debug + PartialEq>(ask: impl Fn(Mode) -> Result<T, Error>) -> [Result<T, Error>; 2] {
+    let is_overlong = |answer: &Result<T, Error>| matches!(answer, Err(Error { kind: ErrorKind::Overlong, .. }));
+    let [strict, tolerant] = [Mode::Strict, Mode::Tolerant].map(ask);
+    assert!(!is_overlong(&tolerant));
+    if !is_overlong(&strict) {
+        assert_eq!(strict, tolerant);
+    }
+    [strict, tolerant]
+}
+
+/// The strict answer, compared with the tolerant one.
+fn strict<T: Debug + PartialEq>(ask: impl Fn(Mode) -> Result<T, Error>) -> Result<T, Error> {
+    let [strict, _] = both(ask);
+    strict
 }
 
 /// A value without its items, as the call that writes it. Floats are bits, targets offsets.

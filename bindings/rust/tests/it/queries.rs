@@ -1,9 +1,34 @@
 //! The queries over bytes that were not checked.
 
-use twine::query::{body, follow, item, lookup, read, skip, Kind, Token};
+use twine::query::{self, Kind, Token};
+use twine::Error;
 use twine::ErrorKind::*;
 
-use crate::{error, hex};
+use crate::{error, hex, strict};
+
+fn read(file: &[u8], at: usize) -> Result<Token, Error> {
+    strict(|mode| query::read(file, mode, at))
+}
+
+fn skip(file: &[u8], at: usize) -> Result<usize, Error> {
+    strict(|mode| query::skip(file, mode, at))
+}
+
+fn item(file: &[u8], at: usize, index: usize) -> Result<usize, Error> {
+    strict(|mode| query::item(file, mode, at, index))
+}
+
+fn follow(file: &[u8], at: usize) -> Result<(usize, usize), Error> {
+    strict(|mode| query::follow(file, mode, at))
+}
+
+fn lookup(file: &[u8], at: usize, key: impl AsRef<[u8]>) -> Result<usize, Error> {
+    strict(|mode| query::lookup(file, mode, at, &key))
+}
+
+fn body(file: &[u8], at: usize) -> Result<&[u8], Error> {
+    strict(|mode| query::body(file, mode, at))
+}
 
 #[test]
 fn answers() {

