@@ -1,7 +1,7 @@
 /*
  * plan.c: shows a plan file, then writes a small plan and shows that too, with the C interface of the Twine library.
  *
- * usage: plan FILE; examples/plan builds and runs it.
+ * usage: plan [--tolerant] FILE; examples/plan builds and runs it. With --tolerant it reads padded numbers, as the old exporter wrote them.
  *
  * An error is a line "plan: WHAT: NAME PLACE" on standard error. The status is 0, 1 for an error, 2 if the file can't be read.
  */
@@ -14,11 +14,12 @@
 
 #include "twine.h"
 
-/* A file in memory. */
+/* A file in memory, and the mode in which it is read. */
 struct file {
     const char *name;
     const uint8_t *bytes;
     size_t len;
+    uint32_t mode;
 };
 
 /* Returns whether there is no error; if there is one, prints it, with the place that the call left in out[0]. */
@@ -35,11 +36,11 @@ static bool ok(const char *what, uint32_t error, const uint64_t *out) {
 /* The value that the one at `at` is, or that pointers lead to: its offset and out of twine_read. WRONG_KIND if it is not of the kind. */
 static bool read_as(const struct file *f, uint64_t at, uint64_t kind, uint64_t *end, uint64_t out[4]) {
     uint64_t followed[2] = {0};
-    if (!ok(f->name, twine_follow(f->bytes, f->len, at, followed), followed)) {
+    if (!ok(f->name, twine_follow(f->bytes, f->len, f->mode, at, followed), followed)) {
         return false;
     }
     *end = followed[0];
-    uint32_t error = twine_read(f->bytes, f->len, *end, out);
+    uint32_t error = twine_read(f->bytes, f->len, f->mode, *end, out);
     if (error == TWINE_OK && out[0] != kind) {
         return ok(f->name, TWINE_WRONG_KIND, end);
     }
@@ -62,7 +63,7 @@ static bool find(const struct file *f, uint64_t at, const char *label, uint64_t 
     if (!read_as(f, at, TWINE_KIND_MAP, &map, out)) {
         return false;
     }
-    if (!ok(f->name, twine_lookup(f->bytes, f->len, map, (const uint8_t *)label, strlen(label), found), found)) {
+    if (!ok(f->name, twine_lookup(f->bytes, f->len, f->mode, map, (const uint8_t *)label, strlen(label), found), found)) {
         return false;
     }
     *value = found[0];
@@ -86,7 +87,7 @@ static bool show_drive(const struct file *f, uint64_t at, uint64_t number) {
         return false;
     }
     for (size_t i = 0; i < 3; i++) {
-        if (!ok(f->name, twine_item(f->bytes, f->len, array, i, item), item) || !read_integer(f, item[0], &is[i])) {
+        if (!ok(f->name, twine_item(f->bytes, f->len, f->mode, array, i, item), item) || !read_integer(f, item[0], &is[i])) {
             return false;
         }
     }
@@ -104,7 +105,7 @@ static bool show_all(const struct file *f, uint64_t map, const char *label, bool
     /* from item to item by twine_skip: twine_item would start at the first again each time */
     uint64_t at = out[2];
     for (uint64_t i = 0; i < out[3]; i++) {
-        if (!show(f, at, i) || !ok(f->name, twine_skip(f->bytes, f->len, at, next), next)) {
+        if (!show(f, at, i) || !ok(f->name, twine_skip(f->bytes, f->len, f->mode, at, next), next)) {
             return false;
         }
         at = next[0];
@@ -122,7 +123,7 @@ static bool show_plan(const struct file *f) {
         fprintf(stderr, "plan: no memory\n");
         return false;
     }
-    uint32_t error = twine_check(f->bytes, f->len, starts, words, out);
+    uint32_t error = twine_check(f->bytes, f->len, f->mode, starts, words, out);
     free(starts);
     if (!ok(f->name, error, out)) {
         return false;
@@ -215,7 +216,7 @@ static bool written_plan(void) {
         fprintf(stderr, "plan: writer: %s\n", twine_error_name(w.error));
         return false;
     }
-    struct file f = {"written", w.out, here(&w)};
+    struct file f = {"written", w.out, here(&w), TWINE_STRICT};
     printf("\n");
     for (size_t i = 0; i < f.len; i++) {
         printf("%02x%c", f.bytes[i], i % 16 == 15 || i + 1 == f.len ? '\n' : ' ');
@@ -244,11 +245,12 @@ static uint8_t *load(const char *name, size_t *len) {
 }
 
 int main(int argc, char **argv) {
-    if (argc != 2) {
-        fprintf(stderr, "usage: plan FILE\n");
+    bool tolerant = argc > 1 && strcmp(argv[1], "--tolerant") == 0;
+    if (argc != 2 + tolerant) {
+        fprintf(stderr, "usage: plan [--tolerant] FILE\n");
         return 2;
     }
-    struct file f = {.name = argv[1]};
+    struct file f = {.name = argv[1 + tolerant], .mode = tolerant ? TWINE_TOLERANT : TWINE_STRICT};
     uint8_t *bytes = load(f.name, &f.len);
     if (bytes == NULL) {
         return 2;
