@@ -17,10 +17,11 @@ use Rattle.prelude.specs.Pick.{pick}
 use Rattle.prelude.specs.Answer.{Answer, ok, error, bind}
 use Rattle.prelude.specs.Bytes.{Bytes}
 use Rattle.prelude.specs.Search.{among}
-use Rattle.prelude.specs.Loop.{Turn, go, stop, follow, run, from}
+use Rattle.prelude.specs.Loop.{Turn, stop}
 use Rattle.prelude.proofs.Tests.{split}
 use Rattle.prelude.proofs.Searches.{rising-ge}
 use Rattle.prelude.proofs.Readers.{bind-error}
+use Rattle.prelude.proofs.Turns.{Stops, from-or}
 use Rattle.error.specs.Error.{Fault, fault, FULL}
 use Rattle.leb128.specs.declared.Mode.{Mode}
 use Rattle.values.specs.Values.{region, starts}
@@ -123,22 +124,6 @@ never-full mode file cap p enough e =
 abbrev IsFull : Answer Fault (List ℕ) → Type 0
 IsFull a = (p : ℕ) × (a ≡ error (fault FULL p))
 
--- two loops whose turns are the same, except where the first stops with an answer of P
-module _ {S R : Type 0} (P : R → Type 0) where
-  follow-or : (f g : S → R) → ((s : S) → P (f s) ⊎ (f s ≡ g s)) → (t : Turn S R) → P (follow t f) ⊎ (follow t f ≡ follow t g)
-  follow-or f g h (go s) = h s
-  follow-or f g h (stop a) = inr refl
-
-  run-or : (t u : S → Turn S R) (r : R) → ((s : S) → ((a : R) × (t s ≡ stop a) × P a) ⊎ (t s ≡ u s))
-      → (k : ℕ) (s : S) → P (run t r k s) ⊎ (run t r k s ≡ run u r k s)
-  unfolding run
-  run-or t u r same zero s = inr refl
-  run-or t u r same (suc k) s =
-      elim (same s) [
-        | inl (a, e, q) ↦ inl (rw e q)
-        | inr e ↦ rw e (follow-or (run t r k) (run u r k) (run-or t u r same k) (u s))
-      ]
-
 module _ (mode : Mode) (s : List ℕ) (cap more : ℕ) (le : cap ≤ more) where
   next-fewer : (done : List ℕ) (pending at : ℕ)
       → (nextToken mode s cap done pending at ≡ error (fault FULL at)) ⊎ (nextToken mode s cap done pending at ≡ nextToken mode s more done pending at)
@@ -150,14 +135,14 @@ module _ (mode : Mode) (s : List ℕ) (cap more : ℕ) (le : cap ≤ more) where
       (λ free. inr (rw (lt-leb cap (length done) free, lt-leb more (length done) (omega arith))))
       (λ full. inl (rw (eq-eqb pending 0 (omega arith), le-leb cap (length done) full))))
 
-  turn-fewer : (w : Walk) → ((a : Answer Fault (List ℕ)) × (walkTurn mode s cap w ≡ stop a) × IsFull a) ⊎ (walkTurn mode s cap w ≡ walkTurn mode s more w)
+  turn-fewer : (w : Walk) → Stops IsFull (walkTurn mode s cap w) ⊎ (walkTurn mode s cap w ≡ walkTurn mode s more w)
   unfolding walkTurn
   turn-fewer w = by-test (eqb (w .pending) 0 && leb (length s) (w .at))
     where
       turned-at : ℕ → Bool → Turn Walk (Answer Fault (List ℕ))
       turned-at c t = pick t (stop (ok (w .done))) (walkTurned w (nextToken mode s c (w .done) (w .pending) (w .at)))
 
-      by-test : (t : Bool) → ((a : Answer Fault (List ℕ)) × (turned-at cap t ≡ stop a) × IsFull a) ⊎ (turned-at cap t ≡ turned-at more t)
+      by-test : (t : Bool) → Stops IsFull (turned-at cap t) ⊎ (turned-at cap t ≡ turned-at more t)
       by-test true = inr refl
       by-test false =
           elim (next-fewer (w .done) (w .pending) (w .at)) [
@@ -166,8 +151,8 @@ module _ (mode : Mode) (s : List ℕ) (cap more : ℕ) (le : cap ≤ more) where
           ]
 
   starts-fewer : IsFull (startsFrom mode s cap (between 0 [])) ⊎ (startsFrom mode s cap (between 0 []) ≡ startsFrom mode s more (between 0 []))
-  unfolding startsFrom from
-  starts-fewer = run-or IsFull (walkTurn mode s cap) (walkTurn mode s more) (error (fault 0 0)) turn-fewer _ (between 0 [])
+  unfolding startsFrom
+  starts-fewer = from-or IsFull turn-fewer _ _ (between 0 [])
 
 checkIn-fewer : (mode : Mode) (file : List ℕ) (cap more : ℕ) → cap ≤ more
     → ((p : ℕ) × (checkIn mode file cap ≡ error (fault FULL p))) ⊎ (checkIn mode file cap ≡ checkIn mode file more)

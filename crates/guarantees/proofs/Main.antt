@@ -17,8 +17,9 @@ use Rattle.prelude.specs.Answer.{ok, error, got}
 use Rattle.prelude.specs.Bytes.{Bytes}
 use Rattle.prelude.specs.Each.{Each}
 use Rattle.error.specs.Error.{Fault, fault, LIMIT, EMPTY, TOO_LONG, BAD_TEXT, FULL, BAD_ENTRY, NO_ITEM}
-use Rattle.leb128.specs.Leb.{top, get, put}
+use Rattle.leb128.specs.Leb.{top, put, Spells, get}
 use Rattle.leb128.proofs.Laws as leb128
+use Rattle.leb128.proofs.Spellings as spellings
 use Rattle.leb128.specs.declared.Mode.{Mode}
 use Rattle.leb128.specs.declared.Mode.the-variants.{Strict, Tolerant}
 use Rattle.utf8.specs.Text.{Text, isText}
@@ -34,6 +35,7 @@ use Rattle.scan.specs.declared.Head.{Head}
 use Rattle.values.specs.Values.{Value, bytes, starts, WellFormed}
 use Rattle.values.specs.Paths.{Refers, Leads}
 use Rattle.values.proofs.Unique as unique
+use Rattle.values.proofs.Modes as modes
 use Rattle.values.proofs.Leads as leads
 use Rattle.reader_region.specs.Region.{peekOf}
 use Rattle.reader_value.specs.Value.{valueOn, readOf}
@@ -51,6 +53,8 @@ use Rattle.writer.specs.Step.{puts, moveOf, fresh, opens, step}
 use Rattle.writer.specs.Runs.{runs}
 use Rattle.writer.proofs.Refused as writer
 use Rattle.abi_writer.specs.Calls.{writerOf, wordsOf, numberC, runsC}
+use Rattle.guarantees_modes.specs.Modes.{ModesAgree}
+use Rattle.guarantees_modes.proofs.Theorems as both
 use Rattle.guarantees_faults.specs.Faults.{Exceeds, Counted, RefusedHead, HasPlace, RefusedToken}
 use Rattle.guarantees_faults.specs.Queries.{AnsweredQuery, Read, headOf, Skips, HasItem, Reaches, HasBody, Finds}
 use Rattle.guarantees_faults.specs.Queries.{RefusedQuery, RefusedRead, RefusedSkip, RefusedItem, RefusedFollow, RefusedBody, RefusedLookup}
@@ -130,8 +134,22 @@ demand-3 = record { list = demands.after-calls; values = call-values.value-of-ca
 pub one-reading : {mode : Mode} (file : List ℕ) (vs ws : List Value) (e f : ℕ) → WellFormed mode file vs e → WellFormed mode file ws f → (vs ≡ ws) × (e ≡ f)
 one-reading = unique.one-reading
 
+pub well-formed-of-strict : (mode : Mode) {file : List ℕ} {vs : List Value} {entry : ℕ} → WellFormed Strict file vs entry → WellFormed mode file vs entry
+well-formed-of-strict = modes.well-formed-of-strict
+
+pub modes-agree : ModesAgree
+modes-agree = both.modes-agree
+
+pub tolerant-accepts : (file : List ℕ) (cap count entry : ℕ) → checkOf Strict file cap .answer ≡ ok (count, entry)
+    → checkOf Tolerant file cap ≡ checkOf Strict file cap
+tolerant-accepts = both.tolerant-accepts
+
+pub tolerant-accepts-depths : (file : List ℕ) (cap room count entry : ℕ) → depthsOf Strict file cap room .answer ≡ ok (count, entry)
+    → depthsOf Tolerant file cap room ≡ depthsOf Strict file cap room
+tolerant-accepts-depths = both.tolerant-accepts-depths
+
 pub fault-exactly : (mode : Mode) (file : List ℕ) (cap : ℕ) (f : Fault) → Bytes file → (checkOf mode file cap .answer ≡ error f) ↔ RefusedCheck mode file cap f
-fault-exactly mode = refused.fault-exactly mode
+fault-exactly = refused.fault-exactly
 
 pub fault-place : {mode : Mode} {file : List ℕ} {cap p : ℕ} {f : Fault} (x : Faulty mode file cap p f)
     → HasPlace mode (take (length file - 1) file) (ltb 0 (x .missing)) p f
@@ -142,14 +160,14 @@ fault-once = refused.fault-once
 
 pub depths-refused-exactly : (mode : Mode) (file : List ℕ) (cap room : ℕ) (f : Fault) → Bytes file
     → (depthsOf mode file cap room .answer ≡ error f) ↔ RefusedDepths mode file cap room f
-depths-refused-exactly mode = depths.depths-refused-exactly mode
+depths-refused-exactly = depths.depths-refused-exactly
 
 pub refused-exactly : (mode : Mode) (s : List ℕ) (cap : ℕ) (done : List ℕ) (pending q : ℕ) (f : Fault)
     → (nextToken mode s cap done pending q ≡ error f) ↔ RefusedToken mode s cap done pending q f
-refused-exactly mode = faults.refused-exactly mode
+refused-exactly = faults.refused-exactly
 
 pub head-refused-exactly : (mode : Mode) (s : List ℕ) (inner : Bool) (q : ℕ) (f : Fault) → (scanAt mode inner s q ≡ error f) ↔ RefusedHead mode s inner q f
-head-refused-exactly mode = heads.head-refused-exactly mode
+head-refused-exactly = heads.head-refused-exactly
 
 pub head-place : {mode : Mode} {s : List ℕ} {inner : Bool} {q : ℕ} {f : Fault} → RefusedHead mode s inner q f → HasPlace mode s inner q f
 head-place = places.head-place
@@ -160,25 +178,25 @@ pub shortage-exactly : {mode : Mode} {s : List ℕ} {inner : Bool} {q h n a : �
 shortage-exactly = shortages.shortage-exactly
 
 pub full-exactly : (mode : Mode) (file : List ℕ) (cap p : ℕ) → Bytes file → (checkOf mode file cap .answer ≡ error (fault FULL p)) ↔ Overfull mode file cap p
-full-exactly mode = full.full-exactly mode
+full-exactly = full.full-exactly
 
 pub fewer-words : (mode : Mode) (file : List ℕ) (cap more : ℕ) → cap ≤ more
     → ((p : ℕ) × (checkOf mode file cap .answer ≡ error (fault FULL p))) ⊎ (checkOf mode file cap .answer ≡ checkOf mode file more .answer)
-fewer-words mode = full.fewer-words mode
+fewer-words = full.fewer-words
 
 pub never-full : (mode : Mode) (file : List ℕ) (cap p : ℕ) → length file ≤ suc cap → checkOf mode file cap .answer ≡ error (fault FULL p) → ⊥
-never-full mode = full.never-full mode
+never-full = full.never-full
 
 pub empty-exactly : (mode : Mode) (file : List ℕ) (cap p : ℕ) → (checkOf mode file cap .answer ≡ error (fault EMPTY p)) ↔ ((length file ≡ 0) × (p ≡ 0))
-empty-exactly mode = refused.empty-exactly mode
+empty-exactly = refused.empty-exactly
 
 pub too-long-exactly : (mode : Mode) (file : List ℕ) (cap p : ℕ) → (checkOf mode file cap .answer ≡ error (fault TOO_LONG p))
     ↔ ((LIMIT < length file) × (p ≡ 0))
-too-long-exactly mode = refused.too-long-exactly mode
+too-long-exactly = refused.too-long-exactly
 
 pub bad-entry-exactly : (mode : Mode) (file : List ℕ) (cap p : ℕ) → Bytes file → (checkOf mode file cap .answer ≡ error (fault BAD_ENTRY p))
     ↔ Unnamed mode file cap p
-bad-entry-exactly mode = refused.bad-entry-exactly mode
+bad-entry-exactly = refused.bad-entry-exactly
 
 -- ---- text
 
@@ -190,11 +208,11 @@ isText-exactly = utf8-laws.isText-exactly
 
 pub accepted-texts : (mode : Mode) (file : List ℕ) (cap count entry : ℕ) → Bytes file → checkOf mode file cap .answer ≡ ok (count, entry)
     → (vs : List Value) × WellFormed mode file vs entry × TextsUtf8 mode file vs
-accepted-texts mode = texts.accepted-texts mode
+accepted-texts = texts.accepted-texts
 
 pub bad-text-exactly : (mode : Mode) (file : List ℕ) (cap p : ℕ) → Bytes file → (checkOf mode file cap .answer ≡ error (fault BAD_TEXT p))
     ↔ ((x : Faulty mode file cap p (fault BAD_TEXT p)) × NotUtf8 mode (take (length file - 1) file) (ltb 0 (x .missing)) p)
-bad-text-exactly mode = texts.bad-text-exactly mode
+bad-text-exactly = texts.bad-text-exactly
 
 pub refused-text-exactly : (b : List ℕ) (s : State) (out table : List ℕ) → (step (text b) s out table .answer ≡ error BAD_TEXT)
     ↔ ((BadState s (length out) (length table) → ⊥) × (s .closed ≡ false) × (Utf8 b → ⊥))
@@ -207,66 +225,66 @@ accepted-text = texts.accepted-text
 
 pub peek-answers-exactly : (mode : Mode) (file : List ℕ) (at : ℕ) (h : Head)
     → (peekOf mode file at ≡ ok h) ↔ AnsweredQuery file at (λ s. (r : Read mode s false at) × (headOf mode s r ≡ h))
-peek-answers-exactly mode = queries.peek-answers-exactly mode
+peek-answers-exactly = queries.peek-answers-exactly
 
 pub peek-refused-exactly : (mode : Mode) (file : List ℕ) (at : ℕ) (f : Fault) → (peekOf mode file at ≡ error f)
     ↔ RefusedQuery file at (λ s. RefusedRead mode s false at) f
-peek-refused-exactly mode = queries.peek-refused-exactly mode
+peek-refused-exactly = queries.peek-refused-exactly
 
 pub read-answers-exactly : (mode : Mode) (file : List ℕ) (at : ℕ) (v : ReadValue)
     → (readOf mode file at ≡ ok v) ↔ AnsweredQuery file at (λ s. (r : Read mode s false at) × (valueOn s at (headOf mode s r) ≡ v))
-read-answers-exactly mode = queries.read-answers-exactly mode
+read-answers-exactly = queries.read-answers-exactly
 
 pub read-refused-exactly : (mode : Mode) (file : List ℕ) (at : ℕ) (f : Fault) → (readOf mode file at ≡ error f)
     ↔ RefusedQuery file at (λ s. RefusedRead mode s false at) f
-read-refused-exactly mode = queries.read-refused-exactly mode
+read-refused-exactly = queries.read-refused-exactly
 
 pub skip-answers-exactly : (mode : Mode) (file : List ℕ) (at e : ℕ) → (skipOf mode file at ≡ ok e) ↔ AnsweredQuery file at (λ s. Skips mode s at e)
-skip-answers-exactly mode = queries.skip-answers-exactly mode
+skip-answers-exactly = queries.skip-answers-exactly
 
 pub skip-refused-exactly : (mode : Mode) (file : List ℕ) (at : ℕ) (f : Fault) → (skipOf mode file at ≡ error f)
     ↔ RefusedQuery file at (λ s. RefusedSkip mode s at) f
-skip-refused-exactly mode = queries.skip-refused-exactly mode
+skip-refused-exactly = queries.skip-refused-exactly
 
 pub item-answers-exactly : (mode : Mode) (file : List ℕ) (at i p : ℕ) → (itemOf mode file at i ≡ ok p) ↔ AnsweredQuery file at (λ s. HasItem mode s at i p)
-item-answers-exactly mode = queries.item-answers-exactly mode
+item-answers-exactly = queries.item-answers-exactly
 
 pub item-refused-exactly : (mode : Mode) (file : List ℕ) (at i : ℕ) (f : Fault) → (itemOf mode file at i ≡ error f)
     ↔ RefusedQuery file at (λ s. RefusedItem mode s at i) f
-item-refused-exactly mode = queries.item-refused-exactly mode
+item-refused-exactly = queries.item-refused-exactly
 
 pub follow-answers-exactly : (mode : Mode) (file : List ℕ) (at p hops : ℕ)
     → (followOf mode file at ≡ ok (p, hops)) ↔ AnsweredQuery file at (λ s. (v : Read mode s false p) × Reaches mode s at hops p v)
-follow-answers-exactly mode = queries.follow-answers-exactly mode
+follow-answers-exactly = queries.follow-answers-exactly
 
 pub follow-refused-exactly : (mode : Mode) (file : List ℕ) (at : ℕ) (f : Fault) → (followOf mode file at ≡ error f)
     ↔ RefusedQuery file at (λ s. RefusedFollow mode s at) f
-follow-refused-exactly mode = queries.follow-refused-exactly mode
+follow-refused-exactly = queries.follow-refused-exactly
 
 pub body-answers-exactly : (mode : Mode) (file : List ℕ) (at first len : ℕ)
     → (bodyPlaceOf mode file at ≡ ok (first, len)) ↔ AnsweredQuery file at (λ s. HasBody mode s at first len)
-body-answers-exactly mode = queries.body-answers-exactly mode
+body-answers-exactly = queries.body-answers-exactly
 
 pub body-refused-exactly : (mode : Mode) (file : List ℕ) (at : ℕ) (f : Fault) → (bodyPlaceOf mode file at ≡ error f)
     ↔ RefusedQuery file at (λ s. RefusedBody mode s at) f
-body-refused-exactly mode = queries.body-refused-exactly mode
+body-refused-exactly = queries.body-refused-exactly
 
 pub lookup-answers-exactly : (mode : Mode) (file : List ℕ) (at : ℕ) (key : List ℕ) (x : ℕ)
     → (lookupOf mode file at key ≡ ok x) ↔ AnsweredQuery file at (λ s. Finds mode s at key x)
-lookup-answers-exactly mode = lookup-queries.lookup-answers-exactly mode
+lookup-answers-exactly = lookup-queries.lookup-answers-exactly
 
 pub lookup-refused-exactly : (mode : Mode) (file : List ℕ) (at : ℕ) (key : List ℕ) (f : Fault)
     → (lookupOf mode file at key ≡ error f) ↔ RefusedQuery file at (λ s. RefusedLookup mode s at key) f
-lookup-refused-exactly mode = lookup-queries.lookup-refused-exactly mode
+lookup-refused-exactly = lookup-queries.lookup-refused-exactly
 
 -- ---- lookup, on every file, by the other queries
 
 pub lookup-found-exactly : (mode : Mode) (file : List ℕ) (at : ℕ) (key : List ℕ) (x : ℕ) → (lookupOf mode file at key ≡ ok x) ↔ Found mode file at key x
-lookup-found-exactly mode = lookups.lookup-found-exactly mode
+lookup-found-exactly = lookups.lookup-found-exactly
 
 pub lookup-none-exactly : (mode : Mode) (file : List ℕ) (at : ℕ) (key : List ℕ) (p : ℕ)
     → (lookupOf mode file at key ≡ error (fault NO_ITEM p)) ↔ ((p ≡ at) × Missing mode file at key)
-lookup-none-exactly mode = lookups.lookup-none-exactly mode
+lookup-none-exactly = lookups.lookup-none-exactly
 
 -- ---- one call of the writer, in any state, with any output and table
 
@@ -348,14 +366,23 @@ pub shortest : (c : ℕ) → Encodable c → {r : Row} → List·Memᴰ r utf8Ro
 shortest = utf8-laws.shortest
 
 pub get-put : (mode : Mode) (k least n : ℕ) (rest : List ℕ) → least ≤ n → n < top k → get mode k least (put k n ++ rest) ≡ got n rest
-get-put mode = leb128.get-put mode
+get-put = leb128.get-put
+
+pub get-spells : (mode : Mode) (n : ℕ) (p rest : List ℕ) → Spells mode n p → get mode 9 0 (p ++ rest) ≡ got n rest
+get-spells = spellings.get-spells
+
+pub spells-get : (mode : Mode) (n : ℕ) (s rest : List ℕ) → Bytes s → get mode 9 0 s ≡ got n rest → spellings.Read mode n s rest
+spells-get = spellings.spells-get
+
+pub spells-shortest : (n : ℕ) (s t : List ℕ) → Spells Strict n s → Spells Tolerant n t → length s ≤ length t
+spells-shortest = spellings.spells-shortest
 
 pub scan-emit : (mode : Mode) (inner : Bool) (at : ℕ) (t : Token) (s : List ℕ) → Fits mode inner t s → scan mode inner at (emit t ++ s) ≡ got t s
-scan-emit mode = token.scan-emit mode
+scan-emit = token.scan-emit
 
 pub emit-scan : (mode : Mode) (inner : Bool) (at : ℕ) (s : List ℕ) (t : Token) (rest : List ℕ) → Bytes s → scan mode inner at s ≡ got t rest
     → Scanned mode inner s t rest
-emit-scan mode = token.emit-scan mode
+emit-scan = token.emit-scan
 
 -- ---- document 01's samples
 

@@ -4,7 +4,7 @@
 -- the shortest form, so it is what would be put (`put-get`); in any form, what is got is below `top`, and the rest is the
 -- end of the bytes (`get-ends`).
 use mathlib.Core.Path.{_≡_, ap}
-use Prim.Native.Nat.{ℕ, zero, suc, _+_, _-_, _*_, _/_, _%_, _≤_, _<_, zero-le}
+use Prim.Native.Nat.{ℕ, zero, suc, _+_, _-_, _*_, _/_, _%_, _≤_, _<_}
 use mathlib.Core.List.{List, [], _∷_, _++_}
 use native.Mathlib.Nat.{one-le-pow}
 use native.Mathlib.Omega.{arith}
@@ -21,7 +21,7 @@ use Rattle.leb128.specs.declared.Mode.the-variants.{Strict, Tolerant}
 
 pub least-one : (mode : Mode) → leastOf mode ≤ 1
 least-one Strict = lit≤ tt
-least-one Tolerant = zero-le
+least-one Tolerant = lit≤ tt
 
 pub get-put : (mode : Mode) (k least n : ℕ) (rest : List ℕ) → least ≤ n → n < top k → get mode k least (put k n ++ rest) ≡ got n rest
 unfolding put get guard then

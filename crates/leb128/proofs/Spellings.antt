@@ -1,7 +1,8 @@
 -- The bytes of a number, in each mode.
 --
--- In order: what is put spells its number, in both modes (`spells-put`); a number in any form, both ways; what spells a
--- number is got (`get-spells`), and what is got is spelled by the bytes that were read (`spells-get`), once over the mode.
+-- In order: what is put spells its number, in both modes (`spells-put`), and in the fewest bytes (`spells-shortest`); a number in
+-- any form, both ways; what spells a number is got (`get-spells`), and what is got is spelled by the bytes that were read
+-- (`spells-get`), once over the mode.
 use mathlib.Core.Path.{_≡_, refl, ap}
 use Prim.Native.Nat.{ℕ, zero, suc, _+_, _*_, _/_, _%_, _^_, _≤_, _<_, zero-le}
 use mathlib.Core.List.{List, [], _∷_, _++_}
@@ -18,11 +19,15 @@ use Rattle.leb128.specs.Leb.{put, value, get, top, leastOf, Groups, Spel
 use Rattle.leb128.specs.declared.Mode.{Mode}
 use Rattle.leb128.specs.declared.Mode.the-variants.{Strict, Tolerant}
 use Rattle.leb128.proofs.Laws.{get-put, put-get}
-use Rattle.leb128.proofs.Sizes.{length-put-le, value-put}
+use Rattle.leb128.proofs.Sizes.{length-put-le, value-put, put-shortest}
 
 groups-cons : (b : ℕ) (s : List ℕ) → 128 ≤ b → Groups s → Groups (b ∷ s)
 groups-cons b [] h g = absurd g
 groups-cons b (c ∷ s) h g = (h, g)
+
+groups-pos : (s : List ℕ) → Groups s → 0 < length s
+groups-pos [] g = absurd g
+groups-pos (b ∷ s) g = omega arith
 
 groups-put : (k n : ℕ) → n < top k → Groups (put k n)
 unfolding put
@@ -32,11 +37,17 @@ groups-put (suc k) n h =
     (λ large. rw le-ltb (groups-cons _ (put k (n / 128)) (omega arith) (groups-put k (n / 128) (omega arith))))
 
 pub spells-put : (mode : Mode) (n : ℕ) → n < 2 ^ 64 → Spells mode n (put 9 n)
-spells-put mode n h = record { groups = groups-put 9 n h; same = value-put 9 n h; below = h; ten = length-put-le 9 n; shortest = λ e. refl }
+spells-put mode n h = record { groups = groups-put 9 n h; same = value-put 9 n h; below = h; ten = omega (arith, length-put-le 9 n); shortest = λ e. refl }
 
 -- the shortest bytes are bytes of the number in either mode
 pub spells-of-strict : (mode : Mode) (n : ℕ) (s : List ℕ) → Spells Strict n s → Spells mode n s
 spells-of-strict mode n s h = record { groups = h .groups; same = h .same; below = h .below; ten = h .ten; shortest = λ e. h .shortest refl }
+
+-- and no bytes of the number are fewer
+pub spells-shortest : (n : ℕ) (s t : List ℕ) → Spells Strict n s → Spells Tolerant n t → length s ≤ length t
+spells-shortest n s t a b =
+    let fewest = put-shortest 9 t (groups-pos t (b .groups)) (omega (arith, b .same, b .below)) in
+    rw (a .shortest refl) (rw (b .same) at fewest)
 
 -- ---- in any form
 
@@ -95,7 +106,7 @@ any-get mode (suc k) least n (b ∷ s) rest e =
 
 pub get-spells : (mode : Mode) (n : ℕ) (p rest : List ℕ) → Spells mode n p → get mode 9 0 (p ++ rest) ≡ got n rest
 get-spells Strict n p rest s = rw (s .shortest refl) (get-put Strict 9 0 n rest zero-le (s .below))
-get-spells Tolerant n p rest s = rw (← s .same) (get-any 9 p rest (s .groups) (s .ten) (omega (arith, s .same, s .below)))
+get-spells Tolerant n p rest s = rw (← s .same) (get-any 9 p rest (s .groups) (omega (arith, s .ten)) (omega (arith, s .same, s .below)))
 
 -- what a number that was got says about the bytes s and the rest
 pub record Read (mode : Mode) (n : ℕ) (s rest : List ℕ) : Type 0 where
@@ -112,5 +123,5 @@ spells-get Tolerant n s rest b e =
     record {
       bytes = g .bytes;
       all = g .all;
-      spells = record { groups = g .groups; same = g .same; below = g .below; ten = g .long; shortest = λ q. absurd (omega (arith, ap leastOf q)) };
+      spells = record { groups = g .groups; same = g .same; below = g .below; ten = omega (arith, g .long); shortest = λ q. absurd (omega (arith, ap leastOf q)) };
     }

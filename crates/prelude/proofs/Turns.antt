@@ -1,8 +1,10 @@
 -- The laws of `from`.
 --
 -- In order: what every turn keeps gives what holds for the answer (`from-all`); if each turn makes the measure less, a
--- turn that goes on leaves the answer as it is (`from-go`), and one that stops gives it (`from-stop`).
+-- turn that goes on leaves the answer as it is (`from-go`), and one that stops gives it (`from-stop`); two loops whose turns
+-- are the same, unless the first stops with an exception (`from-or`).
 use mathlib.Core.Path.{_≡_, refl}
+use mathlib.Core.Logic.{_⊎_, inl, inr}
 use Prim.Native.Nat.{ℕ, zero, suc, _<_}
 use native.Mathlib.Omega.{arith}
 use Rattle.prelude.specs.Loop.{Turn, go, stop, follow, run, from}
@@ -42,3 +44,24 @@ module _ {S R : Type 0} (turn : S → Turn S R) (μ : S → ℕ) (r : R) (falls 
   pub from-stop : (s : S) (a : R) → turn s ≡ stop a → from turn μ r s ≡ a
   unfolding from run
   from-stop s a e = rw e
+
+-- ---- two loops
+
+module _ {S R : Type 0} (P : R → Type 0) where
+  -- the turn stops with an exception
+  abbrev pub Stops : Turn S R → Type 0
+  Stops t = (a : R) × (t ≡ stop a) × P a
+
+  follow-or : (f g : S → R) → ((s : S) → P (f s) ⊎ (f s ≡ g s)) → (t : Turn S R) → P (follow t f) ⊎ (follow t f ≡ follow t g)
+  follow-or f g h (go s) = h s
+  follow-or f g h (stop a) = inr refl
+
+  module _ {t u : S → Turn S R} (turns : (s : S) → Stops (t s) ⊎ (t s ≡ u s)) where
+    run-or : (r : R) (k : ℕ) (s : S) → P (run t r k s) ⊎ (run t r k s ≡ run u r k s)
+    unfolding run
+    run-or r zero s = inr refl
+    run-or r (suc k) s = elim (turns s) [ inl (a, e, q) ↦ inl (rw e q) | inr e ↦ rw e (follow-or _ _ (run-or r k) (u s)) ]
+
+    pub from-or : (μ : S → ℕ) (r : R) (s : S) → P (from t μ r s) ⊎ (from t μ r s ≡ from u μ r s)
+    unfolding from
+    from-or μ r s = run-or r (suc (μ s)) s

@@ -54,7 +54,7 @@ number : (w : tie.After-known-told) → let a = start (head w) .args in AfterNum
 number w =
     let c = head w in
     let m = w .before .before .before in
-    scan-number _ _ _ _ (ruled c .before .before .if1 .left) (ruled c .rule-of .ensures) (used c) (c .before .before .is-immediate .ensures)
+    scan-number (start c .args .mode) _ _ _ (ruled c .before .before .if1 .left) (ruled c .rule-of .ensures) (used c) (c .before .before .is-immediate .ensures)
     (rw (flat c)) (m .number .result) _ (rw part-from at (m .number .ensures)) (w .before .value .given .1)
 
 left-lt : (w : tie.After-known-told) → left w < 2 ^ 63

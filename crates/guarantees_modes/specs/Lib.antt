@@ -1,0 +1,2 @@
+-- what the two modes have in common
+pub mod Modes
