@@ -77,7 +77,7 @@ fn kept_words(answer: CheckResult) -> usize
     }
 }
 
-// Checks a file. The table gets the offsets where its values start, in rising order, and 0 in every other word; on an
+// Checks a file in a mode. The table gets the offsets where its values start, in rising order, and 0 in every other word; on an
 // error, 0 in every word. The first start is itself 0, so only the count says how many words are starts. A table
 // with as many words as the file has bytes is never too short. Apart from the table, check takes some 17 KB of stack.
 pub fn check(file: &[u8], starts: &mut [u32], mode: Mode) -> CheckResult

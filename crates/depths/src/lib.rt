@@ -44,7 +44,7 @@ fn depths_to(region: &[u8], starts: &[u32], depths: &mut [u32], mode: Mode)
     depths_to_by(region, starts, &mut blocks, depths, mode);
 }
 
-// Checks a file, and returns how deep its values are: the depth of a value is the number of values on the longest path
+// Checks a file in a mode, and returns how deep its values are: the depth of a value is the number of values on the longest path
 // from it, where a path goes from a value to any value that it, or an item of it, points at or refers to. The tables
 // get the starts and the depths, one word a value, and 0 in every other word; on an error, 0 in every word. Check's
 // errors come first; then FULL, if the second table has fewer words than the file has values, at the start of the first

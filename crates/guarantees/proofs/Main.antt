@@ -68,6 +68,7 @@ use Rattle.guarantees.specs.Accepts.{Overfull}
 use Rattle.guarantees.specs.Refused.{Unnamed, Faulty, RefusedCheck, RefusedDepths}
 use Rattle.guarantees.specs.Texts.{NotUtf8, TextsUtf8}
 use Rattle.guarantees.specs.Lookup.{Found, Missing}
+use Rattle.guarantees.specs.Errors.{NeverOverlong}
 use Rattle.guarantees.specs.Samples.{Answered, samples, endSamples, textSamples, paddedSamples, overlongSamples, rangeSamples}
 use Rattle.guarantees.specs.Samples.{TextCall, textAnswer, textCalls}
 use Rattle.guarantees_writer.specs.Model.{requestOf, formsOf, deltaOf, Model, emptyModel}
@@ -136,6 +137,9 @@ one-reading = unique.one-reading
 
 pub well-formed-of-strict : (mode : Mode) {file : List ℕ} {vs : List Value} {entry : ℕ} → WellFormed Strict file vs entry → WellFormed mode file vs entry
 well-formed-of-strict = modes.well-formed-of-strict
+
+pub never-overlong : NeverOverlong
+never-overlong = errors.never-overlong
 
 pub modes-agree : ModesAgree
 modes-agree = both.modes-agree

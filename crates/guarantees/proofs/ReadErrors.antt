@@ -2,9 +2,9 @@
 --
 -- In order: what holds of an answer's error, by the parts of the answer; a token that a query looks at, following, items, pairs, in any region; the
 -- queries on a file (`peek-errors`, `read-errors`, `follow-errors`, `body-errors`, `skip-errors`, `item-errors`, `lookup-errors`); check and depths
--- (`check-errors`, `depths-errors-known`).
+-- (`check-errors`, `depths-errors-known`); no OVERLONG in the tolerant mode (`never-overlong`).
 use mathlib.Core.Path.{_≡_, refl, sym, subst}
-use mathlib.Core.Bool.{Bool, true, false, _||_, or-comm}
+use mathlib.Core.Bool.{Bool, true, false, _||_, or-comm, false≢true}
 use mathlib.Core.List.{List, [], _∷_}
 use Prim.Native.Nat.{ℕ, zero, suc, _+_, _-_, _<_}
 use native.Mathlib.Decide.{ℕ-discrete}
@@ -18,7 +18,7 @@ use Rattle.prelude.specs.Search.{among}
 use Rattle.prelude.specs.Each.{Each}
 use Rattle.prelude.proofs.Tests.{pick-elim}
 use Rattle.prelude.proofs.Tables.{every}
-use Rattle.error.specs.Error.{Fault, LIMIT, EMPTY, TOO_LONG, NESTED, BAD_TARGET, OUTSIDE, NO_ITEM, WRONG_KIND}
+use Rattle.error.specs.Error.{Fault, fault, LIMIT, OVERLONG, EMPTY, TOO_LONG, NESTED, BAD_TARGET, OUTSIDE, NO_ITEM, WRONG_KIND}
 use Rattle.leb128.specs.declared.Mode.{Mode}
 use Rattle.leb128.specs.declared.Mode.the-variants.{Strict, Tolerant}
 use Rattle.kind.specs.Kind.{rule, immediate}
@@ -35,7 +35,7 @@ use Rattle.reader_body.specs.Body.{bodyPlaceIn, bodyPlaceOf}
 use Rattle.reader_lookup.specs.Lookup.{isKey, pairs, lookupIn, lookupOf}
 use Rattle.checker.specs.Check.{checkIn, checkOf}
 use Rattle.depths.specs.Depths.{Deepened, deepen, depthsOf}
-use Rattle.guarantees.specs.Errors.{checkErrors, readErrors, skipErrors, itemErrors, bodyErrors}
+use Rattle.guarantees.specs.Errors.{checkErrors, readErrors, skipErrors, itemErrors, bodyErrors, NeverOverlong}
 use Rattle.guarantees_faults.proofs.Heads.{head-refused-exactly}
 use Rattle.guarantees_faults.proofs.Places.{tokenErrors, walkErrors, head-known}
 use Rattle.guarantees.proofs.Files.{empty, long, Failed, early, walking, last}
@@ -261,3 +261,19 @@ depths-errors-known mode file cap room f e = by-cases (checkIn mode file cap) re
     by-cases (ok r) q e =
         subst (Errs (checkErrors mode)) e (pick-elim (λ (d : Deepened). Errs (checkErrors mode) (d .answer)) (ltb room (length (r .0))) (λ t. refl) (λ t. tt))
     by-cases (error g) q e = check-errors mode file cap f (rw q e)
+
+-- ---- the tolerant mode
+
+pub never-overlong : NeverOverlong
+unfolding among
+never-overlong = record {
+  check = λ file cap p e. false≢true (check-errors Tolerant file cap (fault OVERLONG p) e);
+  depths = λ file cap room p e. false≢true (depths-errors-known Tolerant file cap room (fault OVERLONG p) e);
+  peek = λ file at p e. false≢true (peek-errors Tolerant file at (fault OVERLONG p) e);
+  read = λ file at p e. false≢true (read-errors Tolerant file at (fault OVERLONG p) e);
+  skip = λ file at p e. false≢true (skip-errors Tolerant file at (fault OVERLONG p) e);
+  item = λ file at i p e. false≢true (item-errors Tolerant file at (fault OVERLONG p) i e);
+  follow = λ file at p e. false≢true (follow-errors Tolerant file at (fault OVERLONG p) e);
+  lookup = λ file at key p e. false≢true (lookup-errors Tolerant file at (fault OVERLONG p) key e);
+  body = λ file at p e. false≢true (body-errors Tolerant file at (fault OVERLONG p) e);
+}

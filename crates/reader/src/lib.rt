@@ -1,4 +1,5 @@
-// The queries at an offset, on unchecked files (document 01, "Questions at an offset"), each proved in its own crate.
+// The queries at an offset, on unchecked files (document 01, "Questions at an offset"), each in a mode, and each proved in its
+// own crate.
 pub use leb128::Mode;
 pub use reader_body::BodyResult;
 pub use reader_body::body;
