@@ -76,7 +76,7 @@ unfolding put
 put-last zero n h = refl
 put-last (suc k) n h = rw lt-ltb
 
-put-suc : (k n : ℕ) → 128 ≤ n → put (suc k) n ≡ (n % 128 + 128) ∷ put k (n / 128)
+pub put-suc : (k n : ℕ) → 128 ≤ n → put (suc k) n ≡ (n % 128 + 128) ∷ put k (n / 128)
 unfolding put
 put-suc k n h = rw le-ltb
 

@@ -15,13 +15,13 @@ use Rattle.prelude.specs.Answer.{got, guard, then}
 use Rattle.prelude.specs.Bytes.{Bytes}
 use Rattle.prelude.proofs.Tests.{split, facts}
 use Rattle.prelude.proofs.Readers.{guard-by, then-by, bad-got}
-use Rattle.leb128.specs.Leb.{put, value, get, top, leastOf, Groups, Spells}
+use Rattle.leb128.specs.Leb.{put, value, get, top, leastOf, Groups, Spells, Begins}
 use Rattle.leb128.specs.declared.Mode.{Mode}
 use Rattle.leb128.specs.declared.Mode.the-variants.{Strict, Tolerant}
 use Rattle.leb128.proofs.Laws.{get-put, put-get}
 use Rattle.leb128.proofs.Sizes.{length-put-le, value-put, put-shortest}
 
-groups-cons : (b : ℕ) (s : List ℕ) → 128 ≤ b → Groups s → Groups (b ∷ s)
+pub groups-cons : (b : ℕ) (s : List ℕ) → 128 ≤ b → Groups s → Groups (b ∷ s)
 groups-cons b [] h g = absurd g
 groups-cons b (c ∷ s) h g = (h, g)
 
@@ -29,7 +29,7 @@ groups-pos : (s : List ℕ) → Groups s → 0 < length s
 groups-pos [] g = absurd g
 groups-pos (b ∷ s) g = omega arith
 
-groups-put : (k n : ℕ) → n < top k → Groups (put k n)
+pub groups-put : (k n : ℕ) → n < top k → Groups (put k n)
 unfolding put
 groups-put zero n h = omega arith
 groups-put (suc k) n h =
@@ -108,13 +108,7 @@ pub get-spells : (mode : Mode) (n : ℕ) (p rest : List ℕ) → Spells mode n p
 get-spells Strict n p rest s = rw (s .shortest refl) (get-put Strict 9 0 n rest zero-le (s .below))
 get-spells Tolerant n p rest s = rw (← s .same) (get-any 9 p rest (s .groups) (omega (arith, s .ten)) (omega (arith, s .same, s .below)))
 
--- what a number that was got says about the bytes s and the rest
-pub record Read (mode : Mode) (n : ℕ) (s rest : List ℕ) : Type 0 where
-  pub bytes : List ℕ
-  pub all : s ≡ bytes ++ rest
-  pub spells : Spells mode n bytes
-
-pub spells-get : (mode : Mode) (n : ℕ) (s rest : List ℕ) → Bytes s → get mode 9 0 s ≡ got n rest → Read mode n s rest
+pub spells-get : (mode : Mode) (n : ℕ) (s rest : List ℕ) → Bytes s → get mode 9 0 s ≡ got n rest → Begins mode n s rest
 spells-get Strict n s rest b e =
     let g = put-get 9 0 n s rest zero-le b e in
     record { bytes = put 9 n; all = g .same; spells = spells-put Strict n (g .below) }
@@ -123,5 +117,11 @@ spells-get Tolerant n s rest b e =
     record {
       bytes = g .bytes;
       all = g .all;
-      spells = record { groups = g .groups; same = g .same; below = g .below; ten = omega (arith, g .long); shortest = λ q. absurd (omega (arith, ap leastOf q)) };
+      spells = record {
+        groups = g .groups;
+        same = g .same;
+        below = g .below;
+        ten = omega (arith, g .long);
+        shortest = λ q. absurd (omega (arith, ap leastOf q));
+      };
     }

@@ -1,10 +1,15 @@
 -- LEB128 numbers (document 01, "Row of a file"): seven bits a byte, the lowest first, the high bit set on all but the last byte.
 --
---   top k             `put k` and `get k` reach every number below it
+--   top k             `put k` and `get mode k` reach every number below it
 --   put k n           the shortest bytes of n, with at most k after the first; k is 9 for n below 2 ^ 64
 --   value s           the number that the bytes s of a number hold, shortest or not
 --   Groups s          s are the bytes of one number: the high bit is set on all but the last
---   Spells mode n s   s are bytes of the number n, which has at most 64 bits: at most ten, and in the strict mode the shortest
+--   Spells mode n s   s are bytes of the number n, which has at most 64 bits: at most ten bytes, and in the strict mode the
+--                     shortest; the mode is the paper's manner (document 02, W-203)
+--   Begins mode n s rest
+--                     the bytes s begin with bytes of the number n, and then comes `rest`
+--   continued s       the bytes s of a number with the high bit set on the last too: more bytes follow
+--   pad k s           the bytes s of a number, padded by k bytes: 80s, and 00 at the end; s as it is if k is 0
 --   leastOf mode      the least that a last byte may be if it is not the first: 1 in the strict mode, 0 in the tolerant one
 --   lastOf least b s  the answer at a last byte b, with the bytes s after it
 --   get mode k least s
@@ -15,9 +20,9 @@
 --                     number
 use Prim.Native.Nat.{ℕ, zero, suc, _+_, _*_, _/_, _%_, _^_, _≤_, _<_}
 use mathlib.Core.Path.{_≡_}
-use mathlib.Core.List.{List, [], _∷_}
+use mathlib.Core.List.{List, [], _∷_, _++_}
 use lib.Dec.{ltb, leb}
-use lib.ListN.{length}
+use lib.ListN.{length, replicate}
 use Rattle.prelude.specs.Pick.{pick}
 use Rattle.prelude.specs.Answer.{Res, got, bad, guard, then}
 use Rattle.error.specs.Error.{TRUNC, OVERLONG, RANGE}
@@ -46,6 +51,22 @@ pub record Spells (mode : Mode) (n : ℕ) (s : List ℕ) : Type 0 where
   pub below : n < 2 ^ 64
   pub ten : length s ≤ 10
   pub shortest : mode ≡ Strict → s ≡ put 9 n
+
+pub record Begins (mode : Mode) (n : ℕ) (s rest : List ℕ) : Type 0 where
+  pub bytes : List ℕ
+  pub all : s ≡ bytes ++ rest
+  pub spells : Spells mode n bytes
+
+-- ---- padding
+
+unfoldable pub continued : List ℕ → List ℕ
+continued [] = []
+continued (b ∷ []) = (b + 128) ∷ []
+continued (b ∷ (c ∷ s)) = b ∷ continued (c ∷ s)
+
+unfoldable pub pad : ℕ → List ℕ → List ℕ
+pad zero s = s
+pad (suc k) s = continued s ++ (replicate k 0x80 ++ (0x00 ∷ []))
 
 -- ---- reading
 
