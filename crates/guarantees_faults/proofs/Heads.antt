@@ -19,7 +19,7 @@ use Rattle.leb128.specs.declared.Mode.{Mode}
 use Rattle.kind.specs.Kind as kinds
 use Rattle.kind.specs.Kind.{rule, size, counted, immediate}
 use Rattle.token.specs.Token.{Token}
-use Rattle.token.specs.Scan.{Number, number, made, body, scanKind, scan}
+use Rattle.token.specs.Scan.{Spelling, number, made, body, scanKind, scan}
 use Rattle.scan.specs.Answers.{headOf, scanAt, bodyOn}
 use Rattle.scan.specs.declared.Head.{Head}
 use Rattle.guarantees_faults.specs.Faults as faults
@@ -36,14 +36,14 @@ module _ (mode : Mode) (s : List ℕ) (inner : Bool) (q : ℕ) where
       need (leb (h % 16 + v .value) (rule (h / 16) .most)) (fault RANGE q)
       >> (number mode q (rule (h / 16) .args) >>= body q (length s) (h / 16) (rule (h / 16)) (h % 16 + v .value) v))
 
-  abbrev fromCount : ℕ → ℕ → Number → List ℕ → Res Fault Token
+  abbrev fromCount : ℕ → ℕ → Spelling → List ℕ → Res Fault Token
   fromCount h n v = number mode q (rule (h / 16) .args) >>= body q (length s) (h / 16) (rule (h / 16)) n v
 
   abbrev scanned : Res Fault Token
   scanned = scan mode inner q (drop q s)
 
   -- the number after the header, with its bytes
-  abbrev firstOf : {h n a : ℕ} {m : List ℕ} → Counted mode s inner q h n a m → Number
+  abbrev firstOf : {h n a : ℕ} {m : List ℕ} → Counted mode s inner q h n a m → Spelling
   firstOf c = read (c .numbered .more) (c .numbered .after) (c .after)
 
   -- ---- scan goes on

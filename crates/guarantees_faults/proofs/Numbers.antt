@@ -18,8 +18,7 @@ use Rattle.leb128.specs.Leb.{get, value, leastOf, lastOf}
 use Rattle.leb128.specs.declared.Mode.{Mode}
 use Rattle.leb128.specs.declared.Mode.the-variants.{Strict, Tolerant}
 use Rattle.leb128.proofs.Laws.{least-one}
-use Rattle.token.specs.Scan as tokens
-use Rattle.token.specs.Scan.{getIf, num, number}
+use Rattle.token.specs.Scan.{getIf, Spelling, spelling, number}
 use Rattle.guarantees_faults.specs.Faults as faults
 use Rattle.guarantees_faults.specs.Faults.{GoesOn, Number, BadNumber, NumberIf, none, some}
 use Rattle.guarantees_faults.proofs.Readers.{guard-elim, then-elim}
@@ -156,8 +155,8 @@ number-none none f = refl
 number-none (some x) f = absurd (true≢false f)
 
 -- n with the bytes in front of `rest`, which were read
-abbrev pub read : ℕ → List ℕ → List ℕ → tokens.Number
-read n s rest = num n (take (length s - length rest) s)
+abbrev pub read : ℕ → List ℕ → List ℕ → Spelling
+read n s rest = spelling n (take (length s - length rest) s)
 
 module _ {mode : Mode} (at : ℕ) where
   pub number-is : {w : Bool} {s : List ℕ} {n : ℕ} {rest : List ℕ} → NumberIf mode w s n rest → number mode at w s ≡ got (read n s rest) rest
@@ -170,7 +169,7 @@ module _ {mode : Mode} (at : ℕ) where
   number-fails t x = rw (t, get-bad x)
 
 -- what it answers, for a property of what is made of it
-pub number-elim : (mode : Mode) (at : ℕ) {A : Type 0} (P : Res Fault A → Type 0) (w : Bool) (f : tokens.Number → List ℕ → Res Fault A) (s : List ℕ)
+pub number-elim : (mode : Mode) (at : ℕ) {A : Type 0} (P : Res Fault A → Type 0) (w : Bool) (f : Spelling → List ℕ → Res Fault A) (s : List ℕ)
     → ((e : ℕ) → w ≡ true → BadNumber mode s e → P (bad (fault e at)))
     → ((n : ℕ) (rest : List ℕ) → NumberIf mode w s n rest → P (f (read n s rest) rest)) → P ((number mode at w >>= f) s)
 unfolding number getIf orError _>>=_ then

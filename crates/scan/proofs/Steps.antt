@@ -29,8 +29,7 @@ use Rattle.kind.specs.Internal.{Row}
 use Rattle.kind.specs.declared.Rule.{Rule}
 use Rattle.kind.proofs.Laws.{None, rule-row}
 use Rattle.token.specs.Token.{Token}
-use Rattle.token.specs.Scan.{getIf, num, number, shortage, body, scanKind, scan}
-use Rattle.token.specs.Scan as tokens
+use Rattle.token.specs.Scan.{getIf, Spelling, spelling, number, shortage, body, scanKind, scan}
 use Rattle.scan.specs.Answers.{headOf, scanAt}
 use Rattle.scan_number.specs.Internal.{inRange, numbered}
 use Rattle.scan.specs.Internal.{fitted, andThen, ranged}
@@ -49,21 +48,21 @@ seen-guard len true e r = refl
 seen-guard len false e r = refl
 
 module _ (mode : Mode) (s : List ℕ) (at : ℕ) where
-  seen-number : (w : Bool) (j : ℕ) (k : tokens.Number → List ℕ → Res Fault Token) (f : ℕ → ℕ → Answer Fault Head) → j ≤ length s
-      → ((v : tokens.Number) (rest : List ℕ) → End s rest → headOf (length s) (k v rest) ≡ f (v .value) (length rest))
+  seen-number : (w : Bool) (j : ℕ) (k : Spelling → List ℕ → Res Fault Token) (f : ℕ → ℕ → Answer Fault Head) → j ≤ length s
+      → ((v : Spelling) (rest : List ℕ) → End s rest → headOf (length s) (k v rest) ≡ f (v .value) (length rest))
       → headOf (length s) (then (number mode at w (drop j s)) k) ≡ andThen at f (measured (getIf mode w (drop j s)))
   unfolding number headOf then orError measured
   seen-number w j k f h same = go (getIf mode w (drop j s)) refl
     where
       -- a number with the bytes that were read
-      read : ℕ → List ℕ → Res Fault tokens.Number
-      read v rest = got (num v (take (length (drop j s) - length rest) (drop j s))) rest
+      read : ℕ → List ℕ → Res Fault Spelling
+      read v rest = got (spelling v (take (length (drop j s) - length rest) (drop j s))) rest
 
       go : (r : Res ℕ ℕ) → getIf mode w (drop j s) ≡ r → headOf (length s) (then (then (orError (λ e. fault e at) r) read) k) ≡ andThen at f (measured r)
-      go (got v rest) e = same (num v _) rest (end-drop j s rest h (getIf-end mode w (drop j s) v rest e))
+      go (got v rest) e = same (spelling v _) rest (end-drop j s rest h (getIf-end mode w (drop j s) v rest e))
       go (bad e) q = refl
 
-  seen-body : (k n : ℕ) (v a : tokens.Number) (m : List ℕ) → length m ≤ length s
+  seen-body : (k n : ℕ) (v a : Spelling) (m : List ℕ) → length m ≤ length s
       → headOf (length s) (body at (length s) k (rule k) n v a m) ≡ fitted (length s) at k (rule k) n (a .value) (length m)
   unfolding body headOf
   seen-body k n v a m h =
@@ -77,7 +76,7 @@ module _ (mode : Mode) (s : List ℕ) (at : ℕ) where
       λ i. ok (record { kind = k; n = n; items = pending (rule k) n (a .value); first = first i; end = end i }))
       (λ t. refl))
 
-  seen-ranged : (k low : ℕ) (v : tokens.Number) (m : List ℕ) → End s m
+  seen-ranged : (k low : ℕ) (v : Spelling) (m : List ℕ) → End s m
       → headOf (length s) ((need (leb (low + v .value) (rule k .most)) (fault RANGE at)
       >> (number mode at (rule k .args) >>= body at (length s) k (rule k) (low + v .value) v)) m)
       ≡ pick (leb (low + v .value) (rule k .most)) (ranged mode s at k (rule k) (low + v .value) (length m)) (error (fault RANGE at))

@@ -19,7 +19,7 @@ use Rattle.leb128.proofs.Laws.{get-ends}
 use Rattle.kind.specs.Kind.{rule, size, pending}
 use Rattle.kind.proofs.Laws.{rule-row, immediate-none}
 use Rattle.token.specs.Token.{Token}
-use Rattle.token.specs.Scan.{getIf, Number, num, number, scanKind, scan}
+use Rattle.token.specs.Scan.{getIf, Spelling, spelling, number, scanKind, scan}
 use Rattle.token.proofs.Laws.{body-by}
 
 -- ---- the rest after a number
@@ -42,18 +42,18 @@ getIf-end mode false s v rest e =
     let none : length s - length s ≡ 0 = omega arith in
     rw same (record { short = omega arith; end = rw none })
 
-number-short : (mode : Mode) (at : ℕ) (w : Bool) (s : List ℕ) (v : Number) (rest : List ℕ) → number mode at w s ≡ got v rest → length rest ≤ length s
+number-short : (mode : Mode) (at : ℕ) (w : Bool) (s : List ℕ) (v : Spelling) (rest : List ℕ) → number mode at w s ≡ got v rest → length rest ≤ length s
 unfolding number
 number-short mode at w s v rest e =
     then-by _ _ e (λ n mid e₁ e₂. orError-by _ _ e₁ (λ e₃. let same : mid ≡ rest = cc in rw (← same) (getIf-end mode w s n mid e₃ .short)))
 
 -- a number that is not there is 0
-number-none : (mode : Mode) (at : ℕ) (w : Bool) (s : List ℕ) (v : Number) (rest : List ℕ) → w ≡ false → number mode at w s ≡ got v rest → v .value ≡ 0
+number-none : (mode : Mode) (at : ℕ) (w : Bool) (s : List ℕ) (v : Spelling) (rest : List ℕ) → w ≡ false → number mode at w s ≡ got v rest → v .value ≡ 0
 unfolding number getIf
 number-none mode at true s v rest f e = absurd (true≢false f)
 number-none mode at false s v rest f e =
     then-by _ _ e (λ n mid e₁ e₂.
-    orError-by _ _ e₁ (λ e₃. let is : v ≡ num n (take (length s - length mid) s) = cc in let zero : n ≡ 0 = cc in rw (is, zero)))
+    orError-by _ _ e₁ (λ e₃. let is : v ≡ spelling n (take (length s - length mid) s) = cc in let zero : n ≡ 0 = cc in rw (is, zero)))
 
 -- ---- what `scan` leaves
 

@@ -25,7 +25,7 @@ use Rattle.kind.specs.Kind.{rule, size, counted}
 use Rattle.kind.specs.declared.Rule.{Rule}
 use Rattle.kind.proofs.Laws.{most-fits}
 use Rattle.token.specs.Token.{Token, token, putIf, emit, Allowed, SpellsIf, Spelled, Fits}
-use Rattle.token.specs.Scan.{getIf, Number, num, number, made, body, scanKind, scan}
+use Rattle.token.specs.Scan.{getIf, Spelling, spelling, number, made, body, scanKind, scan}
 
 -- ---- a number that may be there
 
@@ -34,19 +34,19 @@ front-read : (p s : List ℕ) → take (length (p ++ s) - length s) (p ++ s) ≡
 front-read p s = let own : length p ≡ length (p ++ s) - length s = omega (arith, length-append p s) in take-at p s _ own
 
 number-spelled : (mode : Mode) (at : ℕ) (w : Bool) (n : ℕ) (p s : List ℕ) → (w ≡ false → n ≡ 0) → SpellsIf mode w n p
-    → number mode at w (p ++ s) ≡ got (num n p) s
+    → number mode at w (p ++ s) ≡ got (spelling n p) s
 unfolding number getIf orError then
 number-spelled mode at true n p s z h = rw (get-spells mode n p s h, front-read p s)
 number-spelled mode at false n p s z h = rw (h, z refl, sub-self)
 
 -- what a number that was read says
-record Numbered (mode : Mode) (w : Bool) (v : Number) (s rest : List ℕ) : Type 0 where
+record Numbered (mode : Mode) (w : Bool) (v : Spelling) (s rest : List ℕ) : Type 0 where
   same : s ≡ v .bytes ++ rest
   spells : SpellsIf mode w (v .value) (v .bytes)
   none : w ≡ false → v .value ≡ 0
   below : v .value < 2 ^ 64
 
-number-inv : (mode : Mode) (at : ℕ) (w : Bool) (v : Number) (s rest : List ℕ) → Bytes s → number mode at w s ≡ got v rest → Numbered mode w v s rest
+number-inv : (mode : Mode) (at : ℕ) (w : Bool) (v : Spelling) (s rest : List ℕ) → Bytes s → number mode at w s ≡ got v rest → Numbered mode w v s rest
 unfolding number getIf
 number-inv mode at true v s rest b e =
     then-by _ _ e (λ n mid e₁ e₂.
@@ -54,13 +54,13 @@ number-inv mode at true v s rest b e =
     let g = spells-get mode n s mid b e₃ in
     let own : take (length s - length mid) s ≡ g .bytes = ap (λ x. take (length x - length mid) x) (g .all) ∙ front-read (g .bytes) mid in
     let last : mid ≡ rest = cc in
-    let is : v ≡ num n (take (length s - length mid) s) = cc in
+    let is : v ≡ spelling n (take (length s - length mid) s) = cc in
     rw (is, own, ← last) (record { same = g .all; spells = g .spells; none = λ f. absurd (true≢false f); below = g .spells .below })))
 number-inv mode at false v s rest b e =
     then-by _ _ e (λ n mid e₁ e₂.
     orError-by _ _ e₁ (λ e₃.
     let last : s ≡ rest = cc in
-    let is : v ≡ num 0 (take (length s - length s) s) = cc in
+    let is : v ≡ spelling 0 (take (length s - length s) s) = cc in
     rw (is, sub-self, ← last) (record { same = refl; spells = refl; none = λ f. refl; below = omega arith })))
 
 -- ---- a token in shortest form
@@ -104,14 +104,14 @@ strict-token t h = λ i. record {
 
 -- ---- the body
 
-body-append : (at end k : ℕ) (r : Rule) (n : ℕ) (v a : Number) (b s : List ℕ) → length b ≡ size r n → counted r n (a .value) ≤ length s
+body-append : (at end k : ℕ) (r : Rule) (n : ℕ) (v a : Spelling) (b s : List ℕ) → length b ≡ size r n → counted r n (a .value) ≤ length s
     → body at end k r n v a (b ++ s) ≡ got (made k n v a b) s
 unfolding body guard
 body-append at end k r n v a b s e h =
     let room : size r n + counted r n (a .value) ≤ length (b ++ s) = rw length-append (omega arith) in
     rw (le-leb, take-at b s (size r n) e, drop-at b s (size r n) e)
 
-pub body-by : {X : Type 0} (at end k : ℕ) (r : Rule) (n : ℕ) (v a : Number) (s : List ℕ) (t : Token) (rest : List ℕ)
+pub body-by : {X : Type 0} (at end k : ℕ) (r : Rule) (n : ℕ) (v a : Spelling) (s : List ℕ) (t : Token) (rest : List ℕ)
     → body at end k r n v a s ≡ got t rest
     → ((b : List ℕ) → t ≡ made k n v a b → s ≡ b ++ rest → length b ≡ size r n → counted r n (a .value) ≤ length rest → X) → X
 unfolding body

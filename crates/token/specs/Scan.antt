@@ -2,7 +2,8 @@
 -- numbers are read (W-203).
 --
 --   getIf mode w s       a number at the front of s if w is true, else 0 of no bytes
---   Number, num n b      a number n and the bytes b in which it is
+--   Spelling, spelling n b
+--                        a number n and the bytes b in which it is
 --   number mode at w     the same as `getIf`, with the number's bytes, and its fault placed at the header's offset
 --   shortage at first r  the fault of a token of rule r whose body, or the items that it counts, exceed the bytes left: TRUNC if its body has fixed bytes,
 --                        a float's, placed at the header's offset `at`; else LONG_BODY of a body and LONG_LIST of items, placed at `first`, just after
@@ -32,23 +33,23 @@ use Rattle.token.specs.Token.{Token}
 unfoldable pub getIf : Mode → Bool → List ℕ → Res ℕ ℕ
 getIf mode w s = pick w (get mode 9 0 s) (got 0 s)
 
-pub record Number : Type 0 where
+pub record Spelling : Type 0 where
   pub value : ℕ
   pub bytes : List ℕ
 
-abbrev pub num : ℕ → List ℕ → Number
-num n b = record { value = n; bytes = b }
+abbrev pub spelling : ℕ → List ℕ → Spelling
+spelling n b = record { value = n; bytes = b }
 
-unfoldable pub number : Mode → ℕ → Bool → List ℕ → Res Fault Number
-number mode at w s = then (orError (λ f. fault f at) (getIf mode w s)) (λ v rest. got (num v (take (length s - length rest) s)) rest)
+unfoldable pub number : Mode → ℕ → Bool → List ℕ → Res Fault Spelling
+number mode at w s = then (orError (λ f. fault f at) (getIf mode w s)) (λ v rest. got (spelling v (take (length s - length rest) s)) rest)
 
 abbrev pub shortage : ℕ → ℕ → Rule → Fault
 shortage at first r = pick (ltb 0 (r .fixed)) (fault TRUNC at) (pick (ltb 0 (r .scale)) (fault LONG_BODY first) (fault LONG_LIST first))
 
-abbrev pub made : ℕ → ℕ → Number → Number → List ℕ → Token
+abbrev pub made : ℕ → ℕ → Spelling → Spelling → List ℕ → Token
 made k n v a b = record { kind = k; n = n; args = a .value; body = b; nBytes = v .bytes; argsBytes = a .bytes }
 
-unfoldable pub body : ℕ → ℕ → ℕ → Rule → ℕ → Number → Number → List ℕ → Res Fault Token
+unfoldable pub body : ℕ → ℕ → ℕ → Rule → ℕ → Spelling → Spelling → List ℕ → Res Fault Token
 body at end k r n v a s =
     guard (leb (size r n + counted r n (a .value)) (length s)) (shortage at (end - length s) r)
     (got (made k n v a (take (size r n) s)) (drop (size r n) s))

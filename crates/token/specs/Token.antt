@@ -1,17 +1,16 @@
 -- A token: a header with its numbers and its body, without items. A value is a token and as many item tokens as it has pending.
 --
---   Token                 kind, n, args (the argument count of a variant of many, else 0) and the body's bytes; and the bytes in which the number after
---                         the header and the argument count are, none for a number that is not there
+--   Token                 kind, n, args (the argument count of a variant of many, else 0) and the body's bytes; and nBytes and argsBytes, the bytes of
+--                         the number after the header and of the argument count, none for a number that is not there
 --   putIf w n             the shortest bytes of the number n if w is true, else none
 --   token k n a b         the token with its numbers in their shortest form
---   emit t                the bytes of t: header, the number after it if n is 15 or more, the argument count if the
---                         kind has one, body
+--   emit t                the bytes of t: its header, the bytes of its two numbers, its body
 --   emitInto t d          the bytes of t stored at the front of d if they fit, and how many; nothing for a kind over 15
 --   Allowed t             t's kind allows it: the low nibble is in use, n is within its bound, there is an argument
 --                         count only if the kind has one, and it fits in 64 bits, and the body is as long as n says
 --   SpellsIf mode w n s   s are bytes of the number n if w is true, else none
---   Spelled mode t        the bytes of t's two numbers are, in the strict mode in their shortest form; a number follows the header if n is 15 or more, and
---                         is 15 less
+--   Spelled mode t        nBytes and argsBytes are bytes of t's two numbers, in the strict mode their shortest. A number follows the header if n is 15 or
+--                         more, and is 15 less; an argument count follows if the kind has one
 --   Fits mode inner t s   t may come before the bytes s: it is allowed, its numbers are spelled as the mode has it, it is an immediate if `inner` is
 --                         true, and s has a byte for each of its counted items
 use Prim.Native.Nat.{ℕ, _+_, _-_, _*_, _^_, _≤_, _<_, min}
