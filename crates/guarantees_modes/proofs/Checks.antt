@@ -11,7 +11,7 @@ use Rattle.error.specs.Error.{LIMIT}
 use Rattle.leb128.specs.declared.Mode.the-variants.{Strict, Tolerant}
 use Rattle.checker_value.specs.Walk.{Walk, nextToken, walkTurned, walkTurn, startsFrom}
 use Rattle.checker.specs.Check.{checkIn, Checked, listed, checkOf}
-use Rattle.guarantees_modes.specs.Modes.{IsOverlong, Agree}
+use Rattle.guarantees_modes.specs.Modes.{IsOverlong, ModesSame}
 use Rattle.guarantees_modes.proofs.Either.{Or, or-map, or-pick, Same, same-bind, same-turned}
 use Rattle.guarantees_modes.proofs.Tokens.{same-scanAt}
 
@@ -37,6 +37,6 @@ same-checkIn file cap =
     or-pick IsOverlong (eqb (length file) 0) (inr refl)
     (or-pick IsOverlong (ltb LIMIT (length file)) (inr refl) (same-bind (same-startsFrom _ cap _) (λ done. inr refl)))
 
-pub check-agree : (file : List ℕ) (cap : ℕ) → Agree (checkOf Strict file cap .answer) (λ mode. checkOf mode file cap)
+pub check-agree : (file : List ℕ) (cap : ℕ) → ModesSame (checkOf Strict file cap .answer) (λ mode. checkOf mode file cap)
 unfolding checkOf
 check-agree file cap = or-map IsOverlong (λ (c : Checked). IsOverlong (c .answer)) (listed cap) (λ (p, e). (p, rw e)) (same-checkIn file cap)

@@ -20,7 +20,7 @@ use Rattle.scan.specs.Answers.{headOf, scanAt}
 use Rattle.checker.specs.Check.{checkIn}
 use Rattle.depths_value.specs.Depth.{DepthState, depthTurn, deepestFrom, depthAt, depthsTo}
 use Rattle.depths.specs.Depths.{deepen, depthsOf}
-use Rattle.guarantees_modes.specs.Modes.{Agree}
+use Rattle.guarantees_modes.specs.Modes.{ModesSame}
 use Rattle.guarantees_modes.proofs.Either.{agree-ok}
 use Rattle.guarantees_modes.proofs.Tokens.{same-scanAt}
 use Rattle.guarantees_modes.proofs.Checks.{same-checkIn}
@@ -58,7 +58,7 @@ module _ (file : List ℕ) (cap room : ℕ) where
   deepen-same (ok r) e = rw (depths-same (regionOf file) (r .0) (scans-start file cap r e) (length (r .0)))
   deepen-same (error f) e = refl
 
-  pub depths-agree : Agree (depthsOf Strict file cap room .answer) (λ mode. depthsOf mode file cap room)
+  pub depths-agree : ModesSame (depthsOf Strict file cap room .answer) (λ mode. depthsOf mode file cap room)
   unfolding depthsOf
   depths-agree =
       elim (same-checkIn file cap) [

@@ -10,14 +10,14 @@ use Rattle.reader_follow.specs.Follow.{position}
 use Rattle.reader_body.specs.Body.{bodyPart, bodyPlaceOf}
 use Rattle.checker.specs.Check.{checkOf}
 use Rattle.depths.specs.Depths.{depthsOf}
-use Rattle.guarantees_modes.specs.Modes.{AnswersAgree, ModesAgree}
+use Rattle.guarantees_modes.specs.Modes.{AnswersSame, ModesAgree}
 use Rattle.guarantees_modes.proofs.Either.{agree-ok}
 use Rattle.guarantees_modes.proofs.Queries.{same-inRegion, same-peekIn, same-readIn, same-readRowIn, same-skipIn, same-itemIn}
 use Rattle.guarantees_modes.proofs.Queries.{same-followFrom, same-followIn, same-bodyPlaceIn, same-lookupIn}
 use Rattle.guarantees_modes.proofs.Checks.{check-agree}
 use Rattle.guarantees_modes.proofs.Depths.{depths-agree}
 
-place-agrees : (file : List ℕ) (at : ℕ) → AnswersAgree (λ mode. bodyPlaceOf mode file at)
+place-agrees : (file : List ℕ) (at : ℕ) → AnswersSame (λ mode. bodyPlaceOf mode file at)
 place-agrees file at = same-inRegion file at (λ s. same-bodyPlaceIn s at)
 
 pub modes-agree : ModesAgree
