@@ -8,6 +8,11 @@ use leb128::Mode;
 use libc::STDERR_FILENO;
 use libc::STDIN_FILENO;
 use libc::STDOUT_FILENO;
+ghost use mathlib.Core.Path.{_≡_};
+ghost use lib.ListN.{length};
+ghost use Rattle.leb128.specs.declared.Mode.the-variants.{Strict};
+ghost use Rattle.checker.specs.Check.{checked, checkOf};
+ghost use Rattle.checker.specs.Answers.{checkAnswer};
 
 fn write(s: &[u8]) {
     io::write_all(STDOUT_FILENO, s);
@@ -45,6 +50,13 @@ fn is_ended() -> bool {
     libc::read(STDIN_FILENO, &mut byte) == 0
 }
 
+// Checks a plan file in the strict mode (document 02, W-203).
+fn check(file: &[u8], starts: &mut [u32]) -> CheckResult
+    ensures { λ r. ⌜ checked (checkAnswer r) (now (starts .exit)) ≡ checkOf Strict (now (file .entry)) (length (now (starts .entry))) ⌝ }
+{
+    checker::check(file, starts, Mode::Strict)
+}
+
 fn main() {
     let mut buffer = [0u8; 16385];
     let n = io::read_full(STDIN_FILENO, &mut buffer);
@@ -64,5 +76,5 @@ fn main() {
     }
     // a value has at least one byte, so these words are never too few
     let mut starts = [0u32; 16384];
-    answer(checker::check(&buffer[..n], &mut starts, Mode::Strict));
+    answer(check(&buffer[..n], &mut starts));
 }
