@@ -10,6 +10,8 @@ pub mod Ends
 pub mod Accepts
 -- and no others
 pub mod Accepted
+-- a well-formed file in the strict mode, or OVERLONG
+pub mod Padded
 -- FULL, and the table that check leaves
 pub mod Full
 -- what a refusal of check says

@@ -10,16 +10,17 @@ use mathlib.Core.Bool.{Bool, true, false}
 use mathlib.Core.Logic.{_⊎_, _↔_}
 use mathlib.Core.Option.{some}
 use mathlib.Core.List.{List, [], _++_, map, List·Memᴰ}
-use Prim.Native.Nat.{ℕ, suc, _+_, _-_, _*_, _/_, _≤_, _<_}
+use Prim.Native.Nat.{ℕ, suc, _+_, _-_, _*_, _/_, _^_, _≤_, _<_}
 use lib.Dec.{ltb}
 use lib.ListN.{length, take, getD}
 use Rattle.prelude.specs.Answer.{ok, error, got}
 use Rattle.prelude.specs.Bytes.{Bytes}
 use Rattle.prelude.specs.Each.{Each}
 use Rattle.error.specs.Error.{Fault, fault, LIMIT, EMPTY, TOO_LONG, BAD_TEXT, FULL, BAD_ENTRY, NO_ITEM}
-use Rattle.leb128.specs.Leb.{top, put, Spells, get}
+use Rattle.leb128.specs.Leb.{top, put, pad, Spells, Begins, get}
 use Rattle.leb128.proofs.Laws as leb128
 use Rattle.leb128.proofs.Spellings as spellings
+use Rattle.leb128.proofs.Padding as padding
 use Rattle.leb128.specs.declared.Mode.{Mode}
 use Rattle.leb128.specs.declared.Mode.the-variants.{Strict, Tolerant}
 use Rattle.utf8.specs.Text.{Text, isText}
@@ -53,7 +54,7 @@ use Rattle.writer.specs.Step.{puts, moveOf, fresh, opens, step}
 use Rattle.writer.specs.Runs.{runs}
 use Rattle.writer.proofs.Refused as writer
 use Rattle.abi_writer.specs.Calls.{writerOf, wordsOf, numberC, runsC}
-use Rattle.guarantees_modes.specs.Modes.{ModesAgree}
+use Rattle.guarantees_modes.specs.Modes.{IsOverlong, ModesAgree}
 use Rattle.guarantees_modes.proofs.Theorems as both
 use Rattle.guarantees_faults.specs.Faults.{Exceeds, Counted, RefusedHead, HasPlace, RefusedToken}
 use Rattle.guarantees_faults.specs.Queries.{AnsweredQuery, Read, headOf, Skips, HasItem, Reaches, HasBody, Finds}
@@ -80,6 +81,7 @@ use Rattle.guarantees_writer.specs.Written.{writes, expects, written}
 use Rattle.guarantees_writer.specs.OneCall.{Writes, Only, Finishing, OneByte, FinishedBy}
 use Rattle.guarantees.specs.Demands.{Demand1, Demand2, Demand3}
 use Rattle.guarantees.proofs.Accepted as accepted
+use Rattle.guarantees.proofs.Padded as padded
 use Rattle.guarantees.proofs.Full as full
 use Rattle.guarantees.proofs.Refused as refused
 use Rattle.guarantees.proofs.ReadErrors as errors
@@ -137,6 +139,10 @@ one-reading = unique.one-reading
 
 pub well-formed-of-strict : (mode : Mode) {file : List ℕ} {vs : List Value} {entry : ℕ} → WellFormed Strict file vs entry → WellFormed mode file vs entry
 well-formed-of-strict = modes.well-formed-of-strict
+
+pub strict-or-overlong : (file : List ℕ) (vs : List Value) (entry : ℕ) → Bytes file → WellFormed Tolerant file vs entry
+    → WellFormed Strict file vs entry ⊎ IsOverlong (checkOf Strict file (length vs) .answer)
+strict-or-overlong = padded.strict-or-overlong
 
 pub never-overlong : NeverOverlong
 never-overlong = errors.never-overlong
@@ -375,11 +381,14 @@ get-put = leb128.get-put
 pub get-spells : (mode : Mode) (n : ℕ) (p rest : List ℕ) → Spells mode n p → get mode 9 0 (p ++ rest) ≡ got n rest
 get-spells = spellings.get-spells
 
-pub spells-get : (mode : Mode) (n : ℕ) (s rest : List ℕ) → Bytes s → get mode 9 0 s ≡ got n rest → spellings.Read mode n s rest
+pub spells-get : (mode : Mode) (n : ℕ) (s rest : List ℕ) → Bytes s → get mode 9 0 s ≡ got n rest → Begins mode n s rest
 spells-get = spellings.spells-get
 
 pub spells-shortest : (n : ℕ) (s t : List ℕ) → Spells Strict n s → Spells Tolerant n t → length s ≤ length t
 spells-shortest = spellings.spells-shortest
+
+pub padded-exactly : (n : ℕ) (s : List ℕ) → Bytes s → Spells Tolerant n s ↔ ((n < 2 ^ 64) × (length s ≤ 10) × ((k : ℕ) × (s ≡ pad k (put 9 n))))
+padded-exactly = padding.padded-exactly
 
 pub scan-emit : (mode : Mode) (inner : Bool) (at : ℕ) (t : Token) (s : List ℕ) → Fits mode inner t s → scan mode inner at (emit t ++ s) ≡ got t s
 scan-emit = token.scan-emit

@@ -124,7 +124,7 @@ pub record Demand2 : Type 0 where
   -- "Given a starts table with enough words, the reader accepts exactly the files that document 01 calls well formed by the Twine pages,"
   pub accepts : (mode : Mode) (file : List ℕ) (cap count entry : ℕ) (table : List ℕ) → Bytes file
       → (checkOf mode file cap ≡ checked (ok (count, entry)) table) ↔ Accepted mode file cap count entry table
-  -- "and tells their values as those pages do."
+  -- "and tells their values as those pages do." In either mode, by that mode's notion of well formed
   pub reports : (mode : Mode) (file : List ℕ) (vs : List Value) (entry : ℕ) → WellFormed mode file vs entry → ReportsValues mode file vs
   -- "Writing an accepted file's values again in order with a fresh writer, its output at least as long as the file and its table with enough words,
   -- and closing at the file's entry, gives the same bytes." W-203: "Same-bytes rewriting holds for files that the strict manner accepts"

@@ -1,4 +1,5 @@
--- What the refusals of check and depths mean (document 01, "Numbers of refusal"; document 02, W-201); FULL also has a statement of its own, `Overfull`.
+-- What the refusals of check and depths mean (document 01, "Numbers of refusal"; document 02, W-201 and W-203). FULL also has a statement of its
+-- own, `Overfull`.
 --
 --   Unnamed mode file cap p
 --                        BAD_ENTRY: all else is well formed, but the delta byte, at p, does not name the start of a value

@@ -2,8 +2,8 @@
 -- has it, LONG_LIST, 10. Two of the samples ask more than one thing, and have an entry for each.
 --
 --   Query            check and depths, each with tables of four words; an item of the value at an offset; the value at an offset; where it ends; the
---                    value of a key in the map at an offset; the body at an offset
---   SampleAnswer     check's answer and table, and the depths; an offset; a value; a first offset and a length
+--                    end of the chain from an offset; the value of a key in the map at an offset; the body at an offset
+--   SampleAnswer     check's answer and table, and the depths; an offset; a value; a first offset and a length, or an offset and hops
 --   sampleAnswer mode file q
 --                    the answer by the definitions that the contracts cite
 --   refused f place  check's error f at `place`, which leaves zeros
@@ -15,11 +15,14 @@
 --   textSamples      W-202: its surrogate; both sides of each border: 7FF in three bytes and 800; D7FF, DFFF and E000; FFFF in four bytes and 10000; 10FFFF
 --                    and 110000; the ends of the other ranges; bytes that begin no character, and document 01's `42 c3 28 02`; a character that is cut by
 --                    the body's end (E2); a surrogate as an item, at its own header; queries, which do not look at a text's bytes (E1)
---   paddedSamples    W-203: files with numbers in more bytes than they need, as the tolerant mode answers. In order: `1f 80 00 02`; ten bytes, the tenth 0
---                    (A2); both numbers of a variant of many, and the second alone; a length of five bytes, and its body; a pointer of five bytes, its
---                    target and depth; a lookup that follows such a pointer
---   overlongSamples  the same files in the strict mode: OVERLONG, at the header with the number
---   rangeSamples     W-203, "ten bytes and RANGE stay": the tenth byte 1, 2 and 80, and eleven bytes, in both modes
+--   bothSamples      W-203: files with numbers in more bytes than they need, a query, and what the tolerant mode and the strict one answer. In order:
+--                    `1f 80 00 02`; five and ten bytes, the tenth 0 (A2); both numbers of a variant of many, and the second alone; a number of ten bytes
+--                    over 2 ^ 35, and one that is out of range; a length and counts past the region's end; a map of 15 pairs; an item after a padded one;
+--                    a text with its length in five bytes, and a pointer to it with its distance in five; a lookup that follows such a pointer. The
+--                    strict answer is OVERLONG, at the header with the number, unless the query stops before that header
+--   paddedSamples    the tolerant answers
+--   overlongSamples  the strict answers
+--   rangeSamples     W-203, "ten bytes and RANGE stay": the tenth byte 1, 2 and 80, a number without a last byte, and eleven bytes, in both modes
 --   TextCall         bytes, and the answer to them as a text
 --   textAnswer c     what a new writer answers, with an output of eight bytes and a table of one word
 --   textCalls        W-202: the same borders
@@ -33,8 +36,9 @@ use Rattle.error.specs.Error.{Fault, fault, EMPTY, TRUNC, OVERLONG, RANGE, NEST
 use Rattle.leb128.specs.declared.Mode.{Mode}
 use Rattle.reader_value.specs.Value.{readOf}
 use Rattle.reader_value.specs.declared.Value.{Value}
-use Rattle.reader_value.specs.declared.Value.the-variants.{Integer, Text, VariantN}
+use Rattle.reader_value.specs.declared.Value.the-variants.{Integer, Text, Tag, VariantN}
 use Rattle.reader_items.specs.Items.{skipOf, itemOf}
+use Rattle.reader_follow.specs.Follow.{followOf}
 use Rattle.reader_body.specs.Body.{bodyPlaceOf}
 use Rattle.reader_lookup.specs.Lookup.{lookupOf}
 use Rattle.checker.specs.Check.{Checked, checked, checkOf}
@@ -47,6 +51,7 @@ pub data Query : Type 0 where
   item : ℕ → ℕ → Query
   read : ℕ → Query
   skip : ℕ → Query
+  follow : ℕ → Query
   lookup : ℕ → List ℕ → Query
   body : ℕ → Query
 
@@ -61,6 +66,7 @@ sampleAnswer mode file check = table (checkOf mode file 4) (depthsOf mode file 4
 sampleAnswer mode file (item at i) = offset (itemOf mode file at i)
 sampleAnswer mode file (read at) = value (readOf mode file at)
 sampleAnswer mode file (skip at) = offset (skipOf mode file at)
+sampleAnswer mode file (follow at) = part (followOf mode file at)
 sampleAnswer mode file (lookup at key) = offset (lookupOf mode file at key)
 sampleAnswer mode file (body at) = part (bodyPlaceOf mode file at)
 
@@ -175,50 +181,65 @@ label = 0x4f ∷ (five 0 ++ replicate 15 0x61)
 abbrev ten : ℕ → List ℕ
 ten last = replicate 9 0x80 ++ (last ∷ [])
 
--- a text "a"; a label; a map at 23 whose key, at 24, is a pointer of five bytes to the text, and whose value, at 30, is 0
+-- a text "a"; a label; a map at 23 whose key, at 24, is a pointer to the text with its distance in five bytes, and whose value, at 30, is 0
 abbrev keyed : List ℕ
 keyed = 0x41 ∷ 0x61 ∷ (label ++ (0x71 ∷ 0xff ∷ (five 8 ++ (0x10 ∷ 0x07 ∷ []))))
 
-abbrev pub paddedSamples : List Sample
-paddedSamples =
-    (0x1f ∷ 0x80 ∷ 0x00 ∷ 0x02 ∷ [], check, one)
-    ∷ (0x1f ∷ 0x80 ∷ 0x00 ∷ 0x02 ∷ [], read 0, value (ok (Integer (pos 15))))
-    ∷ (0x1f ∷ (ten 0x00 ++ (0x0a ∷ [])), check, one)
-    ∷ (0x1f ∷ (ten 0x00 ++ (0x0a ∷ [])), read 0, value (ok (Integer (pos 15))))
-    ∷ (0xcf ∷ 0x80 ∷ 0x00 ∷ 0x81 ∷ 0x00 ∷ 0x10 ∷ 0x05 ∷ [], check, one)
-    ∷ (0xcf ∷ 0x80 ∷ 0x00 ∷ 0x81 ∷ 0x00 ∷ 0x10 ∷ 0x05 ∷ [], read 0, value (ok (VariantN 15 1 5)))
-    ∷ (0xc0 ∷ 0x81 ∷ 0x00 ∷ 0x10 ∷ 0x03 ∷ [], check, one)
-    ∷ (0xc0 ∷ 0x81 ∷ 0x00 ∷ 0x10 ∷ 0x03 ∷ [], item 0 0, offset (ok 3))
-    ∷ (label ++ (0x14 ∷ []), check, one)
-    ∷ (label ++ (0x14 ∷ []), skip 0, offset (ok 21))
-    ∷ (label ++ (0x14 ∷ []), body 0, part (ok (6, 15)))
-    ∷ (label ++ (0xff ∷ (five 5 ++ (0x05 ∷ []))), check, table (checked (ok (2, 21)) (0 ∷ 21 ∷ 0 ∷ 0 ∷ [])) (1 ∷ 2 ∷ 0 ∷ 0 ∷ []))
-    ∷ (label ++ (0xff ∷ (five 6 ++ (0x05 ∷ []))), check, refused BAD_TARGET 21)
-    ∷ (keyed, check, table (checked (ok (3, 23)) (0 ∷ 2 ∷ 23 ∷ 0 ∷ [])) (1 ∷ 1 ∷ 2 ∷ 0 ∷ []))
-    ∷ (keyed, lookup 23 (0x61 ∷ []), offset (ok 30))
+-- a file, a query, and the answers of the tolerant mode and of the strict one
+abbrev Both : Type 0
+Both = Sample × SampleAnswer
+
+abbrev bothSamples : List Both
+bothSamples =
+    ((0x1f ∷ 0x80 ∷ 0x00 ∷ 0x02 ∷ [], check, one), refused OVERLONG 0)
+    ∷ ((0x1f ∷ 0x80 ∷ 0x00 ∷ 0x02 ∷ [], read 0, value (ok (Integer (pos 15)))), value (error (fault OVERLONG 0)))
+    ∷ ((0x1f ∷ 0xff ∷ 0x81 ∷ 0x80 ∷ 0x80 ∷ 0x00 ∷ 0x05 ∷ [], read 0, value (ok (Integer (pos 270)))), value (error (fault OVERLONG 0)))
+    ∷ ((0x1f ∷ (ten 0x00 ++ (0x0a ∷ [])), check, one), refused OVERLONG 0)
+    ∷ ((0x1f ∷ (ten 0x00 ++ (0x0a ∷ [])), read 0, value (ok (Integer (pos 15)))), value (error (fault OVERLONG 0)))
+    ∷ ((0xcf ∷ 0x80 ∷ 0x00 ∷ 0x81 ∷ 0x00 ∷ 0x10 ∷ 0x05 ∷ [], check, one), refused OVERLONG 0)
+    ∷ ((0xcf ∷ 0x80 ∷ 0x00 ∷ 0x81 ∷ 0x00 ∷ 0x10 ∷ 0x05 ∷ [], read 0, value (ok (VariantN 15 1 5))), value (error (fault OVERLONG 0)))
+    ∷ ((0xc0 ∷ 0x81 ∷ 0x00 ∷ 0x10 ∷ 0x03 ∷ [], check, one), refused OVERLONG 0)
+    ∷ ((0xc0 ∷ 0x81 ∷ 0x00 ∷ 0x10 ∷ 0x03 ∷ [], item 0 0, offset (ok 3)), offset (error (fault OVERLONG 0)))
+    ∷ (
+      (0x8f ∷ (replicate 5 0x80 ++ (0x81 ∷ 0x80 ∷ 0x80 ∷ 0x80 ∷ 0x00 ∷ 0x10 ∷ 0x0b ∷ [])), read 0, value (ok (Tag (2 ^ 35 + 15) 11))),
+      value (error (fault OVERLONG 0)),
+    )
+    ∷ ((0xaf ∷ 0xf1 ∷ 0xff ∷ 0xff ∷ 0xff ∷ 0x8f ∷ 0x00 ∷ 0x06 ∷ [], check, refused RANGE 0), refused OVERLONG 0)
+    ∷ ((0x4f ∷ 0xf1 ∷ 0x80 ∷ 0x00 ∷ 0x61 ∷ 0x00 ∷ [], check, refused LONG_BODY 4), refused OVERLONG 0)
+    ∷ ((0x6f ∷ 0x81 ∷ 0x80 ∷ 0x00 ∷ 0x10 ∷ 0x00 ∷ [], check, refused LONG_LIST 4), refused OVERLONG 0)
+    ∷ ((0x7f ∷ (five 0 ++ (replicate 30 0x10 ++ (0x23 ∷ []))), check, one), refused OVERLONG 0)
+    ∷ ((0x62 ∷ 0x1f ∷ 0x80 ∷ 0x00 ∷ 0x10 ∷ 0x04 ∷ [], item 0 0, offset (ok 1)), offset (ok 1))
+    ∷ ((0x62 ∷ 0x1f ∷ 0x80 ∷ 0x00 ∷ 0x10 ∷ 0x04 ∷ [], item 0 1, offset (ok 4)), offset (error (fault OVERLONG 1)))
+    ∷ ((0x62 ∷ 0x1f ∷ 0x80 ∷ 0x00 ∷ 0x10 ∷ 0x04 ∷ [], skip 0, offset (ok 5)), offset (error (fault OVERLONG 1)))
+    ∷ ((label ++ (0x14 ∷ []), check, one), refused OVERLONG 0)
+    ∷ ((label ++ (0x14 ∷ []), skip 0, offset (ok 21)), offset (error (fault OVERLONG 0)))
+    ∷ ((label ++ (0x14 ∷ []), body 0, part (ok (6, 15))), part (error (fault OVERLONG 0)))
+    ∷ ((label ++ (0xff ∷ (five 5 ++ (0x05 ∷ []))), check, table (checked (ok (2, 21)) (0 ∷ 21 ∷ 0 ∷ 0 ∷ [])) (1 ∷ 2 ∷ 0 ∷ 0 ∷ [])), refused OVERLONG 0)
+    ∷ ((label ++ (0xff ∷ (five 5 ++ (0x05 ∷ []))), follow 21, part (ok (0, 1))), part (error (fault OVERLONG 21)))
+    ∷ ((label ++ (0xff ∷ (five 5 ++ (0x05 ∷ []))), body 21, part (ok (6, 15))), part (error (fault OVERLONG 21)))
+    ∷ ((label ++ (0xff ∷ (five 6 ++ (0x05 ∷ []))), check, refused BAD_TARGET 21), refused OVERLONG 0)
+    ∷ ((label ++ (0xff ∷ 0x05 ∷ 0x01 ∷ []), follow 21, part (ok (0, 1))), part (error (fault OVERLONG 0)))
+    ∷ ((keyed, check, table (checked (ok (3, 23)) (0 ∷ 2 ∷ 23 ∷ 0 ∷ [])) (1 ∷ 1 ∷ 2 ∷ 0 ∷ [])), refused OVERLONG 2)
+    ∷ ((keyed, lookup 23 (0x61 ∷ []), offset (ok 30)), offset (error (fault OVERLONG 24)))
     ∷ []
 
+abbrev pub paddedSamples : List Sample
+paddedSamples = map (λ (x : Both). x .0) bothSamples
+
 abbrev pub overlongSamples : List Sample
-overlongSamples =
-    (0x1f ∷ 0x80 ∷ 0x00 ∷ 0x02 ∷ [], check, refused OVERLONG 0)
-    ∷ (0x1f ∷ 0x80 ∷ 0x00 ∷ 0x02 ∷ [], read 0, value (error (fault OVERLONG 0)))
-    ∷ (0x1f ∷ (ten 0x00 ++ (0x0a ∷ [])), check, refused OVERLONG 0)
-    ∷ (0xcf ∷ 0x80 ∷ 0x00 ∷ 0x81 ∷ 0x00 ∷ 0x10 ∷ 0x05 ∷ [], check, refused OVERLONG 0)
-    ∷ (0xc0 ∷ 0x81 ∷ 0x00 ∷ 0x10 ∷ 0x03 ∷ [], check, refused OVERLONG 0)
-    ∷ (0xc0 ∷ 0x81 ∷ 0x00 ∷ 0x10 ∷ 0x03 ∷ [], item 0 0, offset (error (fault OVERLONG 0)))
-    ∷ (label ++ (0x14 ∷ []), skip 0, offset (error (fault OVERLONG 0)))
-    ∷ (label ++ (0x14 ∷ []), body 0, part (error (fault OVERLONG 0)))
-    ∷ (keyed, check, refused OVERLONG 2)
-    ∷ (keyed, lookup 23 (0x61 ∷ []), offset (error (fault OVERLONG 24)))
-    ∷ []
+overlongSamples = map (λ (x : Both). (x .0 .0, x .0 .1, x .1)) bothSamples
 
 abbrev pub rangeSamples : List Sample
 rangeSamples =
     (0x1f ∷ (ten 0x01 ++ (0x0a ∷ [])), check, refused RANGE 0)
     ∷ (0x8f ∷ (ten 0x01 ++ (0x10 ∷ 0x0b ∷ [])), check, one)
+    ∷ (0x8f ∷ (ten 0x01 ++ (0x10 ∷ 0x0b ∷ [])), read 0, value (ok (Tag (2 ^ 63 + 15) 11)))
     ∷ (0x8f ∷ (ten 0x02 ++ (0x10 ∷ 0x0b ∷ [])), check, refused RANGE 0)
     ∷ (0x8f ∷ (ten 0x80 ++ (0x00 ∷ 0x10 ∷ 0x0c ∷ [])), check, refused RANGE 0)
     ∷ (0xc0 ∷ (ten 0x02 ++ (0x10 ∷ 0x0b ∷ [])), check, refused RANGE 0)
+    ∷ (0xc0 ∷ (replicate 9 0xff ++ (0x01 ∷ 0x00 ∷ [])), check, refused LONG_LIST 11)
+    ∷ (0x1f ∷ (replicate 9 0x80 ++ (0x00 ∷ [])), check, refused TRUNC 0)
+    ∷ (0x1f ∷ (ten 0x80 ++ (0x00 ∷ [])), check, refused RANGE 0)
     ∷ []
 
 abbrev pub TextCall : Type 0
