@@ -85,7 +85,7 @@ enum twine_error {
     TWINE_RESERVED = 4,
     /* a padded number, in strict mode alone (see enum twine_mode) [the header] */
     TWINE_OVERLONG = 5,
-    /* a number over its kind's bound or over 64 bits [the header] */
+    /* a number over its kind's bound, over 64 bits or of more than ten bytes [the header] */
     TWINE_RANGE = 6,
     /* an item of a kind that may have items [the item's header] */
     TWINE_NESTED = 7,
@@ -150,13 +150,16 @@ static inline const char *twine_error_name(uint32_t number) {
 /* The same from the archive, where it is proved: the name, and 0 in every byte after it. TWINE_OK. */
 uint32_t twine_spell_error(uint32_t number, char name[TWINE_NAME]);
 
-/* The mode of a reading call: whether it reads padded numbers. A number is padded if it has more bytes than it needs: its
-   last byte is 00, and is not its first. The old exporter padded lengths to five bytes. TWINE_TOLERANT is for its files
-   alone, and then for every call on such a file.
+/* The mode of a reading call (check, depths and the queries): whether it reads padded numbers. A number that does not fit
+   into its header byte follows it, seven bits a byte (LEB128). It is padded if it has more bytes than it needs: its last
+   byte is 00, and is not its only one. 1f 00 is 15; 1f 80 00 is 15, padded. The exporter of the firm that we bought padded
+   lengths to five bytes. TWINE_TOLERANT is for its files alone, and then for every call on such a file. It reads any
+   padded number, not lengths alone.
 
    The mode changes nothing else. In both, a number has at most ten bytes and is within its bounds (TWINE_RANGE), and
    offsets count every byte of the file. What is not TWINE_OVERLONG in strict mode has the same answer in tolerant mode,
-   and leaves the same in memory. The writer has no mode: it never pads. */
+   and leaves the same in memory. The writer has no mode: it never pads. So a padded file that is read and written again has
+   other bytes and offsets. */
 enum twine_mode {
     /* a padded number is TWINE_OVERLONG; any mode but TWINE_TOLERANT is this one */
     TWINE_STRICT = 0,
