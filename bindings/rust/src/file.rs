@@ -50,7 +50,8 @@ impl<'a> File<'a> {
         File::check_with(Mode::Strict, bytes)
     }
 
-    /// As [`check`](File::check), in a mode, which goes with the file: its values and items are read in it too.
+    /// As [`check`](File::check), in a mode, which goes with the file: its values and items are read in it too. The mode comes first here; in
+    /// the functions of [`query`](crate::query), as in C, it comes after the bytes.
     ///
     /// ```
     /// use twine::{File, Mode, Value};
