@@ -108,8 +108,7 @@ fn run_section<P: Product>(
             return Err(Failed { case: repeat.case });
         }
         repeat.case += 1;
-        let is_enough = repeat.case >= section.least && repeat.case.is_multiple_of(section.stride);
-        let is_over = is_enough && Instant::now() >= end;
+        let is_over = repeat.case >= section.least && Instant::now() >= end;
         if only.is_some() || section.cases == Some(repeat.case) || is_over {
             return Ok(repeat.case - first);
         }

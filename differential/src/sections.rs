@@ -23,8 +23,6 @@ pub struct Section<P> {
     pub least: u64,
     /// Its part of the time, beside the parts of the others.
     pub share: u32,
-    /// How many cases are run between two looks at the clock.
-    pub stride: u64,
     /// Compares a case.
     pub run: fn(&mut Comparer<P>, Case) -> Result<(), Difference>,
 }
@@ -43,11 +41,11 @@ const SHORT: u64 = 1 + (1 << 8) + (1 << 16) + (1 << 24);
 
 /// All sections in their order.
 pub fn all<P: Product>() -> [Section<P>; 12] {
-    let section = |name, share, run| Section { name, cases: None, least: 1, share, stride: 1, run };
+    let section = |name, share, run| Section { name, cases: None, least: 1, share, run };
     [
         Section { cases: Some(40), ..section("names", 1, names) },
-        Section { cases: Some(SHORT), stride: 1 << 12, ..section("short", 70, short) },
-        // These two take some seconds at least: the one always ends, the other goes on with made-up files.
+        // These three take some seconds at least: two always end, the third goes on with made-up files.
+        Section { cases: Some(SHORT), least: SHORT, ..section("short", 70, short) },
         Section { cases: Some(text::CASES), least: text::CASES, ..section("text", 20, text::text) },
         Section { least: padded::SYSTEMATIC, ..section("padded", 20, padded::padded) },
         section("written", 15, written),
