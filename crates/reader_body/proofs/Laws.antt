@@ -1,5 +1,5 @@
--- Laws of bodies: the part that a place names is in the file; the part, as the code takes it.
-use mathlib.Core.Path.{_≡_, sym, subst}
+-- Laws of bodies: the part that a place names is in the file; the part, as the code takes it, and where it starts.
+use mathlib.Core.Path.{_≡_, refl, sym, subst}
 use Prim.Native.Nat.{ℕ, _+_, _-_, _≤_}
 use mathlib.Core.Bool.{_||_}
 use mathlib.Core.List.{List, []}
@@ -14,7 +14,7 @@ use Rattle.leb128.specs.declared.Mode.{Mode}
 use Rattle.reader_region.proofs.Laws.{in-region-same}
 use Rattle.reader_follow.specs.Follow.{Followed, position, followFrom}
 use Rattle.reader_follow.proofs.Laws.{followed-within}
-use Rattle.reader_body.specs.Body.{bodyPlaceOn, bodyPlaceIn, bodyPlaceOf, bodyOf}
+use Rattle.reader_body.specs.Body.{bodyPlaceOn, bodyPlaceIn, bodyPlaceOf, bodyOf, Placed}
 
 -- a part at such a place ends within n bytes
 abbrev WithinFile : ℕ → Answer Fault (ℕ × ℕ) → Type 0
@@ -42,3 +42,12 @@ body-part mode file at first len e = let own : first + len - first ≡ len = ome
 
 pub body-none : (mode : Mode) (file : List ℕ) (at : ℕ) (e : Fault) → error e ≡ bodyPlaceOf mode file at → [] ≡ bodyOf mode file at
 body-none mode file at e q = rw (← q)
+
+-- ---- where the part starts
+
+module _ (mode : Mode) (file : List ℕ) (at : ℕ) (whole : ℕ × ℕ) where
+  pub placed-part : (first len : ℕ) → ok (first, len) ≡ bodyPlaceOf mode file at → Placed whole (bodyPlaceOf mode file at) (whole .0, first + whole .1)
+  placed-part first len e = rw (← e) refl
+
+  pub placed-none : (f : Fault) → error f ≡ bodyPlaceOf mode file at → Placed whole (bodyPlaceOf mode file at) (whole .0, 0 + whole .1)
+  placed-none f e = rw (← e) refl

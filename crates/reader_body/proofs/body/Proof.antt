@@ -1,8 +1,7 @@
 -- `reader_body::body` meets its contract: the part that `body_place` names is in the file.
-use mathlib.Core.Path.{refl}
 use native.Mathlib.Omega.{arith}
 use borrow.Author.Needs.{needs}
-use Rattle.reader_body.proofs.Laws.{body-within, body-part, body-none}
+use Rattle.reader_body.proofs.Laws.{body-within, body-part, body-none, placed-part, placed-none}
 use Rattle.reader_body.proofs.body.Statement.{statement}
 use Rattle.reader_body.proofs.body.Tie as tie
 
@@ -22,7 +21,7 @@ body-spec =
     (λ c. search needs)
     (λ c. let t = c .before .before in
     let e = rw (t .first .given .1) at (t .before .before .body-place .ensures) in
-    (rw (← e) refl, body-part _ _ _ _ _ e))
+    (placed-part _ _ _ _ _ _ e, body-part _ _ _ _ _ e))
     (λ c. let t = c .before .before in
     let e = rw (t .e .given .1) at (t .before .before .body-place .ensures) in
-    (rw (← e) refl, body-none _ _ _ _ e)))
+    (placed-none _ _ _ _ _ e, body-none _ _ _ _ e)))
