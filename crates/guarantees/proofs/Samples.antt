@@ -27,39 +27,33 @@ use Rattle.writer.specs.Step.{tokenRefusal, write, putToken}
 use Rattle.guarantees.specs.Samples.{sampleAnswer, Answered, samples, endSamples, textSamples, paddedSamples, overlongSamples, rangeSamples}
 use Rattle.guarantees.specs.Samples.{TextCall, textAnswer, textCalls}
 
-strict : Answered Strict samples × Answered Strict endSamples × Answered Strict textSamples × Answered Strict overlongSamples × Answered Strict rangeSamples
+-- what the strict mode answers, and what the tolerant one answers
+both : (Answered Strict samples × Answered Strict endSamples × Answered Strict textSamples × Answered Strict overlongSamples × Answered Strict rangeSamples)
+    × (Answered Tolerant endSamples × Answered Tolerant textSamples × Answered Tolerant paddedSamples × Answered Tolerant rangeSamples)
 unfolding sampleAnswer bind guard then orError _>>_ _>>=_ run from among rank get rule getIf number body scanKind scan
     headOf scanAt lead next textFrom regionLen inRegion peekIn skipItems skipIn valueOn readIn startsIn itemOn itemIn
     followTurn followFrom followIn bodyPlaceIn lookups.same lookups.pairs lookups.lookupIn
     walks.hasTarget walks.tokenFault walks.nextToken walks.walkAfter walks.walkTurn walks.startsFrom check.entryAt
     check.checkIn check.checkOf deep.depthTurn deep.deepestFrom deep.depthAt deep.depthsTo depthsOf
-strict = (refl, refl, refl, refl, refl)
-
-tolerant : Answered Tolerant endSamples × Answered Tolerant textSamples × Answered Tolerant paddedSamples × Answered Tolerant rangeSamples
-unfolding sampleAnswer bind guard then orError _>>_ _>>=_ run from among rank get rule getIf number body scanKind scan
-    headOf scanAt lead next textFrom regionLen inRegion peekIn skipItems skipIn valueOn readIn startsIn itemOn itemIn
-    followTurn followFrom followIn bodyPlaceIn lookups.same lookups.pairs lookups.lookupIn
-    walks.hasTarget walks.tokenFault walks.nextToken walks.walkAfter walks.walkTurn walks.startsFrom check.entryAt
-    check.checkIn check.checkOf deep.depthTurn deep.deepestFrom deep.depthAt deep.depthsTo depthsOf
-tolerant = (refl, refl, refl, refl)
+both = ((refl, refl, refl, refl, refl), (refl, refl, refl, refl))
 
 pub the-samples : Answered Strict samples
-the-samples = strict .0
+the-samples = both .0 .0
 
 pub the-ends : (mode : Mode) → Answered mode endSamples
-the-ends Strict = strict .1
-the-ends Tolerant = tolerant .0
+the-ends Strict = both .0 .1
+the-ends Tolerant = both .1 .0
 
 pub the-texts : (mode : Mode) → Answered mode textSamples
-the-texts Strict = strict .2
-the-texts Tolerant = tolerant .1
+the-texts Strict = both .0 .2
+the-texts Tolerant = both .1 .1
 
 pub the-padded : Answered Tolerant paddedSamples × Answered Strict overlongSamples
-the-padded = (tolerant .2, strict .3)
+the-padded = (both .1 .2, both .0 .3)
 
 pub the-ranges : (mode : Mode) → Answered mode rangeSamples
-the-ranges Strict = strict .4
-the-ranges Tolerant = tolerant .3
+the-ranges Strict = both .0 .4
+the-ranges Tolerant = both .1 .3
 
 pub the-text-calls : map textAnswer textCalls ≡ map (λ (x : TextCall). x .1) textCalls
 unfolding textAnswer among put rule lead next textFrom putIf emit refusalOf tokenRefusal write putToken
