@@ -1,5 +1,5 @@
-// A table of words: filled with zeros, and its words counted by blocks, so that a search (crate table_search) has
-// little to look at.
+// A table of words: filled with zeros, as are bytes; and its words counted by blocks, so that a search (crate
+// table_search) has little to look at.
 ghost use mathlib.Core.Path.{_≡_};
 ghost use Prim.Native.Nat.{_+_, _*_, _≤_, _<_, _^_};
 ghost use lib.ListN.{length, take, replicate};
@@ -28,6 +28,17 @@ pub fn zero(t: &mut [u32])
     while i < t.len() {
         t[i] = 0;
         i += 1;
+    }
+}
+
+// Makes every byte 0.
+pub fn clear(bytes: &mut [u8])
+    ensures { λ _. ⌜ now (bytes .exit) ≡ replicate (length (now (bytes .entry))) 0 ⌝ }
+{
+    let mut k = 0;
+    while k < bytes.len() {
+        bytes[k] = 0;
+        k += 1;
     }
 }
 
