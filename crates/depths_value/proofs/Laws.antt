@@ -41,14 +41,6 @@ end-last ss i len h = sym (List·getD-eq-default ss len (omega arith))
 
 -- ---- turns
 
--- a token read at an offset ends after it, in the region
-module _ (mode : Mode) (s : List ℕ) (at : ℕ) (r : ScanResult) (reported : scans.answerOf r ≡ scanAt mode false s at) (h : Head) (is : r ≡ Ok h) where
-  pub token-less : length s - h .end < length s - at
-  token-less = let i = scan-within mode false s at h (rw is at reported) in omega (arith, i .numbers, i .body, i .end)
-
-  pub token-inside : h .end ≤ length s
-  token-inside = scan-within mode false s at h (rw is at reported) .end
-
 abbrev Falls : List ℕ → DepthState → Turn DepthState ℕ → Type 0
 Falls s w (go v) = length s - v .at < length s - w .at
 Falls s w (stop a) = Unit {0}

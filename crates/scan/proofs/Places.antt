@@ -20,8 +20,10 @@ use Rattle.token.specs.Token.{Token, emit, Fits}
 use Rattle.token.specs.Scan.{scan}
 use Rattle.token.proofs.Laws.{length-token, drop-emit, scan-emit, emit-scan}
 use Rattle.token.proofs.Ends.{Left, scan-left, scan-item, item-pending}
-use Rattle.scan.specs.Answers.{headOf, scanAt}
+use Rattle.scan.specs.Answers.{answerOf, headOf, scanAt}
 use Rattle.scan.specs.declared.Head.{Head}
+use Rattle.scan.specs.declared.ScanResult.{ScanResult}
+use Rattle.scan.specs.declared.ScanResult.the-variants.{Ok}
 
 -- a head scanned at `at` of the region s: its offsets, that its kind allows its number, and that the body's bytes and,
 -- for a kind without a second number, the items are those that the kind has for n
@@ -67,6 +69,14 @@ within-left s at h (bad f) left e = seen-bad (length s) h f e
 pub scan-within : (mode : Mode) (inner : Bool) (s : List ℕ) (at : ℕ) (h : Head) → ok h ≡ scanAt mode inner s at → Within s at h
 unfolding scanAt
 scan-within mode inner s at h e = within-left s at h (scan mode inner at (drop at s)) (scan-left mode inner at (drop at s)) e
+
+-- what the code read at an offset ends after it, in the region
+module _ (mode : Mode) (s : List ℕ) (at : ℕ) (r : ScanResult) (reported : answerOf r ≡ scanAt mode false s at) (h : Head) (is : r ≡ Ok h) where
+  pub token-less : length s - h .end < length s - at
+  token-less = let i = scan-within mode false s at h (rw is at reported) in omega (arith, i .numbers, i .body, i .end)
+
+  pub token-inside : h .end ≤ length s
+  token-inside = scan-within mode false s at h (rw is at reported) .end
 
 seen-items : (len : ℕ) (h : Head) (t : Token) (rest : List ℕ) → ok h ≡ headOf len (got t rest) → h .items ≡ pending (rule (t .kind)) (t .n) (t .args)
 unfolding headOf

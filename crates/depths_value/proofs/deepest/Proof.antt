@@ -4,8 +4,9 @@ use Prim.Native.Nat.{_-_, _≤_}
 use lib.ListN.{length}
 use borrow.Author.Needs.{needs}
 use native.Mathlib.Omega.{arith}
+use Rattle.scan.proofs.Places.{token-less, token-inside}
 use Rattle.depths_value.specs.Depth.{depthState, deepestFrom, deepestIn}
-use Rattle.depths_value.proofs.Laws.{deepest-end, deepest-error, deepest-token, token-less, token-inside}
+use Rattle.depths_value.proofs.Laws.{deepest-end, deepest-error, deepest-token}
 use Rattle.depths_value.proofs.deepest.Statement.{statement}
 use Rattle.depths_value.proofs.deepest.Tie as tie
 
