@@ -1,2 +1,4 @@
 -- the ways through check
 pub mod Checks
+-- what check found
+pub mod Found
