@@ -3,8 +3,10 @@ use mathlib.Core.Path.{_≡_, sym, ap, _∙_}
 use mathlib.Core.List.{List, []}
 use Prim.Native.Nat.{ℕ, _+_, _-_, _≤_, _<_, _^_}
 use native.Mathlib.Omega.{arith}
-use lib.ListN.{length, take, drop}
+use lib.Dec.{leb}
+use lib.ListN.{length, take, drop, getD}
 use borrow.Rule.Slice.PartMut.{putMid}
+use Rattle.prelude.specs.Pick.{pick}
 use Rattle.prelude.specs.Answer.{ok, error}
 use Rattle.prelude.specs.Bytes.{Put}
 use Rattle.prelude.proofs.Parts.{putAt-part, length-part}
@@ -12,7 +14,7 @@ use Rattle.error.specs.Error.{numberOf}
 use Rattle.error.specs.declared.ErrorKind.{ErrorKind}
 use Rattle.token.specs.Token.{Token, token, emit}
 use Rattle.writer_refusal.specs.declared.State.{State}
-use Rattle.writer.specs.Step.{opens, tokenRefusal, startOf, Result, result, write, putToken}
+use Rattle.writer.specs.Step.{opens, tokenRefusal, startOf, Result, result, write, putToken, movedTo, putMoved}
 use Rattle.writer.specs.Answers.{answerOf, wrote}
 use Rattle.writer.specs.Internal.{FitOf, Advanced, Failed}
 use Rattle.writer.specs.declared.Fit.{Fit}
@@ -68,5 +70,11 @@ module _ (k x : ℕ) (s : State) (out table : List ℕ) (r : Result) where
 
   pub put-bytes : (n : ℕ) (b c : List ℕ) → r ≡ putToken (token k n 0 b) x s out table → b ≡ c → r ≡ putToken (token k n 0 c) x s out table
   put-bytes n b c e h = rw h at e
+
+-- a token that names the offset in word number i of the table
+pub put-moved : (k n a : ℕ) (b : List ℕ) (i x m : ℕ) (s : State) (out table : List ℕ) (r : Result) → x ≡ pick (leb 14 k) (getD table i 0) 0
+    → m ≡ pick (leb 14 k) (s .written - x - 1) n → r ≡ putToken (token k m a b) x s out table → r ≡ putMoved (token k n a b) i s out table
+unfolding putMoved movedTo
+put-moved k n a b i x m s out table r named number e = rw (number, named) at e
 
 pub ruleset may-advance = (start-word, free, end-word)

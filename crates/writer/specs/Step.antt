@@ -31,6 +31,9 @@
 --                      r if v is ok; if v is an error, that error, with state, output and table as they were
 --   putToken t target s out table
 --                      the token t, written or refused
+--   movedTo w x t      the token t as it is written after w bytes: if it is a reference or pointer, it names the offset x
+--   putMoved t k s out table
+--                      the token t, written or refused; if it is a reference or pointer, it names the offset in word number k of the table
 --   closeAt e s out table
 --                      a close at e, by the delta byte alone if that reaches back to e, else by a pointer and its delta
 --                      byte; written or refused. An e that is not below the bytes written has the distance 0, and is not listed
@@ -41,7 +44,7 @@ use mathlib.Core.Bool.{Bool, true, false, not, _&&_}
 use mathlib.Core.List.{List, [], _∷_}
 use lib.Dec.{eqb, ltb, leb}
 use lib.IntN.{ℤ, pos, negsuc}
-use lib.ListN.{length, set}
+use lib.ListN.{length, getD, set}
 use lib.Seq.{sets}
 use Rattle.prelude.specs.Pick.{pick}
 use Rattle.prelude.specs.Answer.{ok, error}
@@ -169,6 +172,12 @@ settled (error f) s out table r = result (error f) s out table
 
 unfoldable pub putToken : Token → ℕ → State → List ℕ → List ℕ → Result
 putToken t target s out table = settled (tokenRefusal (opens t) t target s out table) s out table (write t s out table)
+
+unfoldable pub movedTo : ℕ → ℕ → Token → Token
+movedTo w x t = token (t .kind) (pick (leb 14 (t .kind)) (w - x - 1) (t .n)) (t .args) (t .body)
+
+unfoldable pub putMoved : Token → ℕ → State → List ℕ → List ℕ → Result
+putMoved t k s out table = let x = pick (leb 14 (t .kind)) (getD table k 0) 0 in putToken (movedTo (s .written) x t) x s out table
 
 -- one delta byte reaches back 256 bytes
 unfoldable pub closeAt : ℕ → State → List ℕ → List ℕ → Result

@@ -6,12 +6,13 @@ use writer_refusal::State;
 ghost use mathlib.Core.Path.{_≡_};
 ghost use mathlib.Core.List.{[]};
 ghost use Prim.Native.Nat.{_+_, _-_, _<_, _^_};
-ghost use lib.ListN.{length};
+ghost use lib.Dec.{leb};
+ghost use lib.ListN.{length, getD};
 ghost use Rattle.prelude.specs.Pick.{pick};
 ghost use Rattle.kind.specs.Kind.{rule};
 ghost use Rattle.token.specs.Token.{token};
 ghost use Rattle.writer.specs.Call.{Call};
-ghost use Rattle.writer.specs.Step.{scalarOf, integerOf, startOf, putToken, fresh, step};
+ghost use Rattle.writer.specs.Step.{scalarOf, integerOf, startOf, putToken, putMoved, fresh, step};
 ghost use Rattle.writer.specs.Answers.{wrote};
 ghost use Rattle.writer.specs.Internal.{ListedTest, ArgumentTest, tokenFlagsBy, FitOf, Advanced, Failed, Refused, WroteDelta, closeNear, closeFar};
 
@@ -100,6 +101,28 @@ fn distance(w: usize, at: usize) -> u64
         return (w - at - 1) as u64;
     }
     0
+}
+
+// The offset that a token of this kind names: that in word number `number` of the table; 0 if the kind names none, or the table has no such word.
+fn named(kind: u8, starts: &[u32], number: usize) -> usize
+    ensures { λ r. ⌜ r ≡ pick (leb 14 kind) (getD (now (starts .entry)) number 0) 0 ⌝ }
+{
+    if kind::KIND_REFERENCE <= kind {
+        if number < starts.len() {
+            return starts[number] as usize;
+        }
+    }
+    0
+}
+
+// The number of a token written at the offset w: n, or the distance of the value at `at` if the kind names one.
+fn moved_number(kind: u8, n: u64, w: usize, at: usize) -> u64
+    ensures { λ r. ⌜ r ≡ pick (leb 14 kind) (w - at - 1) n ⌝ }
+{
+    if kind::KIND_REFERENCE <= kind {
+        return distance(w, at);
+    }
+    n
 }
 
 // The flags of a token. `good`: its text or target is right; `row`: the rule of its kind.
@@ -230,26 +253,73 @@ impl Writer {
         fit: Fit,
         kind: u8,
         n: u64,
+        args: u64,
         body: &[u8],
+        target: usize,
         out: &mut [u8],
         starts: &mut [u32],
     ) -> WriteResult
-        requires { ⌜ FitOf (token kind n 0 (now body)) 0 (self .state) (now out) (now starts) fit ⌝ }
+        requires { ⌜ FitOf (token kind n args (now body)) target (self .state) (now out) (now starts) fit ⌝ }
         ensures { λ r. ⌜ wrote r (now (out .exit)) (now (starts .exit))
-            ≡ putToken (token kind n 0 (now (body .entry))) 0 (self .state) (now (out .entry)) (now (starts .entry)) ⌝ }
+            ≡ putToken (token kind n args (now (body .entry))) target (self .state) (now (out .entry)) (now (starts .entry)) ⌝ }
     {
         let answer = fit.answer;
         match answer {
             WriteAnswer::Err(e) => self.fail(e),
             WriteAnswer::Ok => {
                 let written = self.state.written;
-                emit::put_within(&mut out[written..], kind, n, fit.second, 0, body);
+                emit::put_within(&mut out[written..], kind, n, fit.second, args, body);
                 WriteResult {
                     writer: self.advance(fit, starts),
                     answer: WriteAnswer::Ok,
                 }
             }
         }
+    }
+
+    // ---- a token of another file
+
+    // Whether the text or target of a token is right; `number`: the word of the table in which a target is looked for first.
+    fn is_good(self, kind: u8, body: &[u8], target: usize, number: usize, starts: &[u32]) -> bool
+        ensures { λ r. ⌜ ArgumentTest r kind (now (body .entry)) target (self .state) (now (starts .entry)) ⌝ }
+    {
+        if kind::KIND_REFERENCE <= kind {
+            return writer_listing::is_listed_near(
+                self.state.written,
+                self.state.count,
+                starts,
+                target,
+                number,
+            );
+        }
+        if kind == kind::KIND_TEXT {
+            return utf8::is_text(body);
+        }
+        true
+    }
+
+    // Writes or refuses a token that is given by its parts. A reference or pointer names the offset in word number `number` of the
+    // table, and n is not looked at.
+    pub fn put_moved(
+        self,
+        kind: u8,
+        n: u64,
+        args: u64,
+        body: &[u8],
+        number: usize,
+        out: &mut [u8],
+        starts: &mut [u32],
+    ) -> WriteResult
+        requires { ⌜ kind < 16 ⌝ }
+        ensures { λ r. ⌜ wrote r (now (out .exit)) (now (starts .exit))
+            ≡ putMoved (token kind n args (now (body .entry))) number (self .state) (now (out .entry)) (now (starts .entry)) ⌝ }
+    {
+        let target = named(kind, starts, number);
+        let moved = moved_number(kind, n, self.state.written, target);
+        let rule = kind::rule_of(kind);
+        let good = self.is_good(kind, body, target, number, starts);
+        let fit = self.fit(good, rule, kind, moved, args, body, target, out, starts);
+        self.put_body(fit, kind, moved, args, body, target, out, starts)
     }
 
     // ---- the close
@@ -385,7 +455,7 @@ impl Writer {
         let rule = kind::rule_of(kind);
         let body = little_endian::bytes4(bits);
         let fit = self.fit(true, rule, kind, 0, 0, &body, 0, out, starts);
-        self.put_body(fit, kind, 0, &body, out, starts)
+        self.put_body(fit, kind, 0, 0, &body, 0, out, starts)
     }
 
     pub fn float64(self, bits: u64, out: &mut [u8], starts: &mut [u32]) -> WriteResult
@@ -395,7 +465,7 @@ impl Writer {
         let rule = kind::rule_of(kind);
         let body = little_endian::bytes8(bits);
         let fit = self.fit(true, rule, kind, 1, 0, &body, 0, out, starts);
-        self.put_body(fit, kind, 1, &body, out, starts)
+        self.put_body(fit, kind, 1, 0, &body, 0, out, starts)
     }
 
     pub fn text(self, body: &[u8], out: &mut [u8], starts: &mut [u32]) -> WriteResult
@@ -407,7 +477,7 @@ impl Writer {
         let good = utf8::is_text(body);
         let n = body.len() as u64;
         let fit = self.fit(good, rule, kind, n, 0, body, 0, out, starts);
-        self.put_body(fit, kind, n, body, out, starts)
+        self.put_body(fit, kind, n, 0, body, 0, out, starts)
     }
 
     pub fn bytes(self, body: &[u8], out: &mut [u8], starts: &mut [u32]) -> WriteResult
@@ -418,7 +488,7 @@ impl Writer {
         let rule = kind::rule_of(kind);
         let n = body.len() as u64;
         let fit = self.fit(true, rule, kind, n, 0, body, 0, out, starts);
-        self.put_body(fit, kind, n, body, out, starts)
+        self.put_body(fit, kind, n, 0, body, 0, out, starts)
     }
 
     // A variant with no argument.

@@ -100,6 +100,21 @@ pub fn is_listed(written: usize, count: usize, starts: &[u32], at: usize) -> boo
     is_among(&starts[..count], at as u32)
 }
 
+// The same as `is_listed`; `at` is first looked for in word number `near`.
+pub fn is_listed_near(written: usize, count: usize, starts: &[u32], at: usize, near: usize) -> bool
+    ensures { λ r. ⌜ (written ≤ LIMIT → count ≤ length (now (starts .entry)) → r ≡ ltb at written && among at (take count (now (starts .entry)))) ⌝ }
+{
+    if starts.len() < count {
+        return false;
+    }
+    if near < count {
+        if starts[near] as usize == at {
+            return at < written;
+        }
+    }
+    is_listed(written, count, starts, at)
+}
+
 // Lists a start in word number `count` if no item is left pending, and returns how many are listed.
 pub fn list_start(left: u64, start: usize, count: usize, starts: &mut [u32]) -> usize
     requires { ⌜ (start < 2 ^ 32) × (count < length (now starts)) ⌝ }
