@@ -56,7 +56,7 @@ invariant-given cs g n m = invariant-run AllowedPart cs (each-imp Given _ allowe
 -- ---- a part at its offset
 
 -- references and pointers have the same rule
-rule-far : (k : ℕ) → 14 ≤ k → 0 < rule k .lows → rule k ≡ rule 15
+pub rule-far : (k : ℕ) → 14 ≤ k → 0 < rule k .lows → rule k ≡ rule 15
 unfolding rule
 rule-far k far used =
     let most = used-lt k used in

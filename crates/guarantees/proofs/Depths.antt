@@ -53,16 +53,16 @@ ends at (x ∷ a) v b len e =
     let ih = ends (at + length (bytes (tokens x))) a v b len (omega (arith, length-append (bytes (tokens x)) (region (a ++ (v ∷ b))))) in
     omega (arith, length-append (bytes (tokens x)) (region a))
 
-ends-next : (a : List Value) (v : Value) (b : List Value)
+pub ends-next : (a : List Value) (v : Value) (b : List Value)
     → getD (starts 0 (a ++ (v ∷ b))) (suc (length a)) (length (region (a ++ (v ∷ b)))) ≡ length (region a) + length (bytes (tokens v))
 ends-next a v b = ends 0 a v b (length (region (a ++ (v ∷ b)))) (omega arith) ∙ omega arith
 
 -- one value more
-length-snoc : (a : List Value) (v : Value) → length (region (a ++ (v ∷ []))) ≡ length (region a) + length (bytes (tokens v))
+pub length-snoc : (a : List Value) (v : Value) → length (region (a ++ (v ∷ []))) ≡ length (region a) + length (bytes (tokens v))
 unfolding region
 length-snoc a v = ap length (region-append a (v ∷ [])) ∙ length-append (region a) (bytes (tokens v) ++ []) ∙ rw append-nil
 
-starts-snoc : (a : List Value) (v : Value) → starts 0 (a ++ (v ∷ [])) ≡ starts 0 a ++ (length (region a) ∷ [])
+pub starts-snoc : (a : List Value) (v : Value) → starts 0 (a ++ (v ∷ [])) ≡ starts 0 a ++ (length (region a) ∷ [])
 unfolding starts
 starts-snoc a v = starts-append 0 a (v ∷ []) ∙ rw zero-add
 

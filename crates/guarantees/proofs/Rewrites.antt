@@ -78,7 +78,7 @@ unfolding partOf
 pending-part q t =
     split (t .kind) 14 (λ l. rw (lt-leb 14 (t .kind) l) (omega arith)) (λ l. rw (target-each (t .kind) l) (omega arith))
 
-bytes-body : (t : Token) → Bytes (emit t) → Bytes (t .body)
+pub bytes-body : (t : Token) → Bytes (emit t) → Bytes (t .body)
 unfolding emit
 bytes-body t b = bytes-after (t .argsBytes) (t .body) (bytes-after (t .nBytes) _ (b .1))
 

@@ -113,10 +113,10 @@ has-targets vs i = getD (targetsOf 0 vs) i []
 
 module _ {mode : Mode} (vs : List Value) (ok : Values mode vs) where
   -- so the value that starts at a target has a lower number
-  before : (i : ℕ) → i < length vs → Each (λ x. (number vs x < i) × (getD (starts 0 vs) (number vs x) 0 ≡ x)) (has-targets vs i)
+  pub before : (i : ℕ) → i < length vs → Each (λ x. (number vs x < i) × (getD (starts 0 vs) (number vs x) 0 ≡ x)) (has-targets vs i)
   before i h = each-imp _ _ (λ x m. among-take x (starts 0 vs) i (rising-starts 0 vs) m) (has-targets vs i) (targets-before [] 0 vs i h (ok .targets))
 
-  number-start : (j : ℕ) → j < length vs → number vs (getD (starts 0 vs) j 0) ≡ j
+  pub number-start : (j : ℕ) → j < length vs → number vs (getD (starts 0 vs) j 0) ≡ j
   number-start j h = rank-getD (starts 0 vs) (rising-starts 0 vs) j (omega (arith, length-starts 0 vs))
 
   pub leads-earlier : (i j : ℕ) → i < length vs → Leads vs i j → j < i

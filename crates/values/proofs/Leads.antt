@@ -70,7 +70,7 @@ targets-at q (u ∷ front) t back k =
 
 -- ---- by value
 
-targetsOf-at : (at : ℕ) (a : List Value) (v : Value) (b : List Value)
+pub targetsOf-at : (at : ℕ) (a : List Value) (v : Value) (b : List Value)
     → getD (targetsOf at (a ++ (v ∷ b))) (length a) [] ≡ targets (at + length (region a)) (tokens v)
 unfolding targetsOf region
 targetsOf-at at [] v b = rw add-zero
