@@ -1,0 +1,2 @@
+-- the ways through prune
+mod Laws

@@ -1,0 +1,2 @@
+-- values written again
+mod Laws

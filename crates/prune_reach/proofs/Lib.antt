@@ -1,0 +1,2 @@
+-- marks set token by token
+mod Laws

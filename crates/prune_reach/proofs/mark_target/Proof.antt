@@ -1,0 +1,19 @@
+-- `prune_reach::mark_target` meets its contract.
+use mathlib.Core.Path.{refl}
+use borrow.Author.Needs.{needs}
+use borrow.Author.Tests.{le-leb, lt-leb}
+use Rattle.prune_reach.proofs.Laws.{target-marked}
+use Rattle.prune_reach.proofs.mark_target.Statement.{statement}
+use Rattle.prune_reach.proofs.mark_target.Tie as tie
+
+pub mark-target-spec : {M : Type 1} → statement M
+mark-target-spec =
+    tie.close
+    (tie.spec
+    (λ c κs. search needs)
+    (λ c κs. search needs)
+    (λ c κs. search needs)
+    (λ c. search needs)
+    (λ c. let f = c .before .before .before .before .before .before in
+    rw (le-leb _ _ (f .before .if1 .taken)) (search needs, search target-marked))
+    (λ c. rw (lt-leb _ _ (c .if1 .left)) (search needs, search needs)))

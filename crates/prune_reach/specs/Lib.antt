@@ -1,0 +1,2 @@
+-- what the entry reaches
+pub mod Reach

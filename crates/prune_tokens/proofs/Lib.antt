@@ -1,0 +1,2 @@
+-- the tokens of a value, one after the other
+pub mod Heads

@@ -1,0 +1,2 @@
+-- the tokens of a value
+pub mod Tokens
