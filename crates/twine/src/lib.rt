@@ -15,6 +15,7 @@ ghost use Rattle.abi_error.specs.Reply.{nameC, reply};
 ghost use Rattle.abi_answer.specs.Answers.{modeOf, offsetC, pairC};
 ghost use Rattle.twine.specs.Tables.{checkReply, checkC, depthsReply, depthsC};
 ghost use Rattle.abi_answer.specs.Read.{readC};
+ghost use Rattle.abi_prune.specs.Prune.{pruneReply, pruneC};
 ghost use Rattle.abi_writer.specs.Calls.{wordsOf, truth, called, stepC};
 
 // ---- version
@@ -63,6 +64,23 @@ pub extern "C" fn twine_depths(
         depths::depths(file, starts, depths, abi_answer::mode_of(mode)),
         out,
     )
+}
+
+// ---- prune
+
+// `prune::prune`: length, count and entry of the new file.
+#[no_mangle]
+pub extern "C" fn twine_prune(
+    file: &[u8],
+    out: &mut [u8],
+    old: &mut [u32],
+    new: &mut [u32],
+    told: &mut [u64; 3],
+) -> u32
+    ensures { λ r. ⌜ pruneReply (reply r (now (told .exit))) (now (out .exit)) (now (old .exit)) (now (new .exit))
+        ≡ pruneC (now (file .entry)) (now (out .entry)) (length (now (old .entry))) (length (now (new .entry))) ⌝ }
+{
+    abi_prune::answer_prune(prune::prune(file, out, old, new), told)
 }
 
 // ---- queries

@@ -1,0 +1,2 @@
+-- what prune answers and leaves
+pub mod Prune
