@@ -50,8 +50,10 @@ module _ (mode : Mode) (file : List ℕ) (cap : ℕ) where
           → Finds (bind a (λ done. bind (entryAt (length file - 1) (getD file (length file - 1) 0) done) (λ e. ok (done, e))))
       by-cases some short (ok ss) e =
           let c = come mode (take (length file - 1) file) cap ss (sym e) in
-          pick-elim (λ (a : Answer Fault ℕ). Finds (bind a (λ x. ok (ss, x)))) (ltb (getD file (length file - 1) 0) (length file - 1) && among (length file - 1 - getD file (length file - 1) 0 - 1) ss)
-          (λ t. record { some = some; short = short; fits = c .1; rising = c .0; inside = c .2; start = and-r (ltb (getD file (length file - 1) 0) (length file - 1)) _ t })
+          let p = length file - 1 in
+          let d = getD file p 0 in
+          pick-elim (λ (a : Answer Fault ℕ). Finds (bind a (λ x. ok (ss, x)))) (ltb d p && among (p - d - 1) ss)
+          (λ t. record { some = some; short = short; fits = c .1; rising = c .0; inside = c .2; start = and-r (ltb d p) (among (p - d - 1) ss) t })
           (λ t. tt)
       by-cases some short (error f) e = tt
 
@@ -103,7 +105,8 @@ module _ (mode : Mode) (file t : List ℕ) (cap : ℕ) (r : CheckResult) (left :
   unfolding checkOf
   refused f is = by-cases (checkIn mode file cap) (rw is at left)
     where
-      by-cases : (a : Answer Fault ((List ℕ) × ℕ)) → checked (error (errors.faultOf f)) t ≡ listed cap a → (a ≡ error (errors.faultOf f)) × (t ≡ replicate cap 0)
+      by-cases : (a : Answer Fault ((List ℕ) × ℕ)) → checked (error (errors.faultOf f)) t ≡ listed cap a
+          → (a ≡ error (errors.faultOf f)) × (t ≡ replicate cap 0)
       by-cases (ok p) q = ok-error (sym (ap (λ (x : Checked). x .answer) q))
       by-cases (error g) q =
           let same : _≡_ {A = Answer Fault (ℕ × ℕ)} (error (errors.faultOf f)) (error g) = ap (λ (x : Checked). x .answer) q in

@@ -99,7 +99,8 @@ module _ (x : Result) (f : State → List ℕ → List ℕ → Result) (v : Writ
 pub close-new : (s ss : List ℕ) (ms : List Bool) (n k : ℕ) (w : State) (out table : List ℕ) → w ≡ fresh → (v : WriteResult) (o t : List ℕ)
     → wrote v o t ≡ copyValues s ss ms n 0 w out table → v .answer ≡ answers.Ok → (x : ℕ) → x ≡ getD t k 0 → (y : Result) → y ≡ closeAt x (v .writer .state) o t
     → y ≡ andOn (copyValues s ss ms n 0 fresh out table) (closeNumber k)
-close-new s ss ms n k w out table new v o t e is x at-k y own = and-accepted (copyValues s ss ms n 0 fresh out table) (closeNumber k) v o t (rw new at e) is y (rw at-k at own)
+close-new s ss ms n k w out table new v o t e is x at-k y own =
+    and-accepted (copyValues s ss ms n 0 fresh out table) (closeNumber k) v o t (rw new at e) is y (rw at-k at own)
 
 pub stop-new : (s ss : List ℕ) (ms : List Bool) (n k : ℕ) (w : State) (out table : List ℕ) → w ≡ fresh → (v : WriteResult) (o t : List ℕ)
     → wrote v o t ≡ copyValues s ss ms n 0 w out table → (f : ErrorKind) → v .answer ≡ answers.Err f

@@ -57,8 +57,9 @@ moved-any t k w out table = by-cases (leb 14 (t .kind)) refl
     by-cases true e = refl
     by-cases false e = rw e
 
-pub token-copied : (s : List ℕ) (h : Head) (a : ℕ) (b : List ℕ) (j k : ℕ) (w : State) (out table : List ℕ) (r : Result) → a ≡ pick (rule (h .kind) .args) (h .items) 0
-    → b ≡ bodyOn s h → j ≡ pick (leb 14 (h .kind)) k 0 → r ≡ putMoved (token (h .kind) (h .n) a b) j w out table → r ≡ putMoved (tokenOf s h) k w out table
+pub token-copied : (s : List ℕ) (h : Head) (a : ℕ) (b : List ℕ) (j k : ℕ) (w : State) (out table : List ℕ) (r : Result)
+    → a ≡ pick (rule (h .kind) .args) (h .items) 0 → b ≡ bodyOn s h → j ≡ pick (leb 14 (h .kind)) k 0
+    → r ≡ putMoved (token (h .kind) (h .n) a b) j w out table → r ≡ putMoved (tokenOf s h) k w out table
 token-copied s h a b j k w out table r ea eb ej e = (rw (ea, eb, ej) at e) ∙ moved-any (tokenOf s h) k w out table
 
 -- ---- the tokens of a value
@@ -71,7 +72,8 @@ module _ (s : List ℕ) (at : ℕ) (r : ScanResult) (reported : scans.answerOf r
   head-before short = let w = scan-within Strict false s at h (rw is at reported) in omega (arith, w .numbers, w .body, w .end)
 
 -- x is the result that is looked for
-module _ (s ss : List ℕ) (ms : List Bool) (end at : ℕ) (w : State) (out table : List ℕ) (x : Result) (so : copyTokens s ss ms (heads s end at) w out table ≡ x) where
+module _ (s ss : List ℕ) (ms : List Bool) (end at : ℕ) (w : State) (out table : List ℕ) (x : Result)
+    (so : copyTokens s ss ms (heads s end at) w out table ≡ x) where
   pub copy-end : end ≤ at → result (ok tt) w out table ≡ x
   unfolding copyTokens
   copy-end h = rw (heads-end s end at h) at so

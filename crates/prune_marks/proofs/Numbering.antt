@@ -2,14 +2,14 @@
 --
 -- In order: marks counted; digits stored, and the number that four of them make; the marks numbered, four words at a time; the number of a word.
 use mathlib.Core.Path.{_≡_, refl, sym, ap, _∙_}
-use mathlib.Core.Bool.{Bool, false}
+use mathlib.Core.Bool.{Bool, true, false}
 use mathlib.Core.List.{List, [], _∷_, _++_, map, append-assoc}
-use Prim.Native.Nat.{ℕ, suc, _+_, _-_, _*_, _/_, _%_, _^_, _≤_, _<_}
+use Prim.Native.Nat.{ℕ, zero, suc, _+_, _-_, _*_, _/_, _%_, _^_, _≤_, _<_}
 use native.Mathlib.Nat.{add-zero, add-suc, suc-add}
 use native.Mathlib.Numerals.{add-one}
 use native.Mathlib.Omega.{arith}
 use borrow.Author.Tests.{eq-eqb, ne-eqb}
-use lib.Dec.{eqb}
+use lib.Dec.{eqb, leb}
 use lib.ListN.{length, take, drop, getD, set, length-map, List·getD-map}
 use lib.Seq.{map-set-same, take-suc, length-take-le, getD-drop, drop-at, getD-set-other, sets, sets-eq}
 use Rattle.prelude.specs.Pick.{pick}
@@ -136,3 +136,38 @@ pub place-is : (t : List ℕ) (g n r i : ℕ) → NumberedTo (length t) t → n 
 place-is t g n r i numbered is some inside e =
     let all : 4 * (g - 1) + 4 ≡ 4 * g = omega arith in
     omega (arith, numbered (g - 1) (omega arith), ap (λ m. kept (take m (marksIn t))) all)
+
+-- a mark, taken or not
+pub mark-le : (w : ℕ) (b : Bool) (x : ℕ) → x ≡ pick b 1 0 → w % 2 * x ≤ 1
+mark-le w true x e = rw e (omega arith)
+mark-le w false x e = rw e (omega arith)
+
+pub mark-fits : (w : ℕ) (b : Bool) (x : ℕ) → x ≡ pick b 1 0 → w % 2 * x < 2 ^ 64
+mark-fits w b x e = omega (arith, mark-le w b x e)
+
+-- the marks of four words, without the first r
+module _ (t : List ℕ) (i : ℕ) (inside : i + 4 ≤ length t) where
+  abbrev upTo : ℕ → ℕ
+  upTo n = kept (take n (marksIn t))
+
+  -- one word more
+  on : (k : ℕ) → k < 4 → upTo (i + suc k) ≡ upTo (i + k) + getD t (i + k) 0 % 2
+  on k h = let n : i + suc k ≡ i + k + 1 = omega arith in rw n (kept-on t (i + k) (omega arith))
+
+  first : upTo (i + 1) ≡ upTo i + getD t i 0 % 2
+  first = kept-on t i (omega arith)
+
+  pub four-marks : (r a b c d : ℕ) → r < 4 → a ≡ getD t i 0 % 2 * pick (leb r 0) 1 0 → b ≡ getD t (i + 1) 0 % 2 * pick (leb r 1) 1 0
+      → c ≡ getD t (i + 2) 0 % 2 * pick (leb r 2) 1 0 → d ≡ getD t (i + 3) 0 % 2 * pick (leb r 3) 1 0 → upTo (i + r) + (a + b + c + d) ≡ upTo (i + 4)
+  four-marks zero a b c d h ea eb ec ed = rw add-zero (omega (arith, first, on 1 (omega arith), on 2 (omega arith), on 3 (omega arith)))
+  four-marks (suc zero) a b c d h ea eb ec ed = omega (arith, on 1 (omega arith), on 2 (omega arith), on 3 (omega arith))
+  four-marks (suc (suc zero)) a b c d h ea eb ec ed = omega (arith, on 2 (omega arith), on 3 (omega arith))
+  four-marks (suc (suc (suc zero))) a b c d h ea eb ec ed = omega (arith, on 3 (omega arith))
+  four-marks (suc (suc (suc (suc r)))) a b c d h ea eb ec ed = absurd (omega arith)
+
+  -- what four words keep, less their marks from number i + r on
+  pub place-in : NumberedTo (length t) t → (g r n x j : ℕ) → i ≡ 4 * g → r < 4 → j ≡ i + r → n ≡ four t i → upTo (i + r) + x ≡ upTo (i + 4)
+      → (x ≤ n) × (n - x ≡ upTo j)
+  place-in numbered g r n x j at-g small is e f =
+      let all : n ≡ upTo (i + 4) = e ∙ rw at-g (numbered g (omega arith)) in
+      (omega arith, rw is (omega arith))

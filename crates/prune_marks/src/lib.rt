@@ -3,8 +3,10 @@
 ghost use mathlib.Core.Path.{_≡_};
 ghost use mathlib.Core.Bool.{true, false};
 ghost use mathlib.Core.List.{[], _∷_};
-ghost use Prim.Native.Nat.{suc, _+_, _≤_, _<_, _^_};
+ghost use Prim.Native.Nat.{suc, _+_, _*_, _%_, _≤_, _<_, _^_};
+ghost use lib.Dec.{leb};
 ghost use lib.ListN.{length, take, getD, set, replicate};
+ghost use Rattle.prelude.specs.Pick.{pick};
 ghost use Rattle.prelude.specs.Search.{rank, Rising};
 ghost use Rattle.table.specs.Blocks.{Counted, Below};
 ghost use Rattle.prune_marks.specs.Marks.{startsIn, marksIn, kept, digit, four, NumberedTo, Indexed, Numbers};
@@ -173,9 +175,38 @@ fn number_at(t: &[u32], i: usize) -> usize
         + 2097152 * digit_at(t, i + 3)
 }
 
-// How many words are marked before number i: the number that the four words before i's own four keep, and at most three
-// marks.
-pub fn place(t: &[u32], i: usize) -> usize
+// 1 if j is at least r, else 0.
+fn at_least(j: usize, r: usize) -> usize
+    ensures { λ x. ⌜ (x ≡ pick (leb r j) 1 0) × (x ≤ 1) ⌝ }
+{
+    if j < r {
+        return 0;
+    }
+    1
+}
+
+// 1 if word number i is marked and j is at least r, else 0: a product, so that nothing depends on a branch prediction.
+fn mark_from(t: &[u32], i: usize, j: usize, r: usize) -> usize
+    requires { ⌜ i < length (now t) ⌝ }
+    ensures { λ x. ⌜ (x ≡ getD (now (t .entry)) i 0 % 2 * pick (leb r j) 1 0) × (x ≤ 1) ⌝ }
+{
+    (t[i] % 2) as usize * at_least(j, r)
+}
+
+// How many of the four words from number i on are marked, without the first r.
+fn marks_from(t: &[u32], i: usize, r: usize) -> usize
+    requires { ⌜ (i + 4 ≤ length (now t)) × (r < 4) ⌝ }
+    ensures { λ x. ⌜ kept (take (i + r) (marksIn (now (t .entry)))) + x ≡ kept (take (i + 4) (marksIn (now (t .entry)))) ⌝ }
+{
+    mark_from(t, i, 0, r)
+        + mark_from(t, i + 1, 1, r)
+        + mark_from(t, i + 2, 2, r)
+        + mark_from(t, i + 3, 3, r)
+}
+
+// How many words are marked before number i, one of the last words that make no four: the number that the four words before
+// them keep, and at most three marks.
+fn place_at_end(t: &[u32], i: usize) -> usize
     requires { ⌜ (i ≤ length (now t)) × (NumberedTo (length (now t)) (now t)) ⌝ }
     ensures { λ r. ⌜ r ≡ kept (take i (marksIn (now (t .entry)))) ⌝ }
 {
@@ -184,4 +215,16 @@ pub fn place(t: &[u32], i: usize) -> usize
     }
     let g = i / 4;
     number_at(t, 4 * (g - 1)) + count(t, 4 * g, i)
+}
+
+// How many words are marked before number i: the number that i's own four words keep, less their marks from i on.
+pub fn place(t: &[u32], i: usize) -> usize
+    requires { ⌜ (i ≤ length (now t)) × (NumberedTo (length (now t)) (now t)) ⌝ }
+    ensures { λ r. ⌜ r ≡ kept (take i (marksIn (now (t .entry)))) ⌝ }
+{
+    let first = i / 4 * 4;
+    if t.len() < first + 4 {
+        return place_at_end(t, i);
+    }
+    number_at(t, first) - marks_from(t, first, i % 4)
 }

@@ -6,8 +6,7 @@ use writer_refusal::State;
 ghost use mathlib.Core.Path.{_≡_};
 ghost use mathlib.Core.List.{[]};
 ghost use Prim.Native.Nat.{_+_, _-_, _<_, _^_};
-ghost use lib.Dec.{leb};
-ghost use lib.ListN.{length, getD};
+ghost use lib.ListN.{length};
 ghost use Rattle.prelude.specs.Pick.{pick};
 ghost use Rattle.kind.specs.Kind.{rule};
 ghost use Rattle.token.specs.Token.{token};
@@ -91,38 +90,6 @@ fn magnitude(z: i64) -> u64
         return (-1 - z) as u64;
     }
     z as u64
-}
-
-// How far the value at `at` is before a header at the offset w, as the file stores it; 0 if it is not before it.
-fn distance(w: usize, at: usize) -> u64
-    ensures { λ r. ⌜ r ≡ w - at - 1 ⌝ }
-{
-    if at < w {
-        return (w - at - 1) as u64;
-    }
-    0
-}
-
-// The offset that a token of this kind names: that in word number `number` of the table; 0 if the kind names none, or the table has no such word.
-fn named(kind: u8, starts: &[u32], number: usize) -> usize
-    ensures { λ r. ⌜ r ≡ pick (leb 14 kind) (getD (now (starts .entry)) number 0) 0 ⌝ }
-{
-    if kind::KIND_REFERENCE <= kind {
-        if number < starts.len() {
-            return starts[number] as usize;
-        }
-    }
-    0
-}
-
-// The number of a token written at the offset w: n, or the distance of the value at `at` if the kind names one.
-fn moved_number(kind: u8, n: u64, w: usize, at: usize) -> u64
-    ensures { λ r. ⌜ r ≡ pick (leb 14 kind) (w - at - 1) n ⌝ }
-{
-    if kind::KIND_REFERENCE <= kind {
-        return distance(w, at);
-    }
-    n
 }
 
 // The flags of a token. `good`: its text or target is right; `row`: the rule of its kind.
@@ -314,8 +281,8 @@ impl Writer {
         ensures { λ r. ⌜ wrote r (now (out .exit)) (now (starts .exit))
             ≡ putMoved (token kind n args (now (body .entry))) number (self .state) (now (out .entry)) (now (starts .entry)) ⌝ }
     {
-        let target = named(kind, starts, number);
-        let moved = moved_number(kind, n, self.state.written, target);
+        let target = writer_target::named(kind, starts, number);
+        let moved = writer_target::moved_number(kind, n, self.state.written, target);
         let rule = kind::rule_of(kind);
         let good = self.is_good(kind, body, target, number, starts);
         let fit = self.fit(good, rule, kind, moved, args, body, target, out, starts);
@@ -507,7 +474,7 @@ impl Writer {
     {
         let kind = kind::KIND_REFERENCE;
         let rule = kind::rule_of(kind);
-        let n = distance(self.state.written, at);
+        let n = writer_target::distance(self.state.written, at);
         let good = writer_listing::is_listed(self.state.written, self.state.count, starts, at);
         let fit = self.fit(good, rule, kind, n, 0, b"", at, out, starts);
         self.put_token(fit, kind, n, 0, at, out, starts)
@@ -519,7 +486,7 @@ impl Writer {
     {
         let kind = kind::KIND_POINTER;
         let rule = kind::rule_of(kind);
-        let n = distance(self.state.written, at);
+        let n = writer_target::distance(self.state.written, at);
         let good = writer_listing::is_listed(self.state.written, self.state.count, starts, at);
         let fit = self.fit(good, rule, kind, n, 0, b"", at, out, starts);
         self.put_token(fit, kind, n, 0, at, out, starts)
@@ -589,7 +556,7 @@ impl Writer {
         ensures { λ r. ⌜ wrote r (now (out .exit)) (now (starts .exit)) ≡ step (Call.close at) (self .state) (now (out .entry)) (now (starts .entry)) ⌝ }
     {
         let good = writer_listing::is_listed(self.state.written, self.state.count, starts, at);
-        let back = distance(self.state.written, at);
+        let back = writer_target::distance(self.state.written, at);
         if back <= 255 {
             return self.close_near(good, at, back as u8, out, starts);
         }

@@ -1,10 +1,10 @@
--- `writer::named` meets its contract.
+-- `writer_target::named` meets its contract.
 use native.Mathlib.Omega.{arith}
 use borrow.Author.Needs.{needs}
 use borrow.Author.Tests.{le-leb, lt-leb}
 use Rattle.prelude.proofs.Lists.{getD-past}
-use Rattle.writer.proofs.named.Statement.{statement}
-use Rattle.writer.proofs.named.Tie as tie
+use Rattle.writer_target.proofs.named.Statement.{statement}
+use Rattle.writer_target.proofs.named.Tie as tie
 
 pub named-spec : {M : Type 1} → statement M
 named-spec =
