@@ -1,6 +1,9 @@
 //! The calls of a writer.
 
+use crate::error::Error;
 use crate::kind::Scalar;
+use crate::leb128::Mode;
+use crate::query::{body, read, Value};
 
 /// A call: "each immediate; open array, map, tag, variant of one, variant of many; close at a start."
 ///
@@ -38,4 +41,38 @@ pub enum Call<'a> {
     VariantN(u32, u64),
     /// Closes the file; the entry is the value at an offset.
     Close(u64),
+}
+
+impl<'a> Call<'a> {
+    /// The call that writes the value or the item at an offset of a file again, an opening without its items. A target is the
+    /// offset that it has in the file.
+    pub fn of(file: &'a [u8], mode: Mode, at: u64) -> Result<Self, Error> {
+        Ok(match read(file, mode, at)? {
+            Value::Scalar(scalar) => Self::Scalar(scalar),
+            Value::Integer(integer) => Self::Integer(integer),
+            Value::Float32(bits) => Self::Float32(bits),
+            Value::Float64(bits) => Self::Float64(bits),
+            Value::Text(_) => Self::Text(body(file, mode, at)),
+            Value::Bytes(_) => Self::Bytes(body(file, mode, at)),
+            Value::Array { items, .. } => Self::Array(items),
+            Value::Map { pairs, .. } => Self::Map(pairs),
+            Value::Tag { tag, .. } => Self::Tag(tag),
+            Value::Variant0 { index } => Self::Variant0(index),
+            Value::Variant1 { index, .. } => Self::Variant1(index),
+            Value::VariantN { index, arguments, .. } => Self::VariantN(index, arguments),
+            Value::Reference { target } => Self::Reference(target as u64),
+            Value::Pointer { target } => Self::Pointer(target as u64),
+        })
+    }
+
+    /// The items that it opens; more than 64 bits can count for a map of 2^63 pairs or more.
+    #[must_use]
+    pub const fn items(&self) -> u128 {
+        match *self {
+            Self::Array(items) | Self::VariantN(_, items) => items as u128,
+            Self::Map(pairs) => 2 * pairs as u128,
+            Self::Tag(_) | Self::Variant1(_) => 1,
+            _ => 0,
+        }
+    }
 }

@@ -2,9 +2,9 @@
 //!
 //! Documents 000 and 001 describe the format; document 01, "Build requirements and exact rules for plan files", decides, and
 //! document 02, "Requests from the first year", changes it. What is in quotation marks in this crate is a sentence of document
-//! 01, or of the requests W-201 to W-203 of document 02; in `utf8` also of RFC 3629.
+//! 01, or of the requests W-201 to W-204 of document 02; in `utf8` also of RFC 3629.
 //!
-//! Nothing but [`model`] and [`export()`] takes memory of its own: files, outputs and tables are lent by the caller.
+//! Nothing but [`model`], [`export()`] and [`prune()`] takes memory of its own: files, outputs and tables are lent by the caller.
 
 #![forbid(unsafe_code)]
 #![warn(missing_docs)]
@@ -18,6 +18,7 @@ mod file;
 pub mod kind;
 mod leb128;
 pub mod model;
+mod prune;
 pub mod query;
 mod scan;
 #[cfg(test)]
@@ -34,6 +35,7 @@ pub use export::export;
 pub use file::MAX_LEN;
 pub use kind::Scalar;
 pub use leb128::Mode;
+pub use prune::{prune, Pruned, Refusal};
 pub use query::{body, body_place, follow, item, lookup, read, skip, Value};
 pub use scan::Checked;
 pub use token::{tokens, Token};

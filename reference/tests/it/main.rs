@@ -5,6 +5,7 @@ mod lines;
 mod model;
 mod modes;
 mod plain;
+mod prune;
 mod random;
 mod rewrite;
 mod states;

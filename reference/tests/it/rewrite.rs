@@ -1,6 +1,6 @@
 //! A well-formed file, read value by value and written again, has the same bytes.
 
-use reference::{body, check, depths, export, item, read, Call, ErrorKind, Mode, Value, Writer};
+use reference::{check, depths, export, item, Call, ErrorKind, Mode, Writer};
 
 use crate::random::Random;
 
@@ -11,35 +11,15 @@ pub fn calls_of(file: &[u8], mode: Mode) -> Vec<Call<'_>> {
     let mut calls = Vec::new();
     for start in &starts[..checked.count] {
         let start = u64::from(*start);
-        let (call, items) = call_at(file, mode, start);
+        let call = Call::of(file, mode, start).expect("a value");
         calls.push(call);
-        for index in 0..items {
+        for index in 0..call.items() as u64 {
             let offset = item(file, mode, start, index).expect("an item");
-            calls.push(call_at(file, mode, offset as u64).0);
+            calls.push(Call::of(file, mode, offset as u64).expect("an item"));
         }
     }
     calls.push(Call::Close(checked.entry as u64));
     calls
-}
-
-/// The call of the value at an offset, and the items that it opens.
-fn call_at(file: &[u8], mode: Mode, at: u64) -> (Call<'_>, u64) {
-    match read(file, mode, at).expect("a value") {
-        Value::Scalar(scalar) => (Call::Scalar(scalar), 0),
-        Value::Integer(integer) => (Call::Integer(integer), 0),
-        Value::Float32(bits) => (Call::Float32(bits), 0),
-        Value::Float64(bits) => (Call::Float64(bits), 0),
-        Value::Text(_) => (Call::Text(body(file, mode, at)), 0),
-        Value::Bytes(_) => (Call::Bytes(body(file, mode, at)), 0),
-        Value::Array { items, .. } => (Call::Array(items), items),
-        Value::Map { pairs, .. } => (Call::Map(pairs), 2 * pairs),
-        Value::Tag { tag, .. } => (Call::Tag(tag), 1),
-        Value::Variant0 { index } => (Call::Variant0(index), 0),
-        Value::Variant1 { index, .. } => (Call::Variant1(index), 1),
-        Value::VariantN { index, arguments, .. } => (Call::VariantN(index, arguments), arguments),
-        Value::Reference { target } => (Call::Reference(target as u64), 0),
-        Value::Pointer { target } => (Call::Pointer(target as u64), 0),
-    }
 }
 
 /// Writes a well-formed file again, with just enough room and words.
@@ -102,7 +82,7 @@ fn spoilt_files_that_are_still_well_formed() {
 
 /// The calls that write the values of a well-formed file, with each target as the number of the value that starts there, and
 /// the depths of the values.
-fn numbered(file: &[u8], mode: Mode) -> (Vec<Call<'_>>, Vec<u32>) {
+pub fn numbered(file: &[u8], mode: Mode) -> (Vec<Call<'_>>, Vec<u32>) {
     let mut starts = vec![0; file.len()];
     let mut words = starts.clone();
     let count = depths(file, mode, &mut starts, &mut words).expect("a well-formed file").count;
