@@ -1,5 +1,5 @@
-/* Runs the samples of document 01 through the C ABI, in both modes, and calls of the writer on states that hold
-   anything. Prints what differs, a line each, and exits with 1 if anything does. */
+/* Runs the samples of document 01 through the C ABI, in both modes, calls of the writer on states that hold
+   anything, and prune with memory of every length. Prints what differs, a line each, and exits with 1 if anything does. */
 #include <stdio.h>
 #include <string.h>
 
@@ -771,6 +771,129 @@ static void states(void) {
     EXPECT(accepted > 20000, 1);
 }
 
+/* ---- prune */
+
+/* Prunes a file, given junk of these lengths, and compares what the header says of every call: on TWINE_OK told, the new
+   file, both tables as twine_check leaves them, and nothing else; on an error its place, and zeros in all that is lent. */
+static void prune(int line, const uint8_t *file, size_t len, size_t bytes, size_t old_words, size_t new_words,
+                  uint32_t error, const uint64_t want[3], const uint8_t *new) {
+    uint8_t out[ROOM];
+    uint32_t old_starts[WORDS], new_starts[WORDS], old_want[WORDS], new_want[WORDS];
+    uint64_t told[3] = {JUNK, JUNK, JUNK}, checked[2];
+    memset(out, 0xaa, sizeof out);
+    memset(old_starts, 0xaa, sizeof old_starts);
+    memset(new_starts, 0xaa, sizeof new_starts);
+    memcpy(old_want, old_starts, sizeof old_want);
+    memcpy(new_want, new_starts, sizeof new_want);
+    expect(line, "twine_prune",
+           twine_prune(file, len, out, bytes, old_starts, old_words, new_starts, new_words, told), error);
+    for (size_t i = 0; i < 3; i++) {
+        expect(line, "told", told[i], want[i]);
+    }
+    if (error == TWINE_OK) {
+        expect(line, "the old file", twine_check(file, len, TWINE_STRICT, old_want, old_words, checked), TWINE_OK);
+        expect(line, "the new file", twine_check(new, want[0], TWINE_STRICT, new_want, new_words, checked), TWINE_OK);
+        expect(line, "the new count", checked[0], want[1]);
+        expect(line, "the new entry", checked[1], want[2]);
+    } else {
+        memset(old_want, 0, old_words * sizeof *old_want);
+        memset(new_want, 0, new_words * sizeof *new_want);
+    }
+    for (size_t i = 0; i < ROOM; i++) {
+        uint8_t left = i < bytes && error != TWINE_OK ? 0 : 0xaa;
+        expect(line, "a byte of the output", out[i], error == TWINE_OK && i < want[0] ? new[i] : left);
+    }
+    for (size_t i = 0; i < WORDS; i++) {
+        expect(line, "a start of the old file", old_starts[i], old_want[i]);
+        expect(line, "a start of the new file", new_starts[i], new_want[i]);
+    }
+}
+
+/* A file of that many values, and what prune makes of it: with enough memory, just enough, and too little of each. */
+static void pruned(int line, const uint8_t *file, size_t len, size_t old_count,
+                   const uint8_t *new, size_t new_len, size_t new_count, uint64_t entry) {
+    const uint64_t want[3] = {new_len, new_count, entry}, none[3] = {0};
+    prune(line, file, len, new_len, old_count, new_count, TWINE_OK, want, new);
+    prune(line, file, len, ROOM, WORDS, WORDS, TWINE_OK, want, new);
+    for (size_t bytes = 0; bytes < new_len; bytes++) {
+        prune(line, file, len, bytes, old_count, new_count, TWINE_NO_ROOM, none, NULL);
+    }
+    for (size_t entries = 0; entries < new_count; entries++) {
+        prune(line, file, len, new_len, old_count, entries, TWINE_FULL, none, NULL);
+    }
+    /* check's FULL has a place, the start of the value without a word */
+    uint32_t starts[WORDS];
+    uint64_t out[2];
+    expect(line, "twine_check", twine_check(file, len, TWINE_STRICT, starts, WORDS, out), TWINE_OK);
+    expect(line, "the old count", out[0], old_count);
+    for (size_t entries = 0; entries < old_count; entries++) {
+        prune(line, file, len, ROOM, entries, WORDS, TWINE_FULL, (const uint64_t[3]){starts[entries], 0, 0}, NULL);
+    }
+}
+
+#define PRUNED(file, old_count, new, new_count, entry) \
+    pruned(__LINE__, BYTES(file), old_count, BYTES(new), new_count, entry)
+#define PRUNE_ERROR(file, bytes, old_words, new_words, error, place) \
+    prune(__LINE__, BYTES(file), bytes, old_words, new_words, error, (const uint64_t[3]){place, 0, 0}, NULL)
+
+/* The plans of examples/rebuilt.twine, which begins with the region of row.twine, and of examples/pruned.twine. */
+#define FRAMES "\x45slots\x71\xf6\x1f\x09\x71\xfa\x1f\x19"
+#define DRIVE "\x63\x15\x10\x1f\x08"
+#define MOVED_DRIVE "\x63\x1f\xb9\x01\x12\x1f\x18"
+#define LISTS(frames, drives) "\x72\x46" "frames" frames "\x46" "drives" drives
+#define ROW \
+    FRAMES "\x71\xfe\x1f\x81\x03" \
+    "\x6c\xfd\xfa\xfb\xfc\xfd\xfe\xfb\xff\x01\xff\x03\xff\x05\xff\x07\xff\x0d" \
+    DRIVE "\x63\x1f\xb9\x01\x16\x1f\x80\x03\x62\xfd\xf9" LISTS("\xff\x1a", "\xff\x04")
+#define REBUILT \
+    ROW "\x63\xff\x33\xff\x31\xff\x33" MOVED_DRIVE "\x62\xff\x22\xf9" LISTS("\xff\x0a", "\xff\x05") "\x12"
+#define PRUNED_ROW \
+    FRAMES DRIVE "\x63\xfd\xfa\xfb" MOVED_DRIVE "\x62\xff\x01\xf9" LISTS("\xff\x07", "\xff\x05") "\x12"
+
+static void prunes(void) {
+    /* nothing is dead */
+    PRUNED("\x00\x00", 1, "\x00\x00", 1, 0);
+    PRUNED(HELLO, 4, HELLO, 4, 11);
+    PRUNED(LEAST, 1, LEAST, 1, 0);
+    /* dead are values before the entry, between those that it reaches, and after it */
+    PRUNED("\x10\x11\x00", 2, "\x11\x00", 1, 0);
+    PRUNED("\x10\x11\x01", 2, "\x10\x00", 1, 0);
+    PRUNED("\x10\x11\xf1\x00", 3, "\x10\xf0\x00", 2, 1);
+    PRUNED("\x10\xf0\x11\x12\x02", 4, "\x10\xf0\x00", 2, 1);
+    /* so are those that lead to what is not dead */
+    PRUNED("\x10\x61\xf1\x12\xf0\x62\xf4\xf3\x03", 5, "\x12\xf0\x00", 2, 1);
+    /* a reference reaches as a pointer does */
+    PRUNED("\x10\x11\xe1\x00", 3, "\x10\xe0\x00", 2, 1);
+    PRUNED("\x10\x11\x61\xe2\xf1\x00", 4, "\x10\x61\xe1\xf1\x00", 3, 3);
+    /* a distance over 14 becomes one below */
+    PRUNED("\x10\x4f\x05" "aaaaaaaaaaaaaaaaaaaa\xff\x07\x01", 3, "\x10\xf0\x00", 2, 1);
+    PRUNED(ROW "\x12", 9, ROW "\x12", 9, 53);
+    PRUNED(REBUILT, 13, PRUNED_ROW, 8, 34);
+
+    /* the first call of the new file that is refused decides: value 0 has no room, or value 1 has no word */
+    for (size_t bytes = 0; bytes < 9; bytes++) {
+        PRUNE_ERROR("\x42\x61\x61\x61\xf3\x01", bytes, 2, 1, bytes <= 3 ? TWINE_NO_ROOM : TWINE_FULL, 0);
+        PRUNE_ERROR("\x42\x61\x61\x61\xf3\x01", bytes, 2, 0, TWINE_FULL, 0);
+    }
+
+    /* check's errors come first, in strict mode, whatever memory there is */
+    for (size_t bytes = 0; bytes < 3; bytes++) {
+        for (size_t entries = 0; entries < 3; entries++) {
+            PRUNE_ERROR("", bytes, entries, entries, TWINE_EMPTY, 0);
+            PRUNE_ERROR("\x00", bytes, entries, entries, TWINE_BAD_ENTRY, 0);
+            PRUNE_ERROR("\x61\xf0\x01", bytes, 1, entries, TWINE_BAD_TARGET, 1);
+            PRUNE_ERROR("\x1f\x80\x00\x02", bytes, 1, entries, TWINE_OVERLONG, 0);
+            PRUNE_ERROR("\x43\xed\xa0\x80\x03", bytes, 1, entries, TWINE_BAD_TEXT, 0);
+            PRUNE_ERROR("\x61\x45\x61\x00", bytes, 1, entries, TWINE_LONG_BODY, 2);
+            PRUNE_ERROR("\x63\x90\x90\x00", bytes, 1, entries, TWINE_LONG_LIST, 1);
+            PRUNE_ERROR("\x10\x80\x00", bytes, 2, entries, TWINE_TRUNC, 2);
+            PRUNE_ERROR("\x41\x61\x41\x61\x05", bytes, 2, entries, TWINE_BAD_ENTRY, 4);
+        }
+    }
+    static uint8_t file[TWINE_LIMIT + 1];
+    prune(__LINE__, file, sizeof file, 9, 2, 2, TWINE_TOO_LONG, (const uint64_t[3]){0, 0, 0}, NULL);
+}
+
 /* ---- version and names */
 
 static void version(void) {
@@ -821,6 +944,7 @@ int main(void) {
     back();
     deltas();
     states();
+    prunes();
     names();
     if (failures != 0) {
         printf("c: %d failed\n", failures);

@@ -15,9 +15,10 @@
  * (the contracts in crates/twine/src/lib.rt). The caller's part, which nothing checks:
  *
  *   - a pointer is not NULL, even if its length is 0, and points to as many initialized elements as said;
- *   - memory that a call writes (starts, depths, out, state, name) overlaps no other that the call is handed;
+ *   - memory that a call writes (starts, depths, out, told, state, name) overlaps no other that the call is handed: a
+ *     file is not pruned in place;
  *   - nobody else writes any of it during the call;
- *   - there is enough stack: about 17 KB in check, 33 KB in depths and less than 2 KB in the others.
+ *   - there is enough stack: about 17 KB in check, 33 KB in depths and prune, and less than 2 KB in the others.
  *
  * Each function of the archive answers an error's number, TWINE_OK for none; only the one that returns its version
  * does not.
@@ -71,8 +72,9 @@ TWINE_ABI_KEEP static uint32_t (*const twine_abi_reference)(void) = TWINE_ABI_NA
 #define TWINE_NAME 11
 
 /* What a call answers. In brackets the place, the offset that is returned with the number; the writer's errors have
-   none. twine_check of a file that was cut gives TRUNC, LONG_BODY or LONG_LIST, BAD_ENTRY if the cut is between two
-   values, EMPTY if nothing is left, or OK by chance; damaged files give these too. */
+   none, of which twine_prune passes FULL and NO_ROOM on. twine_check of a file that was cut gives TRUNC, LONG_BODY or
+   LONG_LIST, BAD_ENTRY if the cut is between two values, EMPTY if nothing is left, or OK by chance; damaged files give
+   these too. */
 enum twine_error {
     TWINE_OK = 0,
     /* the file has no bytes [0] */
@@ -94,7 +96,7 @@ enum twine_error {
     /* check: a reference or pointer to something that is not a value that ended before; queries: one that reaches
        below offset 0 [the header]; writer: an offset that starts does not list, or that is not below the bytes written */
     TWINE_BAD_TARGET = 9,
-    /* one value more than the table has words [the value's start] */
+    /* one value more than the table has words [the value's start]; writer, and the new file of twine_prune: no place */
     TWINE_FULL = 10,
     /* the last byte names no value [its own offset] */
     TWINE_BAD_ENTRY = 11,
@@ -104,7 +106,7 @@ enum twine_error {
     TWINE_NO_ITEM = 13,
     /* the query does not fit the kind [the offset of the value of the wrong kind] */
     TWINE_WRONG_KIND = 14,
-    /* writer: the output has no room */
+    /* writer, and twine_prune: the output has no room */
     TWINE_NO_ROOM = 15,
     /* writer: items are still pending */
     TWINE_OWED = 16,
@@ -159,7 +161,7 @@ uint32_t twine_spell_error(uint32_t number, char name[TWINE_NAME]);
    The mode changes nothing else. In both, a number has at most ten bytes and is within its bounds (TWINE_RANGE), and
    offsets count every byte of the file. What is not TWINE_OVERLONG in strict mode has the same answer in tolerant mode,
    and leaves the same in memory. The writer has no mode: it never pads. So a padded file that is read and written again has
-   other bytes and offsets. */
+   other bytes and offsets. twine_prune has none either: it is strict. */
 enum twine_mode {
     /* a padded number is TWINE_OVERLONG; any mode but TWINE_TOLERANT is this one */
     TWINE_STRICT = 0,
@@ -323,6 +325,31 @@ uint32_t twine_open_variantn(uint64_t state[TWINE_STATE], uint32_t index, uint64
    TWINE_BAD_TARGET if no finished value starts there. */
 uint32_t twine_close(uint64_t state[TWINE_STATE], size_t at,
                      uint8_t *out, size_t out_len, uint32_t *starts, size_t words);
+
+/* ---- prune
+
+   A value is dead if no path along pointers and references leads to it from the entry. A file whose plan was rebuilt may
+   have many: the new entry is written after what was there, and does not reach all of it. */
+
+/* Writes a file without its dead values: exactly those that the entry reaches, itself among them, each once and in
+   their old order. They hold the same things, with distances to where their targets are now; the entry is the same
+   value. Strict mode: a padded file is TWINE_OVERLONG.
+
+   TWINE_OK: told = {bytes of the new file, count of its values, offset of its entry}. The new file is the first told[0]
+   bytes of out, and what comes after them is as it was. old_starts is as twine_check leaves it for the file, new_starts
+   as twine_check leaves it for the new file, which it accepts: the starts, and 0 in every other word.
+
+   On an error told = {place, 0, 0}, and out and both tables get 0 in every byte and word. First come the errors of
+   twine_check, given the file and old_starts. Then those of the writer's calls that write the new file, in order, value
+   by value and item by item, and at last its close, given out and new_starts: the first that is refused decides. It is
+   TWINE_FULL for the first value without a word, or TWINE_NO_ROOM, and has no place: told[0] is 0. TWINE_FULL with
+   told[0] = 0 is about new_starts, unless old_words is 0.
+
+   The new file is never longer than the file, and has no more values: out_len = len and len - 1 words in each table are
+   always enough. */
+uint32_t twine_prune(const uint8_t *file, size_t len, uint8_t *out, size_t out_len,
+                     uint32_t *old_starts, size_t old_words, uint32_t *new_starts, size_t new_words,
+                     uint64_t told[3]);
 
 #ifdef __cplusplus
 }

@@ -64,6 +64,11 @@ mod declared {
             state: *mut u64, index: u32, items: u64, out: *mut u8, out_len: usize, starts: *mut u32, words: usize,
         ) -> u32;
         pub fn twine_close(state: *mut u64, at: usize, out: *mut u8, out_len: usize, starts: *mut u32, words: usize) -> u32;
+
+        pub fn twine_prune(
+            file: *const u8, len: usize, out: *mut u8, out_len: usize,
+            old_starts: *mut u32, old_words: usize, new_starts: *mut u32, new_words: usize, told: *mut u64,
+        ) -> u32;
     }
 }
 
@@ -166,4 +171,13 @@ writer! {
     open_variant1 is twine_open_variant1(index: u32) of index;
     open_variant_n is twine_open_variantn(index: u32, items: u64) of index, items;
     close is twine_close(at: usize) of at;
+}
+
+/// The length of the new file, the count of its values and the offset of its entry.
+pub fn prune(file: &[u8], out: &mut [u8], old_starts: &mut [u32], new_starts: &mut [u32], told: &mut [u64; 3]) -> u32 {
+    let (to, room) = (out.as_mut_ptr(), out.len());
+    let (old, old_words) = (old_starts.as_mut_ptr(), old_starts.len());
+    let (new, new_words) = (new_starts.as_mut_ptr(), new_starts.len());
+    // SAFETY: slices
+    unsafe { declared::twine_prune(file.as_ptr(), file.len(), to, room, old, old_words, new, new_words, told.as_mut_ptr()) }
 }

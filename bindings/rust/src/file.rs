@@ -5,6 +5,7 @@ use std::iter::FusedIterator;
 
 use crate::error::{Error, ErrorKind};
 use crate::mode::Mode;
+use crate::prune::{prune_into, Pruned};
 use crate::query::{self, Kind};
 use crate::sys;
 use crate::text::Text;
@@ -120,6 +121,45 @@ impl<'a> File<'a> {
         let mut depths = vec![0; self.count()];
         always(sys::depths(self.bytes, self.mode, &mut starts, &mut depths));
         depths
+    }
+
+    /// The file without its dead values: those to which no path along pointers and references leads from the entry. A file whose plan was
+    /// rebuilt may have many.
+    ///
+    /// The others are in the new file each once, in their old order, and hold the same things; offsets are other ones. The entry is the same
+    /// value. The new file is never longer, and pruned again it is the same.
+    ///
+    /// A file that was checked in strict mode has no error. One that was checked in tolerant mode has that of a check in strict mode,
+    /// OVERLONG, if a number is padded: prune is strict, and such a file has to be written anew first.
+    ///
+    /// ```
+    /// use twine::{File, Writer};
+    ///
+    /// let mut w = Writer::new();
+    /// let small = w.integer(24)?;
+    /// let large = w.integer(400)?;
+    /// w.open_array(2)?; // the row as it was
+    /// w.pointer(small)?;
+    /// w.pointer(large)?;
+    /// let row = w.open_array(1)?; // rebuilt, without the large one
+    /// w.pointer(small)?;
+    /// let bytes = w.close(row)?;
+    ///
+    /// let file = File::check(&bytes)?;
+    /// let pruned = file.prune()?;
+    /// let new = File::check(&pruned)?;
+    /// assert_eq!((file.count(), new.count()), (4, 2));
+    /// assert_eq!(new.entry().item(0)?.follow().offset(), 0);
+    /// # Ok::<(), twine::Error>(())
+    /// ```
+    pub fn prune(&self) -> Result<Vec<u8>, Error> {
+        let mut out = vec![0; self.bytes.len()];
+        let mut old_starts = vec![0; self.count()];
+        let mut new_starts = vec![0; self.count()];
+        let Pruned { length, .. } = prune_into(self.bytes, &mut out, &mut old_starts, &mut new_starts)?;
+        out.truncate(length);
+        out.shrink_to_fit();
+        Ok(out)
     }
 
     fn node(&self, at: usize) -> Node<'a> {

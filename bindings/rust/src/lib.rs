@@ -2,6 +2,7 @@
 //!
 //! - [`File::check`] checks a whole file, and in one that it accepts every [`Text`] is UTF-8; a [`Node`] is a value or an item of it.
 //! - [`Writer`] writes a file.
+//! - [`File::prune`] leaves out what the entry does not reach; [`prune_into`] does so in given memory.
 //! - [`query`] asks at any offset of any bytes, checked or not.
 //! - [`Mode`] is for whoever reads files of the old exporter, whose numbers are padded.
 //!
@@ -35,6 +36,7 @@ mod c;
 mod error;
 mod file;
 mod mode;
+mod prune;
 pub mod query;
 mod sys;
 mod text;
@@ -43,6 +45,7 @@ mod writer;
 pub use error::{Error, ErrorKind};
 pub use file::{File, Items, Node, Pairs, Value};
 pub use mode::Mode;
+pub use prune::{prune_into, Pruned};
 pub use text::Text;
 pub use writer::Writer;
 

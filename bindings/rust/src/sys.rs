@@ -76,6 +76,18 @@ pub(crate) fn body(file: &[u8], mode: Mode, at: usize) -> Result<[u64; 2], Error
     ask(|out| c::body(file, mode as u32, at, out))
 }
 
+/// The length of the new file, the count of its values and the offset of its entry. An error of check has its place, and one of the writer
+/// has none.
+pub(crate) fn prune(file: &[u8], out: &mut [u8], old_starts: &mut [u32], new_starts: &mut [u32]) -> Result<[u64; 3], Error> {
+    let words = old_starts.len();
+    ask(|told| c::prune(file, out, old_starts, new_starts, told)).map_err(|error| match error {
+        // check never gives the first, and the second at 0 only without a word for the first value
+        Error { kind: ErrorKind::NoRoom, .. } => Error { place: None, ..error },
+        Error { kind: ErrorKind::Full, place: Some(0) } if words > 0 => Error { place: None, ..error },
+        error => error,
+    })
+}
+
 /// The state of a writer that has written nothing.
 pub(crate) fn new_state() -> State {
     let mut state = [0; c::STATE];

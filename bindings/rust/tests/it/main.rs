@@ -2,6 +2,7 @@
 
 mod header;
 mod mode;
+mod prune;
 mod queries;
 mod random;
 mod samples;

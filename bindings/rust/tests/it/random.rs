@@ -1,9 +1,9 @@
 //! Random lists of calls and random bytes: an answer or an error, never a panic.
 
-use std::collections::BTreeMap;
+use std::collections::{BTreeMap, BTreeSet};
 
 use twine::query::{self, Kind};
-use twine::{Error, ErrorKind, File, Mode, Text, Writer};
+use twine::{prune_into, Error, ErrorKind, File, Mode, Pruned, Text, Writer};
 
 use crate::{both, error, parts, Part};
 
@@ -455,4 +455,114 @@ fn bytes() {
     }
     assert!(good > 500 && bad > 500, "{good} accepted, {bad} refused");
     assert!(bad_texts > 50 && overlong > 200, "{bad_texts} for a text, {overlong} for a padded number");
+}
+
+/// The values that a file's entry reaches, written again call by call.
+fn rewritten(file: &File<'_>) -> Vec<u8> {
+    let all = parts(file);
+    let of_value = |start: usize| {
+        let end = file.value_at(start).expect("a value").end();
+        all.iter().filter(move |(at, _)| (start..end).contains(at))
+    };
+    let mut reached = BTreeSet::new();
+    let mut next = vec![file.entry().offset()];
+    while let Some(start) = next.pop() {
+        if reached.insert(start) {
+            next.extend(of_value(start).filter_map(|(_, part)| match part {
+                Part::Reference(target) | Part::Pointer(target) => Some(*target),
+                _ => None,
+            }));
+        }
+    }
+    let mut w = Writer::new();
+    let mut moved = BTreeMap::new();
+    for (old, part) in reached.into_iter().flat_map(of_value) {
+        let part = match part {
+            Part::Reference(target) => Part::Reference(moved[target]),
+            Part::Pointer(target) => Part::Pointer(moved[target]),
+            other => other.clone(),
+        };
+        moved.insert(*old, write(&mut w, &part).unwrap());
+    }
+    w.close(moved[&file.entry().offset()]).unwrap()
+}
+
+/// A pruned file is what the writer makes of the values that the entry reaches, and is the same if it is pruned again.
+#[test]
+fn pruned() {
+    let mut random = Random(0x6c62_272e_07bb_0142);
+    let mut kept = 0;
+    for round in 0..600 {
+        let bytes = write_some(&mut random, Writer::new(), 1 + round / 4);
+        let Ok(file) = File::check(&bytes) else { continue };
+        let new = file.prune().unwrap();
+        assert_eq!(new, rewritten(&file));
+        assert!(new.len() <= bytes.len());
+        let again = File::check(&new).unwrap();
+        assert_eq!(again.prune().unwrap(), new);
+        kept += usize::from(1 < again.count() && again.count() < file.count());
+
+        let padded = pad(&mut random, &parts(&file));
+        let read = File::check_with(Mode::Tolerant, &padded.bytes).unwrap();
+        // the entry is the null at its end
+        let want = padded.first.map_or(Ok(vec![0x02, 0x00]), |at| Err(error(ErrorKind::Overlong, at)));
+        assert_eq!(read.prune(), want);
+    }
+    assert!(kept > 100, "more than the entry, and not all, is kept in {kept}");
+}
+
+/// Memory of any length, for files, damaged ones and any bytes: the new file, or an error and zeros.
+#[test]
+fn pruned_into() {
+    let mut random = Random(0x27d4_eb2f_1656_67c5);
+    let mut met = BTreeMap::new();
+    for round in 0..6000 {
+        let calls = 1 + random.below(20);
+        let mut file =
+            if round % 6 == 0 { random.bytes() } else { write_some(&mut random, Writer::fixed(60 + calls, 40), calls) };
+        if round % 3 == 0 && !file.is_empty() {
+            let at = random.below(file.len());
+            file[at] = random.next() as u8;
+        }
+        let mut out = vec![0xaa; random.below(file.len() + 9)];
+        let mut old_starts = vec![0xaaaa_aaaa; if random.below(4) == 0 { random.below(file.len() + 2) } else { file.len() }];
+        let mut new_starts = vec![0xaaaa_aaaa; random.below(9) * random.below(9)];
+        let checked = File::check(&file);
+        let answer = prune_into(&file, &mut out, &mut old_starts, &mut new_starts);
+        *met.entry(answer.map_err(|error| (error.kind, error.place.is_some())).err()).or_insert(0) += 1;
+        match answer {
+            Ok(Pruned { length, count, entry }) => {
+                let old = checked.unwrap();
+                assert_eq!(out[..length], old.prune().unwrap());
+                assert!(out[length..].iter().all(|byte| *byte == 0xaa));
+                let new = File::check(&out[..length]).unwrap();
+                assert_eq!((count, entry), (new.count(), new.entry().offset()));
+                for (file, starts) in [(&old, &old_starts), (&new, &new_starts)] {
+                    let listed = file.values().map(|value| value.offset() as u32).chain([0].into_iter().cycle());
+                    assert_eq!(*starts, listed.take(starts.len()).collect::<Vec<_>>());
+                }
+            }
+            Err(error) => {
+                assert!(out.iter().all(|byte| *byte == 0));
+                assert!(old_starts.iter().chain(&new_starts).all(|word| *word == 0));
+                match checked {
+                    Err(refused) if error.kind != ErrorKind::Full => assert_eq!(error, refused),
+                    Err(_) => assert!(error.place.is_some()),
+                    // the table for the old file, or the memory for the new one
+                    Ok(old) if error.place.is_some() => {
+                        let without = old.values().nth(old_starts.len()).map(|value| value.offset());
+                        assert_eq!((error.kind, error.place), (ErrorKind::Full, without));
+                    }
+                    Ok(old) => {
+                        let new = old.prune().unwrap();
+                        let count = File::check(&new).unwrap().count();
+                        assert!(out.len() < new.len() || new_starts.len() < count);
+                        assert!(error.kind == ErrorKind::NoRoom || error.kind == ErrorKind::Full && new_starts.len() < count);
+                    }
+                }
+            }
+        }
+    }
+    let often = [None, Some((ErrorKind::Full, true)), Some((ErrorKind::Full, false)), Some((ErrorKind::NoRoom, false))];
+    assert!(often.iter().all(|answer| met.get(answer).is_some_and(|times| *times > 100)), "{met:?}");
 }
