@@ -1,7 +1,7 @@
 //! Asks both programs the same, and compares all that they answer and leave in what they are lent.
 
 use reference::query::{Body, Followed};
-use reference::{kind, Call, Checked, Error, ErrorKind, Mode, Value, Writer};
+use reference::{kind, Call, Checked, Error, ErrorKind, Mode, Pruned, Refusal, Value, Writer};
 
 use crate::difference::{self, Difference};
 use crate::ffi::{self, NAME, STATE};
@@ -39,14 +39,22 @@ pub enum Asked {
     Lookup,
     /// `twine_body`.
     Body,
+    /// `twine_prune`.
+    Prune,
     /// A call of the writer.
     Call,
 }
 
 impl Asked {
-    /// What is asked of a file.
-    pub const OF_FILES: [Self; 8] =
+    /// What is asked of a file, in a mode.
+    pub const IN_MODES: [Self; 8] =
         [Self::Check, Self::Depths, Self::Read, Self::Skip, Self::Item, Self::Follow, Self::Lookup, Self::Body];
+
+    /// What is asked of a file.
+    pub const OF_FILES: [Self; 9] = {
+        let [check, depths, read, skip, item, follow, lookup, body] = Self::IN_MODES;
+        [check, depths, read, skip, item, follow, lookup, body, Self::Prune]
+    };
 
     /// The name as it is printed.
     pub const fn name(self) -> &'static str {
@@ -59,6 +67,7 @@ impl Asked {
             Self::Follow => "follow",
             Self::Lookup => "lookup",
             Self::Body => "body",
+            Self::Prune => "prune",
             Self::Call => "call",
         }
     }
@@ -134,8 +143,11 @@ pub struct Comparer<P> {
     left: Left,
     /// What the strict mode left, when the tolerant one is asked.
     strict: Left,
+    /// The output of prune.
+    output: Guarded<u8>,
     expected_starts: Vec<u32>,
     expected_depths: Vec<u32>,
+    expected_output: Vec<u8>,
 }
 
 impl<P: Product> Comparer<P> {
@@ -150,8 +162,10 @@ impl<P: Product> Comparer<P> {
             argument: Guarded::new(0x41),
             left: Left::new(),
             strict: Left::new(),
+            output: Guarded::new(0xc3),
             expected_starts: Vec::new(),
             expected_depths: Vec::new(),
+            expected_output: Vec::new(),
         }
     }
 
@@ -297,6 +311,33 @@ impl<P: Product> Comparer<P> {
         Ok(())
     }
 
+    /// `twine_prune`, with this output and tables of these lengths, for the old file and for the new one. Returns the length of the
+    /// new file and the count of its values, if there is one; [`Self::output`] has it.
+    pub fn prune(&mut self, output: &[u8], words: [usize; 2]) -> Result<Option<[usize; 2]>, Difference> {
+        self.output.copy_from(output);
+        self.left.refill(3, words);
+        // The two tables are in the places of starts and depths.
+        let Left { number, out, starts, depths } = &mut self.left;
+        let (old, new) = (starts.slice_mut(), depths.slice_mut());
+        *number = self.product.prune(self.file.slice(), self.output.slice_mut(), old, new, array(out.slice_mut()));
+        self.expected_output.clear();
+        self.expected_output.extend(output);
+        let [old, new] = words;
+        let tables = [refill(&mut self.expected_starts, old), refill(&mut self.expected_depths, new)];
+        let answer = pruned(self.file.slice(), &mut self.expected_output, tables);
+        let question = || format!("prune with {} bytes, {old} and {new} words", output.len());
+        let (number, [length, count, _]) = self.compare(Asked::Prune, answer, question)?;
+        if self.output.slice() != self.expected_output || !self.output.is_guarded() {
+            return Err(self.other_output(question()));
+        }
+        Ok((number == 0).then_some([length as usize, count as usize]))
+    }
+
+    /// What prune has left in its output.
+    pub fn output(&self) -> &[u8] {
+        self.output.slice()
+    }
+
     /// `twine_spell_error`.
     pub fn error_name(&mut self, number: u32) -> Result<(), Difference> {
         let mut name = Guarded::new(0x7e_u8);
@@ -342,7 +383,7 @@ impl<P: Product> Comparer<P> {
             let [words, words2] = tables;
             let expected = [refill(&mut comparer.expected_starts, words), refill(&mut comparer.expected_depths, words2)];
             let answer = second(comparer.file.slice(), ffi::mode(mode), expected);
-            comparer.compare(asked, mode, answer, &question)
+            comparer.compare(asked, answer, || format!("{}, mode {mode}", question()))
         };
         if let Some(other) = self.other_mode {
             in_mode(self, other)?;
@@ -364,7 +405,6 @@ impl<P: Product> Comparer<P> {
     fn compare<const N: usize>(
         &mut self,
         asked: Asked,
-        mode: u32,
         answer: Answer<N>,
         question: impl FnOnce() -> String,
     ) -> Result<Answer<N>, Difference> {
@@ -378,16 +418,17 @@ impl<P: Product> Comparer<P> {
         if is_same && self.left.is_guarded() && self.file.is_guarded() {
             return Ok(answer);
         }
-        Err(self.difference(mode, expected, &out, question()))
+        Err(self.difference(asked, expected, &out, question()))
     }
 
     #[cold]
-    fn difference(&self, mode: u32, expected: u32, out: &[u64], question: String) -> Difference {
+    fn difference(&self, asked: Asked, expected: u32, out: &[u64], question: String) -> Difference {
         let mut product = self.left.answer();
         let mut second = difference::answer(expected, out);
         let Left { out, starts, depths, .. } = &self.left;
+        let names = if asked == Asked::Prune { ["old starts", "new starts"] } else { ["starts", "depths"] };
         for (table, words, expected) in
-            [("starts", starts.slice(), &self.expected_starts), ("depths", depths.slice(), &self.expected_depths)]
+            [(names[0], starts.slice(), &self.expected_starts), (names[1], depths.slice(), &self.expected_depths)]
         {
             if let Some((one, other)) = difference::first(table, words, expected) {
                 product += &format!(", {table} of {} words: {one}", words.len());
@@ -397,15 +438,27 @@ impl<P: Product> Comparer<P> {
         for (table, is_guarded) in [
             ("the file", self.file.is_guarded()),
             ("out", out.is_guarded()),
-            ("starts", starts.is_guarded()),
-            ("depths", depths.is_guarded()),
+            (names[0], starts.is_guarded()),
+            (names[1], depths.is_guarded()),
         ] {
             if !is_guarded {
                 product += &format!(", memory beside {table} was written to");
             }
         }
-        let question = format!("{question}, mode {mode}, of the file of {}", difference::hex(self.file.slice()));
+        let question = format!("{question}, of the file of {}", difference::hex(self.file.slice()));
         Difference { question, product, second }
+    }
+
+    /// The answers to prune are the same, and the outputs are not.
+    #[cold]
+    fn other_output(&self, question: String) -> Difference {
+        let (one, other) = difference::first("output", self.output.slice(), &self.expected_output)
+            .unwrap_or(("memory beside the output was written to".into(), "left alone".into()));
+        Difference {
+            question: format!("{question}, of the file of {}", difference::hex(self.file.slice())),
+            product: format!("{}, {one}", self.left.answer()),
+            second: other,
+        }
     }
 
     /// The modes differ although strict is not OVERLONG.
@@ -610,6 +663,15 @@ fn answer_of<T, const N: usize>(answer: Result<T, Error>, out: impl FnOnce(T) ->
 
 fn checked(answer: Result<Checked, Error>) -> Answer<2> {
     answer_of(answer, |Checked { count, entry }| [count as u64, entry as u64])
+}
+
+/// Prune by the second program. The writer's refusals have no place, and C gets 0 for it.
+fn pruned(file: &[u8], output: &mut [u8], [old_starts, new_starts]: [&mut [u32]; 2]) -> Answer<3> {
+    let answer = reference::prune(file, output, old_starts, new_starts).map_err(|refusal| match refusal {
+        Refusal::Check(error) => error,
+        Refusal::Writer(kind) => Error { kind, place: 0 },
+    });
+    answer_of(answer, |Pruned { length, count, entry }| [length, count, entry].map(|number| number as u64))
 }
 
 fn offset(answer: Result<usize, Error>) -> Answer<2> {

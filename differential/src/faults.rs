@@ -1,6 +1,9 @@
 //! Faults between the comparison and the archive, each of which has to be found.
 
+mod prune;
+
 use std::borrow::Cow;
+use std::fmt::Debug;
 use std::time::Duration;
 
 use reference::{Call, Mode, Token};
@@ -453,7 +456,7 @@ fn run_only<P: Product>(product: P, section: &str, seconds: u64, case: Option<u6
 }
 
 /// Runs a section until the fault is found, and then the case alone.
-fn find_and_find_again(fault: Fault, section: &str) {
+fn find_and_find_again(fault: impl Product + Copy + Debug, section: &str) {
     let Err(Failed { case }) = run_only(fault, section, 30, None) else {
         panic!("{fault:?} is not found");
     };
@@ -538,7 +541,7 @@ fn every_fault_of_texts_is_found_and_found_again() {
 
 #[test]
 fn every_fault_of_modes_is_found_and_found_again() {
-    let of_calls = Asked::OF_FILES.into_iter().flat_map(|asked| [Fault::Refusing(asked), Fault::Taking(asked)]);
+    let of_calls = Asked::IN_MODES.into_iter().flat_map(|asked| [Fault::Refusing(asked), Fault::Taking(asked)]);
     for fault in of_calls {
         find_and_find_again(fault, "padded");
     }
@@ -572,7 +575,7 @@ fn every_fault_of_modes_is_found_and_found_again() {
 
 #[test]
 fn the_archive_has_no_fault() {
-    for section in ["names", "written", "built", "damaged", "ends", "calls", "states"] {
+    for section in ["names", "written", "built", "damaged", "ends", "prune", "calls", "states"] {
         assert_eq!(run_only(Archive, section, 1, None), Ok(()), "{section}");
     }
     // The first texts are those at the narrowed borders; all of them would take a debug build more than a minute.
@@ -597,7 +600,7 @@ fn comparer_of(name: &str, cases: impl Iterator<Item = u64>) -> Comparer<Archive
 fn every_call_meets_padded_numbers() {
     let of_each_part = (0..SYSTEMATIC).step_by(11).chain(SYSTEMATIC..SYSTEMATIC + 1000);
     let comparer = comparer_of("padded", of_each_part);
-    for asked in Asked::OF_FILES {
+    for asked in Asked::IN_MODES {
         let met = comparer.padded_by(asked);
         assert!(met > 100, "{} {met} times", asked.name());
     }

@@ -12,6 +12,7 @@ mod make;
 mod options;
 mod padded;
 mod product;
+mod prune;
 mod random;
 mod sections;
 mod text;
@@ -85,7 +86,7 @@ fn run<P: Product>(product: P, options: &Options) -> Result<(), Failed> {
             println!("{kind}: {}", Asked::OF_FILES.map(times).join(", "));
         }
     }
-    let padded = Asked::OF_FILES.map(|asked| format!("{} {}", asked.name(), comparer.padded_by(asked)));
+    let padded = Asked::IN_MODES.map(|asked| format!("{} {}", asked.name(), comparer.padded_by(asked)));
     println!("OVERLONG, and OK in the tolerant mode: {}", padded.join(", "));
     Ok(())
 }

@@ -239,6 +239,145 @@ pub fn written(random: &mut Random, longest: usize) -> Vec<u8> {
     out
 }
 
+/// How many values to which nothing leads there may be, before one that leads to all of them.
+const LOOSE: usize = 12;
+
+/// A well-formed file of about `length` bytes, by the second program's writer, in which the entry reaches a value with a chance of
+/// `live` in 16. Only references lead to values, or only pointers, or both.
+pub fn rebuilt(random: &mut Random, length: usize, live: u64) -> Vec<u8> {
+    // A value begins before the length, and is no longer than the room after it; then come the last holder, the entry, and what is
+    // after it.
+    let mut rebuilding = Rebuilding {
+        writer: Writer::new(),
+        out: vec![0; length + 1000],
+        starts: vec![0; length + 1000],
+        live: Vec::new(),
+        loose: Vec::new(),
+        references: random.pick(&[0, 8, 16]),
+    };
+    while (rebuilding.writer.written as usize) < length {
+        let is_live = random.below(16) < live;
+        rebuilding.value(random, is_live);
+        let is_loose = !rebuilding.loose.is_empty();
+        if rebuilding.loose.len() == LOOSE || is_loose && random.one_in(12) {
+            rebuilding.hold(random);
+        }
+    }
+    rebuilding.finish(random)
+}
+
+/// A file that [`rebuilt`] makes.
+struct Rebuilding {
+    writer: Writer,
+    out: Vec<u8>,
+    starts: Vec<u32>,
+    /// The values that the entry is to reach.
+    live: Vec<u32>,
+    /// Those of them to which no other leads.
+    loose: Vec<u32>,
+    /// The chance in 16 that a target has a reference.
+    references: u64,
+}
+
+impl Rebuilding {
+    /// Makes a call; the target of a reference or pointer is not loose any more if what leads to it is live.
+    fn call(&mut self, call: Call<'_>, is_live: bool) -> Result<(), ErrorKind> {
+        let answer;
+        (answer, self.writer) = step(self.writer, call, &mut self.out, &mut self.starts);
+        if let (true, Ok(()), Call::Reference(at) | Call::Pointer(at)) = (is_live, answer, call) {
+            self.loose.retain(|start| u64::from(*start) != at);
+        }
+        answer
+    }
+
+    /// A reference or a pointer.
+    fn lead(&self, random: &mut Random, start: u32) -> Call<'static> {
+        if random.below(16) < self.references {
+            Call::Reference(start.into())
+        } else {
+            Call::Pointer(start.into())
+        }
+    }
+
+    /// A value with its items. A live one leads to live ones alone.
+    fn value(&mut self, random: &mut Random, is_live: bool) {
+        let start = self.writer.written as u32;
+        while self.writer.written as u32 == start || self.writer.pending > 0 {
+            let listed = if is_live { &self.live } else { &self.starts[..self.writer.count as usize] };
+            let call = match call(random, listed, self.writer.pending > 0) {
+                Call::Reference(at) | Call::Pointer(at) if listed.iter().any(|start| u64::from(*start) == at) => {
+                    self.lead(random, at as u32)
+                }
+                Call::Reference(_) | Call::Pointer(_) | Call::Close(_) => Call::Scalar(Scalar::True),
+                // Small enough for the room.
+                Call::Array(items) => Call::Array(items % 20),
+                Call::Map(pairs) => Call::Map(pairs % 10),
+                Call::VariantN(index, items) => Call::VariantN(index, items % 20),
+                Call::Text(text) => Call::Text(&text[..text.len().min(20)]),
+                Call::Bytes(bytes) => Call::Bytes(&bytes[..bytes.len().min(20)]),
+                call => call,
+            };
+            // What is not a text is refused, and so is an opening among items.
+            let _ = self.call(call, is_live);
+        }
+        if is_live {
+            self.live.push(start);
+            self.loose.push(start);
+        }
+    }
+
+    /// A live value that leads to every loose one.
+    fn hold(&mut self, random: &mut Random) {
+        let start = self.writer.written as u32;
+        let held = std::mem::take(&mut self.loose);
+        let items = held.len() as u64;
+        let opening = match random.below(8) {
+            0 if items == 1 => Some(Call::Tag(random.number())),
+            1 if items == 1 => Some(Call::Variant1(random.number() as u32)),
+            2 if items == 1 => None,
+            3 if items.is_multiple_of(2) => Some(Call::Map(items / 2)),
+            4 => Some(Call::VariantN(random.number() as u32, items)),
+            _ => Some(Call::Array(items)),
+        };
+        let leads: Vec<Call<'_>> = held.iter().map(|start| self.lead(random, *start)).collect();
+        for call in opening.into_iter().chain(leads) {
+            self.call(call, true).expect("room for a list of leads");
+        }
+        self.live.push(start);
+        self.loose.push(start);
+    }
+
+    /// The entry, which is a pointer or a reference at times, dead values after it at times, and the close.
+    fn finish(mut self, random: &mut Random) -> Vec<u8> {
+        match self.loose.len() {
+            0 => self.value(random, true),
+            1 => {}
+            _ => self.hold(random),
+        }
+        while random.one_in(4) {
+            let lead = self.lead(random, self.loose[0]);
+            let start = self.writer.written as u32;
+            self.call(lead, true).expect("room for a lead");
+            self.loose.push(start);
+        }
+        let entry = self.loose[0];
+        if random.one_in(3) {
+            for _ in 0..1 + random.index(4) {
+                let start = self.starts[random.index(self.writer.count as usize)];
+                let call = match random.below(3) {
+                    0 => self.lead(random, start),
+                    1 => Call::Array(0),
+                    _ => Call::Integer(random.number() as i64),
+                };
+                self.call(call, false).expect("room for a small value");
+            }
+        }
+        self.call(Call::Close(entry.into()), false).expect("room for a close");
+        self.out.truncate(self.writer.written as usize);
+        self.out
+    }
+}
+
 /// Appends a LEB128 number in at least `size` bytes.
 pub fn number(bytes: &mut Vec<u8>, n: u64, size: usize) {
     let end = bytes.len() + size;

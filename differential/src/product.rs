@@ -50,6 +50,11 @@ pub trait Product {
         ffi::body(file, mode, at, out)
     }
 
+    /// `twine_prune`.
+    fn prune(&self, file: &[u8], out: &mut [u8], old_starts: &mut [u32], new_starts: &mut [u32], told: &mut [u64; 3]) -> u32 {
+        ffi::prune(file, out, old_starts, new_starts, told)
+    }
+
     /// `twine_writer_new`.
     fn writer_new(&self, state: &mut [u64; STATE]) -> u32 {
         ffi::writer_new(state)

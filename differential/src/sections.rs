@@ -9,6 +9,7 @@ use crate::ffi::STATE;
 use crate::make::{self, Padding};
 use crate::padded;
 use crate::product::Product;
+use crate::prune;
 use crate::random::Random;
 use crate::text;
 
@@ -40,7 +41,7 @@ pub struct Case {
 const SHORT: u64 = 1 + (1 << 8) + (1 << 16) + (1 << 24);
 
 /// All sections in their order.
-pub fn all<P: Product>() -> [Section<P>; 12] {
+pub fn all<P: Product>() -> [Section<P>; 13] {
     let section = |name, share, run| Section { name, cases: None, least: 1, share, run };
     [
         Section { cases: Some(40), ..section("names", 1, names) },
@@ -52,6 +53,7 @@ pub fn all<P: Product>() -> [Section<P>; 12] {
         section("built", 15, built),
         section("damaged", 20, damaged),
         section("ends", 15, ends),
+        section("prune", 20, prune::prune),
         section("calls", 12, calls),
         section("states", 12, states),
         section("edge", 6, edge),
@@ -89,6 +91,9 @@ fn short<P: Product>(comparer: &mut Comparer<P>, mut case: Case) -> Result<(), D
         }
         comparer.depths(most, most + 1)?;
         comparer.depths(most, most.saturating_sub(1))?;
+        let [room, old_words, new_words] =
+            [[length, most, most], [length, most + 1, 1], [2, most, 2], [3, most, 1]][rest as usize % 4];
+        comparer.prune(&[guard, 0x5a, !guard][..room], [old_words, new_words])?;
         if length == 3 && !matches!(bytes[3], 0 | 1 | 0x41 | 0x80 | 0xff) {
             return Ok(());
         }
@@ -161,6 +166,7 @@ pub fn whole<P: Product>(comparer: &mut Comparer<P>, random: &mut Random, file: 
     comparer.of_file(file, guard, other_mode, |comparer| {
         let count = comparer.check(file.len())?;
         tables(comparer, random, count.unwrap_or(file.len() / 2))?;
+        prune::once(comparer, random, file.len())?;
         offsets(comparer, random, file, 40)
     })
 }
@@ -258,6 +264,7 @@ fn long<P: Product>(comparer: &mut Comparer<P>, mut case: Case) -> Result<(), Di
         }
         comparer.depths(count, count)?;
         comparer.depths(count, random.index(count))?;
+        prune::once(comparer, random, file.len())?;
         // Each may go over the whole file, in each mode.
         let some = if length > 1 << 21 { 3 } else { 15 };
         offsets(comparer, random, &file, some)
@@ -497,7 +504,7 @@ fn state(random: &mut Random, length: usize, words: usize) -> [u64; STATE] {
 }
 
 /// Any bytes.
-fn junk(random: &mut Random, length: usize) -> Vec<u8> {
+pub fn junk(random: &mut Random, length: usize) -> Vec<u8> {
     let mut bytes = Vec::with_capacity(length + 8);
     while bytes.len() < length {
         bytes.extend(random.next().to_le_bytes());
