@@ -1,17 +1,18 @@
 //! Times libtwine.a, through its C interface, and the second program in `../reference`, in one process, alternating, and prints
-//! tables in Markdown.
+//! tables in Markdown: all of them, or those that its arguments name.
 
 #![deny(unsafe_code)]
 
 #[path = "../../differential/src/ffi.rs"]
 mod ffi;
 mod plans;
+mod rewrite;
 mod rows;
 mod timing;
 
 use std::io::{self, Write};
 
-use plans::Shape;
+use plans::{Dead, Shape};
 use rows::Row;
 use timing::Clock;
 
@@ -22,12 +23,21 @@ const LENGTHS: [(usize, &str); 4] = [(16 << 10, "16 KB"), (256 << 10, "256 KB"),
 const FILES: usize = 1024;
 
 fn main() -> io::Result<()> {
+    let tables = [
+        ("check", Page::check as fn(&mut Page<_>) -> io::Result<()>),
+        ("depths", Page::depths),
+        ("queries", Page::queries),
+        ("writer", Page::writer),
+        ("prune", Page::prune),
+    ];
+    let only: Vec<String> = std::env::args().skip(1).collect();
     let mut page = Page { clock: Clock::new(), out: io::stdout().lock() };
     writeln!(page.out, "- Version of the C interface: {}", ffi::version())?;
-    page.check()?;
-    page.depths()?;
-    page.queries()?;
-    page.writer()?;
+    for (name, table) in tables {
+        if only.is_empty() || only.iter().any(|only| only == name) {
+            table(&mut page)?;
+        }
+    }
     let waited = 100.0 * page.clock.waited();
     writeln!(
         page.out,
@@ -123,6 +133,49 @@ impl<W: Write> Page<W> {
             }
         }
         Ok(())
+    }
+
+    /// The table of prune, and how its time for a byte grows.
+    fn prune(&mut self) -> io::Result<()> {
+        self.title(
+            "Prune",
+            "`prune` of a file, with an output of its length and tables of as many words as it has values; and, by the library's own calls, `check` of \
+             the\nsame file and rewriting of all of it: `read` of each value and item, and the writer's call for it. Both are libtwine.a, and the ratio is \
+             prune over\ncheck and rewriting. The dead values are among the others at random; their share is that of all values.",
+        )?;
+        writeln!(
+            self.out,
+            "| | values | dead | prune, ns/value | check and rewriting, ns/value | ratio | prune, ns/byte | check and rewriting, ns/byte |\n\
+             |---|--:|--:|--:|--:|--:|--:|--:|"
+        )?;
+        let mut grown = Vec::new();
+        for (shape, dead) in
+            [Shape::Plan, Shape::Text, Shape::Pointer].into_iter().flat_map(|shape| Dead::ALL.map(|dead| (shape, dead)))
+        {
+            let (short, share) = rows::prunes(&self.clock, &rows::rebuilt_files(shape, dead, FILES));
+            self.prune_row(&format!("{}, {}, 16 KB, 1,024 files", shape.name(), dead.name()), &short, share)?;
+            let mut long = short;
+            for (length, name) in &LENGTHS[1..] {
+                let share;
+                (long, share) = rows::prunes(&self.clock, &[plans::rebuilt(shape, dead, *length, 1)]);
+                self.prune_row(&format!("{}, {}, {name}", shape.name(), dead.name()), &long, share)?;
+            }
+            grown.push((shape, dead, [0, 1].map(|program| long.per_byte(program) / short.per_byte(program))));
+        }
+        writeln!(self.out, "\nThe time for a byte in a file of 16 MB, over that in 1,024 files of 16 KB:\n")?;
+        writeln!(self.out, "| files | prune | check and rewriting |\n|---|--:|--:|")?;
+        for (shape, dead, [prune, rewriting]) in grown {
+            writeln!(self.out, "| {}, {} | {prune:.2} | {rewriting:.2} |", shape.name(), dead.name())?;
+        }
+        Ok(())
+    }
+
+    fn prune_row(&mut self, name: &str, row: &Row, dead: f64) -> io::Result<()> {
+        let [prune, rewriting] = row.nanoseconds.map(|time| time / row.units as f64);
+        let (ratio, percent) = (prune / rewriting, 100.0 * dead);
+        write!(self.out, "| {name} | {} | {percent:.0} % | {prune:.1} | {rewriting:.1} | {ratio:.2} |", row.units)?;
+        writeln!(self.out, " {:.2} | {:.2} |", row.per_byte(0), row.per_byte(1))?;
+        self.out.flush()
     }
 
     fn title(&mut self, title: &str, about: &str) -> io::Result<()> {

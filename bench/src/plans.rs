@@ -30,6 +30,40 @@ impl Shape {
     }
 }
 
+/// How many values of a file are dead: its entry does not reach them.
+#[derive(Clone, Copy, Debug, PartialEq, Eq)]
+pub enum Dead {
+    /// None.
+    Nothing,
+    /// One in two.
+    Half,
+    /// 31 of 32.
+    NearlyAll,
+}
+
+impl Dead {
+    /// All shares.
+    pub const ALL: [Self; 3] = [Self::Nothing, Self::Half, Self::NearlyAll];
+
+    /// Its name in a table.
+    pub const fn name(self) -> &'static str {
+        match self {
+            Self::Nothing => "nothing dead",
+            Self::Half => "half dead",
+            Self::NearlyAll => "nearly all dead",
+        }
+    }
+
+    /// The chance in 32 that a value is dead.
+    const fn chance(self) -> u64 {
+        match self {
+            Self::Nothing => 0,
+            Self::Half => 16,
+            Self::NearlyAll => 31,
+        }
+    }
+}
+
 /// A file, its starts, and the calls that write it.
 #[derive(Debug)]
 pub struct Plan {
@@ -63,24 +97,42 @@ impl Said {
 
 /// A file of a shape that fills `length` bytes but for the last value. Other seeds make other files.
 pub fn make(shape: Shape, length: usize, seed: u64) -> Plan {
-    let mut maker =
-        Maker { random: Random(seed), writer: Writer::new(), out: vec![0; length], starts: vec![0; length], calls: Vec::new() };
-    // No value is longer than this.
-    while maker.writer.written as usize + 260 < length {
-        match shape {
-            Shape::Plan => maker.plan(),
-            Shape::Text => maker.text(20, 200),
-            Shape::Integer => maker.array(12, Maker::integer),
-            Shape::Pointer => maker.array(12, Maker::target),
-        }
+    let mut maker = Maker::new(length, seed);
+    while maker.has_room(LONGEST) {
+        maker.value(shape);
     }
     let last = maker.starts[maker.writer.count as usize - 1];
-    maker.call(Said::Other(Call::Close(last.into())));
-    let Maker { writer, mut out, mut starts, calls, .. } = maker;
-    out.truncate(writer.written as usize);
-    starts.truncate(writer.count as usize);
-    Plan { file: out, starts, calls }
+    maker.close(last)
 }
+
+/// A file of a shape, of which as much is dead as said. A value is dead or live by chance; a live one leads to live ones alone. Whenever there
+/// are twelve live values to which no other live one leads, an array of pointers to them follows, which is live; the last of these arrays is the
+/// entry.
+pub fn rebuilt(shape: Shape, dead: Dead, length: usize, seed: u64) -> Plan {
+    let mut maker = Maker::new(length, seed);
+    while maker.has_room(LONGEST + 2 * HOLDER) {
+        maker.is_live = maker.random.below(32) >= dead.chance();
+        let start = maker.writer.written as u32;
+        maker.value(shape);
+        if maker.is_live {
+            maker.list(start);
+        }
+        if maker.loose.len() == HELD {
+            maker.hold();
+        }
+    }
+    let entry = maker.hold();
+    maker.close(entry)
+}
+
+/// No value is longer than this, with the delta.
+const LONGEST: usize = 260;
+
+/// How many values are held by one array.
+const HELD: usize = 12;
+
+/// An array of that many pointers is no longer than this.
+const HOLDER: usize = 1 + 5 * HELD;
 
 /// The values of a file with each number in five bytes, or more if it needs them. No call writes them.
 pub fn padded(plan: &Plan) -> Plan {
@@ -98,14 +150,73 @@ struct Maker {
     out: Vec<u8>,
     starts: Vec<u32>,
     calls: Vec<Said>,
+    /// Whether the value that is being written leads to live ones alone.
+    is_live: bool,
+    /// The starts of the live values.
+    live: Vec<u32>,
+    /// Those to which no live value leads yet.
+    loose: Vec<u32>,
 }
 
 impl Maker {
+    fn new(length: usize, seed: u64) -> Self {
+        Self {
+            random: Random(seed),
+            writer: Writer::new(),
+            out: vec![0; length],
+            starts: vec![0; length],
+            calls: Vec::new(),
+            is_live: false,
+            live: Vec::new(),
+            loose: Vec::new(),
+        }
+    }
+
+    fn has_room(&self, bytes: usize) -> bool {
+        self.writer.written as usize + bytes < self.out.len()
+    }
+
     fn call(&mut self, call: Said) {
         let answer;
         (answer, self.writer) = self.writer.step(call.as_call(), &mut self.out, &mut self.starts);
         assert_eq!(answer, Ok(()), "{call:?}");
         self.calls.push(call);
+    }
+
+    fn close(mut self, entry: u32) -> Plan {
+        self.call(Said::Other(Call::Close(entry.into())));
+        let Self { writer, mut out, mut starts, calls, .. } = self;
+        out.truncate(writer.written as usize);
+        starts.truncate(writer.count as usize);
+        Plan { file: out, starts, calls }
+    }
+
+    /// A value of a shape.
+    fn value(&mut self, shape: Shape) {
+        match shape {
+            Shape::Plan => self.plan(),
+            Shape::Text => self.text(20, 200),
+            Shape::Integer => self.array(12, Self::integer),
+            Shape::Pointer => self.array(12, Self::target),
+        }
+    }
+
+    /// Lists a live value, to which no live one leads yet.
+    fn list(&mut self, start: u32) {
+        self.live.push(start);
+        self.loose.push(start);
+    }
+
+    /// An array of pointers to what is loose, live itself. Returns its start.
+    fn hold(&mut self) -> u32 {
+        let start = self.writer.written as u32;
+        let held = std::mem::take(&mut self.loose);
+        self.call(Said::Other(Call::Array(held.len() as u64)));
+        for held in held {
+            self.call(Said::Other(Call::Pointer(held.into())));
+        }
+        self.list(start);
+        start
     }
 
     /// A value as plans have it.
@@ -169,12 +280,17 @@ impl Maker {
     }
 
     fn target(&mut self) {
-        let count = self.writer.count;
+        let count = if self.is_live { self.live.len() as u64 } else { self.writer.count };
         if count == 0 {
             return self.integer();
         }
         let near = if self.random.below(4) < 3 { count.min(64) } else { count };
-        let start = self.starts[(count - 1 - self.random.below(near)) as usize].into();
+        let number = (count - 1 - self.random.below(near)) as usize;
+        let start = if self.is_live { self.live[number] } else { self.starts[number] };
+        if self.is_live {
+            self.loose.retain(|loose| *loose != start);
+        }
+        let start = start.into();
         let is_reference = self.random.below(4) == 0;
         self.call(Said::Other(if is_reference { Call::Reference(start) } else { Call::Pointer(start) }));
     }

@@ -2,10 +2,11 @@
 
 use std::hint::black_box;
 
-use reference::{Mode, Value, Writer};
+use reference::{Mode, Pruned, Value, Writer};
 
 use crate::ffi;
-use crate::plans::{self, Plan, Said, Shape};
+use crate::plans::{self, Dead, Plan, Said, Shape};
+use crate::rewrite::rewrite;
 use crate::timing::Clock;
 
 /// What both programs take for the same work: libtwine.a first.
@@ -34,6 +35,11 @@ pub fn files(shape: Shape, count: usize) -> Vec<Plan> {
 /// The same files with their numbers padded.
 pub fn padded_files(shape: Shape, count: usize) -> Vec<Plan> {
     files(shape, count).iter().map(plans::padded).collect()
+}
+
+/// Different files of 16 KB with dead values.
+pub fn rebuilt_files(shape: Shape, dead: Dead, count: usize) -> Vec<Plan> {
+    (1..=count as u64).map(|seed| plans::rebuilt(shape, dead, 16 << 10, seed)).collect()
 }
 
 /// The values and the bytes of files.
@@ -194,4 +200,45 @@ pub fn writes(clock: &Clock, plans: &[Plan]) -> Row {
     assert_eq!((out, starts), (out2, starts2));
     let (_, bytes) = size(plans);
     Row { units: plans.iter().map(|plan| plan.calls.len()).sum(), bytes, nanoseconds }
+}
+
+/// Prune of one file after the other, and, as the other program, check and rewriting of the same files by the library's own calls.
+/// Returns also how many of the values are dead, from 0 to 1.
+pub fn prunes(clock: &Clock, plans: &[Plan]) -> (Row, f64) {
+    let longest = plans.iter().map(|plan| plan.file.len()).max().unwrap_or(0);
+    let (mut out, mut old, mut new) = (vec![0; longest], table(plans), table(plans));
+    let (mut out2, mut starts2, mut table2) = (vec![0; longest], table(plans), table(plans));
+    let mut live = 0;
+    for plan in plans {
+        let count = plan.starts.len();
+        let second = reference::prune(&plan.file, &mut out2, &mut starts2[..count], &mut table2[..count]);
+        let Pruned { length, count: kept, entry } = second.expect("what was written is well-formed");
+        let mut told = [0; 3];
+        assert_eq!(ffi::prune(&plan.file, &mut out, &mut old[..count], &mut new[..count], &mut told), 0);
+        assert_eq!(told, [length, kept, entry].map(|number| number as u64));
+        assert!(out[..length] == out2[..length] && old[..count] == starts2[..count] && new[..count] == table2[..count]);
+        live += kept;
+    }
+    let nanoseconds = clock.race(
+        &mut || {
+            let mut told = [0; 3];
+            plans.iter().all(|plan| {
+                let count = plan.starts.len();
+                ffi::prune(black_box(&plan.file), &mut out, &mut old[..count], &mut new[..count], &mut told) == 0
+            })
+        },
+        &mut || {
+            let mut checked = [0; 2];
+            plans.iter().all(|plan| {
+                let (file, count) = (black_box(&plan.file), plan.starts.len());
+                ffi::check(file, ffi::STRICT, &mut starts2[..count], &mut checked) == 0
+                    && rewrite(file, checked[1] as usize, &mut out2, &mut table2[..count])
+            })
+        },
+    );
+    if let Some(last) = plans.last() {
+        assert!(out2[..last.file.len()] == last.file && table2[..last.starts.len()] == last.starts);
+    }
+    let (units, bytes) = size(plans);
+    (Row { units, bytes, nanoseconds }, 1.0 - live as f64 / units as f64)
 }
