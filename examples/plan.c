@@ -1,7 +1,8 @@
 /*
  * plan.c: shows a plan file, then writes a small plan and shows that too, with the C interface of the Twine library.
  *
- * usage: plan [--tolerant] FILE; examples/plan builds and runs it. With --tolerant it reads padded numbers, as the old exporter wrote them.
+ * usage: plan [--tolerant | --prune] FILE; examples/plan builds and runs it. With --tolerant it reads padded numbers, as the old exporter wrote them.
+ * With --prune it shows, instead of the small plan, the plan in FILE without the values that its entry does not reach.
  *
  * An error is a line "plan: WHAT: NAME PLACE" on standard error. The status is 0, 1 for an error, 2 if the file can't be read.
  */
@@ -132,6 +133,41 @@ static bool show_plan(const struct file *f) {
     return show_all(f, out[1], "frames", show_frame) && show_all(f, out[1], "drives", show_drive);
 }
 
+/* Prints the bytes of a file in hex, and shows it. */
+static bool show_bytes(const struct file *f) {
+    printf("\n");
+    for (size_t i = 0; i < f->len; i++) {
+        printf("%02x%c", f->bytes[i], i % 16 == 15 || i + 1 == f->len ? '\n' : ' ');
+    }
+    return show_plan(f);
+}
+
+/* ---- pruning */
+
+/* Prunes a plan that check has accepted, and shows what is left. */
+static bool pruned_plan(const struct file *f) {
+    /* the new file has no more bytes and no more values than the old one */
+    uint64_t told[3] = {0};
+    uint8_t *out = calloc(f->len, sizeof *out);
+    uint32_t *old_starts = calloc(f->len, sizeof *old_starts);
+    uint32_t *new_starts = calloc(f->len, sizeof *new_starts);
+    bool good = out != NULL && old_starts != NULL && new_starts != NULL;
+    if (!good) {
+        fprintf(stderr, "plan: no memory\n");
+    } else {
+        uint32_t error = twine_prune(f->bytes, f->len, out, f->len, old_starts, f->len, new_starts, f->len, told);
+        good = ok(f->name, error, told);
+    }
+    if (good) {
+        struct file new = {"pruned", out, told[0], TWINE_STRICT};
+        good = show_bytes(&new);
+    }
+    free(out);
+    free(old_starts);
+    free(new_starts);
+    return good;
+}
+
 /* ---- writing */
 
 #define ROOM 128
@@ -207,7 +243,7 @@ static void write_plan(struct writer *w) {
     keep(w, twine_close(w->state, row, MEMORY(w)));
 }
 
-/* Writes a plan, prints its bytes in hex, and shows it. */
+/* Writes a plan and shows it. */
 static bool written_plan(void) {
     struct writer w = {0};
     write_plan(&w);
@@ -217,11 +253,7 @@ static bool written_plan(void) {
         return false;
     }
     struct file f = {"written", w.out, here(&w), TWINE_STRICT};
-    printf("\n");
-    for (size_t i = 0; i < f.len; i++) {
-        printf("%02x%c", f.bytes[i], i % 16 == 15 || i + 1 == f.len ? '\n' : ' ');
-    }
-    return show_plan(&f);
+    return show_bytes(&f);
 }
 
 /* ---- the program */
@@ -246,17 +278,18 @@ static uint8_t *load(const char *name, size_t *len) {
 
 int main(int argc, char **argv) {
     bool tolerant = argc > 1 && strcmp(argv[1], "--tolerant") == 0;
-    if (argc != 2 + tolerant) {
-        fprintf(stderr, "usage: plan [--tolerant] FILE\n");
+    bool prune = argc > 1 && strcmp(argv[1], "--prune") == 0;
+    if (argc != 2 + (tolerant || prune)) {
+        fprintf(stderr, "usage: plan [--tolerant | --prune] FILE\n");
         return 2;
     }
-    struct file f = {.name = argv[1 + tolerant], .mode = tolerant ? TWINE_TOLERANT : TWINE_STRICT};
+    struct file f = {.name = argv[argc - 1], .mode = tolerant ? TWINE_TOLERANT : TWINE_STRICT};
     uint8_t *bytes = load(f.name, &f.len);
     if (bytes == NULL) {
         return 2;
     }
     f.bytes = bytes;
-    bool good = show_plan(&f) && written_plan();
+    bool good = show_plan(&f) && (prune ? pruned_plan(&f) : written_plan());
     free(bytes);
     return good ? EXIT_SUCCESS : EXIT_FAILURE;
 }
