@@ -4,7 +4,7 @@
 --   PruneReply, pruneReply r out old new
 --                      a reply, and the output and the two tables that it comes with
 --   pruneC file out cap words
---                      what `twine_prune` answers, and leaves in the output and in tables of cap and words words
+--                      what `twine_prune` answers, and leaves in the output, an old table of cap words and a new one of `words`
 use Prim.Native.Nat.{ℕ}
 use mathlib.Core.List.{List, [], _∷_}
 use Rattle.prelude.specs.Answer.{Answer, ok, error}

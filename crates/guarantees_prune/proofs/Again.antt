@@ -29,7 +29,7 @@ file-same a b vs ws s t u w (values, entry) =
 
 pub prunes-one : (file : List ℕ) (vs : List Value) (entry cap : ℕ) (out : List ℕ) (words cap′ : ℕ) (out′ : List ℕ) (words′ : ℕ)
     → (p : Prunes file vs entry cap out words) (q : Prunes file vs entry cap′ out′ words′)
-    → Same (p .new) (p .values) (p .start) (q .new) (q .values) (q .start)
+    → Same (p .new) (p .values) (p .newEntry) (q .new) (q .values) (q .newEntry)
 prunes-one file vs entry cap out words cap′ out′ words′ p q =
     file-same _ _ _ _ _ _ (p .wellFormed) (q .wellFormed)
     (keeps-unique vs (number vs entry) _ _ _ _ (p .wellFormed .values) (q .wellFormed .values) (p .keeps) (q .keeps))
@@ -38,10 +38,10 @@ pub prune-again : (file : List ℕ) (vs : List Value) (entry cap : ℕ) (out : L
     → (p : Prunes file vs entry cap out words) (out′ : List ℕ) (cap′ words′ : ℕ)
     → length (p .new) ≤ length out′ → length (p .values) ≤ cap′ → length (p .values) ≤ words′
     → pruneOf (p .new) out′ cap′ words′
-    ≡ pruned (ok (length (p .new), length (p .values), p .start)) (p .new ++ drop (length (p .new)) out′)
+    ≡ pruned (ok (length (p .new), length (p .values), p .newEntry)) (p .new ++ drop (length (p .new)) out′)
     (filled cap′ (starts 0 (p .values))) (filled words′ (starts 0 (p .values)))
 prune-again file vs entry cap out words w p out′ cap′ words′ long old many =
-    let q = prunes (p .new) (p .values) (p .start) cap′ (p .bytes) (p .wellFormed) old out′ words′ in
+    let q = prunes (p .new) (p .values) (p .newEntry) cap′ (p .bytes) (p .wellFormed) old out′ words′ in
     let same = keeps-again vs (number vs entry) _ _ _ _ (w .values) (p .wellFormed .values) (q .wellFormed .values) (entry-at file vs entry w .0)
     (p .keeps) (q .keeps) in
     let (new, values, start) = file-same _ _ _ _ _ _ (p .wellFormed) (q .wellFormed) same in

@@ -27,7 +27,7 @@ use Rattle.values.proofs.Depths.{before}
 use Rattle.values.proofs.Leads.{targetsOf-at}
 use Rattle.guarantees.proofs.Depths.{length-snoc}
 use Rattle.prune_marks.specs.Marks.{kept}
-use Rattle.guarantees_prune.specs.Pruned.{number, Reached, SameTokens, nothing, Keeps}
+use Rattle.guarantees_prune.specs.Pruned.{number, Reached, SameTokens, absent, Keeps}
 use Rattle.guarantees_prune.specs.Internal.{movedValue, newStart, keptValues}
 use Rattle.guarantees_prune.proofs.Numbers.{numbers, length-numbers, numbers-at, numbers-by, kept-on, kept-less, rising-numbers, among-numbers}
 use Rattle.guarantees_prune.proofs.Shorter.{Aim, Moved, moved-value}
@@ -63,7 +63,7 @@ module _ (vs : List Value) (w : Values Strict vs) (ms : List Bool)
 
   -- value number k of ws holds what value number j held
   abbrev SameTo : List Value → ℕ → ℕ → Type 0
-  SameTo ws j k = SameTokens vs (getD ss j 0) (tokens (getD vs j nothing)) ks ws (getD (starts 0 ws) k 0) (tokens (getD ws k nothing))
+  SameTo ws j k = SameTokens vs (getD ss j 0) (tokens (getD vs j absent)) ks ws (getD (starts 0 ws) k 0) (tokens (getD ws k absent))
 
   abbrev SameAt : List Value → ℕ → Type 0
   SameAt ws j = SameTo ws j (new j)
@@ -162,9 +162,9 @@ module _ (vs : List Value) (w : Values Strict vs) (ms : List Bool)
           ← c .count,
           start-here,
           start-of done moved more,
-          getD-append-seam done moved more nothing,
-          ap (λ l. getD l (length a) nothing) e,
-          getD-append-seam a v b nothing,
+          getD-append-seam done moved more absent,
+          ap (λ l. getD l (length a) absent) e,
+          getD-append-seam a v b absent,
         ) (moved-here m (moved ∷ more) .1 .same)
 
   -- ---- all of them

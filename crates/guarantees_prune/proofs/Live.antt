@@ -20,7 +20,7 @@ use Rattle.values.specs.Values.{Value, tokens, bytes, starts, HasTargets, Targe
 use Rattle.values.specs.Paths.{targets, targetsOf, Leads}
 use Rattle.values.proofs.Members.{each-among, among-take}
 use Rattle.values.proofs.Laws.{length-starts, rising-starts, targets-own, targets-none, targets-of-has-targets}
-use Rattle.guarantees_prune.specs.Pruned.{number, nothing, Reached, SameTokens, Keeps}
+use Rattle.guarantees_prune.specs.Pruned.{number, absent, Reached, SameTokens, Keeps}
 use Rattle.guarantees_prune.proofs.Reached.{reached-here, reached-on, reached-by, reached-le}
 
 -- ---- value number i
@@ -29,7 +29,7 @@ abbrev pub startOf : List Value → ℕ → ℕ
 startOf vs i = getD (starts 0 vs) i 0
 
 abbrev pub tokensOf : List Value → ℕ → List Token
-tokensOf vs i = tokens (getD vs i nothing)
+tokensOf vs i = tokens (getD vs i absent)
 
 targets-at : (at : ℕ) (vs : List Value) (i : ℕ) → i < length vs
     → getD (targetsOf at vs) i [] ≡ targets (getD (starts at vs) i 0) (tokensOf vs i)

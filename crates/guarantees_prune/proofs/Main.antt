@@ -32,17 +32,17 @@ pub keeps-unique : (vs : List Value) (e : ℕ) (ws : List Value) (f : ℕ) (xs :
     → Keeps vs e ws f → Keeps vs e xs g → (ws ≡ xs) × (f ≡ g)
 keeps-unique = unique.keeps-unique
 
--- whatever the memory
+-- the new file does not depend on the memory that is lent
 pub prunes-one : (file : List ℕ) (vs : List Value) (entry cap : ℕ) (out : List ℕ) (words cap′ : ℕ) (out′ : List ℕ) (words′ : ℕ)
     → (p : Prunes file vs entry cap out words) (q : Prunes file vs entry cap′ out′ words′)
-    → (p .new ≡ q .new) × (p .values ≡ q .values) × (p .start ≡ q .start)
+    → (p .new ≡ q .new) × (p .values ≡ q .values) × (p .newEntry ≡ q .newEntry)
 prunes-one = again.prunes-one
 
 pub prune-again : (file : List ℕ) (vs : List Value) (entry cap : ℕ) (out : List ℕ) (words : ℕ) → WellFormed Strict file vs entry
     → (p : Prunes file vs entry cap out words) (out′ : List ℕ) (cap′ words′ : ℕ)
     → length (p .new) ≤ length out′ → length (p .values) ≤ cap′ → length (p .values) ≤ words′
     → pruneOf (p .new) out′ cap′ words′
-    ≡ pruned (ok (length (p .new), length (p .values), p .start)) (p .new ++ drop (length (p .new)) out′)
+    ≡ pruned (ok (length (p .new), length (p .values), p .newEntry)) (p .new ++ drop (length (p .new)) out′)
     (filled cap′ (starts 0 (p .values))) (filled words′ (starts 0 (p .values)))
 prune-again = again.prune-again
 

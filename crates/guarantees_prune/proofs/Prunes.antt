@@ -181,7 +181,7 @@ pub prunes : (file : List ℕ) (vs : List Value) (entry cap : ℕ) → Bytes fil
 prunes file vs entry cap b w room out words = record {
   values = prunedValues vs entry;
   new = prunedFile vs entry;
-  start = prunedStart vs entry;
+  newEntry = prunedStart vs entry;
   bytes = new-bytes file vs entry w b;
   wellFormed = new-formed file vs entry w;
   keeps = new-keeps file vs entry w;
@@ -189,6 +189,7 @@ prunes file vs entry cap b w room out words = record {
   shorter = new-shorter file vs entry w;
   fewer = new-fewer file vs entry w;
   accepted = new-written file vs entry w b cap room out words;
+  calls = λ long many. file-written _ _ _ (new-formed file vs entry w) (new-bytes file vs entry w b) out words long many .accepted;
   oldTable = accepts file vs entry cap w room;
   newTable = accepts _ _ _ words (new-formed file vs entry w);
   decided = new-refused file vs entry w b cap room out words;

@@ -22,7 +22,7 @@ use Rattle.token.proofs.Laws.{strict-token}
 use Rattle.values.specs.Values.{Value, region, starts, Item, Formed, HasTarget, HasTargets, Values}
 use Rattle.values.proofs.Members.{each-imp}
 use Rattle.values.proofs.Laws.{starts-at}
-use Rattle.guarantees_prune.specs.Pruned.{number, nothing, Reached, SameToken, SameTokens, Keeps}
+use Rattle.guarantees_prune.specs.Pruned.{number, absent, Reached, SameToken, SameTokens, Keeps}
 use Rattle.guarantees_prune.proofs.Reached.{reached-le}
 use Rattle.guarantees_prune.proofs.Live.{startOf, tokensOf, targeted, number-lt, keeps-live}
 
@@ -135,10 +135,10 @@ module _ (vs : List Value) (ks : List ℕ) (rising : Rising ks) (ws xs : List Va
       let same : tokensOf ws n ≡ tokensOf xs n =
       tokens-same vs ks n rising (omega arith) ws xs (λ m l. start m (omega arith)) (startOf vs i) (tokensOf vs i) (startOf ws n) (tokensOf ws n)
       (tokensOf xs n) (a .copies n h) (rw (← start n (omega arith)) at (b .copies n h)) in
-      let head : getD ws n nothing .head ≡ getD xs n nothing .head = cc in
-      let items : getD ws n nothing .items ≡ getD xs n nothing .items = cc in
-      let value : getD ws n nothing ≡ getD xs n nothing = λ k. record { head = head k; items = items k } in
-      rw (take-suc ws n nothing n<, take-suc xs n nothing m<) (λ k. e k ++ (value k ∷ []))
+      let head : getD ws n absent .head ≡ getD xs n absent .head = cc in
+      let items : getD ws n absent .items ≡ getD xs n absent .items = cc in
+      let value : getD ws n absent ≡ getD xs n absent = λ k. record { head = head k; items = items k } in
+      rw (take-suc ws n absent n<, take-suc xs n absent m<) (λ k. e k ++ (value k ∷ []))
 
   values-same : ws ≡ xs
   values-same =

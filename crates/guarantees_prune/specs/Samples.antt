@@ -1,11 +1,13 @@
 -- Files, and what prune makes of them.
 --
---   Sample             a file; the bytes of the output, and the words of the old and the new table; and what prune answers and leaves, if all bytes of the
---                      output are ff at first
+--   Sample             a file; how many bytes the output has, and how many words the old and the new table; and what prune answers and leaves, if every byte
+--                      of the output is ff at first
 --   pruneSample s      the same by the definition that prune's contract cites
 --   samples            nothing is dead, with more memory than needed; a value before what is kept is dead, one between, one after the entry; a reference is the
---                      only way to a value; an item that is a text, and an entry that is a pointer
---   refusals           each of check's kinds of refusal once; a new table or an output that is too short: the first call that does not fit decides
+--                      only way to a value; an entry that is a pointer, to a variant with a text; a distance that needs a byte less; two steps from the entry,
+--                      to a value that is reached in two ways; a float, a map, a tag and a variant of one
+--   refusals           check refuses: EMPTY, LONG_BODY, OVERLONG, BAD_ENTRY and FULL, with too little of all else too; a new table or an output that is too
+--                      short: the first call that does not fit decides
 use Prim.Native.Nat.{ℕ, _+_}
 use mathlib.Core.List.{List, [], _∷_, _++_}
 use lib.ListN.{length, replicate}
@@ -44,6 +46,11 @@ samples =
     ∷ sample (1 ∷ 0x41 ∷ 0x61 ∷ 2 ∷ []) (1 ∷ 0 ∷ []) 2 1 0 2 (0 ∷ 1 ∷ []) (0 ∷ [])
     ∷ sample (0x41 ∷ 0x61 ∷ 0x41 ∷ 0x62 ∷ 0xe1 ∷ 0 ∷ []) (0x41 ∷ 0x62 ∷ 0xe1 ∷ 0 ∷ []) 4 2 2 0 (0 ∷ 2 ∷ 4 ∷ []) (0 ∷ 2 ∷ [])
     ∷ sample (2 ∷ 0xc5 ∷ 2 ∷ 0x41 ∷ 0x61 ∷ 0x10 ∷ 1 ∷ 0xf5 ∷ 0 ∷ []) (0xc5 ∷ 2 ∷ 0x41 ∷ 0x61 ∷ 0x10 ∷ 0xf4 ∷ 0 ∷ []) 7 2 5 0 (0 ∷ 1 ∷ 6 ∷ 7 ∷ []) (0 ∷ 5 ∷ [])
+    ∷ sample (0x10 ∷ 0x4e ∷ (replicate 14 0x61 ++ (0x62 ∷ 0xff ∷ 1 ∷ 0xef ∷ 3 ∷ 4 ∷ []))) (0x10 ∷ 0x62 ∷ 0xf1 ∷ 0xe2 ∷ 2 ∷ []) 5 2 1 0
+    (0 ∷ 1 ∷ 16 ∷ []) (0 ∷ 1 ∷ [])
+    ∷ sample (0x10 ∷ 0x11 ∷ 0xf1 ∷ 0x62 ∷ 0xf1 ∷ 0xe4 ∷ 2 ∷ []) (0x10 ∷ 0xf0 ∷ 0x62 ∷ 0xf1 ∷ 0xe3 ∷ 2 ∷ []) 6 3 2 1 (0 ∷ 1 ∷ 2 ∷ 3 ∷ []) (0 ∷ 1 ∷ 2 ∷ [])
+    ∷ sample (0x30 ∷ 1 ∷ 2 ∷ 3 ∷ 4 ∷ 0x10 ∷ 0x71 ∷ 0x11 ∷ 0xf7 ∷ 0x83 ∷ 0xf3 ∷ 0xb5 ∷ 0xf2 ∷ 1 ∷ [])
+    (0x30 ∷ 1 ∷ 2 ∷ 3 ∷ 4 ∷ 0x71 ∷ 0x11 ∷ 0xf6 ∷ 0x83 ∷ 0xf3 ∷ 0xb5 ∷ 0xf2 ∷ 1 ∷ []) 13 4 10 0 (0 ∷ 5 ∷ 6 ∷ 9 ∷ 11 ∷ []) (0 ∷ 5 ∷ 8 ∷ 10 ∷ [])
     ∷ []
 
 abbrev pub refusals : List Sample
@@ -53,6 +60,7 @@ refusals =
     ∷ refusal (0x1f ∷ 0x80 ∷ 0 ∷ 2 ∷ []) 4 1 1 (badFile (fault OVERLONG 0))
     ∷ refusal (1 ∷ 7 ∷ []) 3 1 1 (badFile (fault BAD_ENTRY 1))
     ∷ refusal (1 ∷ 0 ∷ []) 2 0 1 (badFile (fault FULL 0))
+    ∷ refusal (1 ∷ 0 ∷ []) 0 0 0 (badFile (fault FULL 0))
     ∷ refusal (1 ∷ 0 ∷ []) 2 1 0 (noFit FULL)
     ∷ refusal (1 ∷ 0 ∷ []) 0 1 0 (noFit FULL)
     ∷ refusal (1 ∷ 0 ∷ []) 1 1 1 (noFit NO_ROOM)

@@ -4,15 +4,20 @@
 --   Pruned, pruned a out old new
 --                      an answer, and the output and the two tables of starts that it comes with
 --   refused out cap words f
---                      the refusal f, and zeros in all that was lent
+--                      the refusal f, with zeros in the output and in both tables
 --   closeNumber k w out table
 --                      a close at the value that is listed in word number k of the table
 --   newFile s ss e out table
---                      the calls that write the new file, of what the value number e reaches, from a new writer on, with this output and table; the first
---                      refused one decides
+--                      what is left of this output and table by the calls of a new writer that write what value number e reaches, of the values of the
+--                      region s, which start at ss, and close at it; the first refused one decides
+--   prunedBy out cap words ss k v r
+--                      the answer and the memory after these calls left r with the verdict v, if the entry is then value number k
+--   pruneIn out cap words s a
+--                      the same for the outcome a of `checkIn` on a file with the region s
 --   pruneOf file out cap words
---                      what prune answers and leaves in the output `out` and tables of cap and words words: check's refusals first; then the writer's; else
---                      the new file's length, count and entry, with the output and the new table as the calls leave them, and the old table as check does
+--                      what prune answers and leaves in the output `out`, an old table of cap words and a new one of `words`: check's refusals first; then the
+--                      writer's; else the new file's length, count and entry, with the output and the new table as the calls leave them, and the old table
+--                      as check does
 use Prim.Native.Nat.{ℕ, suc, _-_}
 use mathlib.Core.List.{List}
 use lib.ListN.{length, take, getD, replicate}

@@ -2,11 +2,13 @@
 --
 --   tokenOf s h        the token with head h in the region s
 --   newNumber ss ms t  the number that the target of t gets: how many values before it are marked
+--   ifAccepted v r next
+--                      `next` if the verdict v is ok, else r
 --   andOn r f          f of what the call r left, if it was accepted, and else r: the first refused call decides
 --   copyTokens s ss ms ts w out table
---                      the tokens ts, written by the writer w
+--                      what the writer w leaves when it writes the tokens ts of the region s, whose values start at ss; ms are the marks
 --   copyValues s ss ms k i w out table
---                      k values from number i on: the tokens of each that is marked
+--                      the same for k values from number i on: the tokens of each that is marked are written
 use Prim.Native.Nat.{ℕ, zero, suc}
 use mathlib.Core.Bool.{Bool, false}
 use mathlib.Core.List.{List, [], _∷_}

@@ -5,7 +5,8 @@
 use mathlib.Core.Path.{_≡_, refl, ap, _∙_}
 use mathlib.Core.Bool.{true, false}
 use mathlib.Core.List.{List, [], _∷_, _++_, map, append-nil}
-use Prim.Native.Nat.{ℕ, zero, suc, _+_, _-_, _*_, _/_, _%_, _≤_, _<_}
+use Prim.Native.Nat.{ℕ, zero, suc, _+_, _-_, _*_, _/_, _%_, _^_, _≤_, _<_}
+use native.Mathlib.Nat.{mul-le-mul}
 use native.Mathlib.Numerals.{add-one}
 use native.Mathlib.Omega.{arith}
 use borrow.Author.Tests.{eq-eqb, ne-eqb}
@@ -117,3 +118,10 @@ module _ (t : List ℕ) (lo hi : ℕ) (up : Rising (startsIn t)) (fits : hi ≤ 
       (λ k m. omega (arith, part-at k (omega arith), start-at t (lo + k), rank-below x (startsIn t) up (lo + k) (omega arith)))
       (λ k m b. omega (arith, part-at k (omega arith), start-at t (lo + k), rank-above x (startsIn t) up (lo + k) (omega arith) (omega arith))) in
       omega (arith, is)
+
+-- an offset in a block, times the starts in it
+pub guess-fits : (x n : ℕ) → n ≤ 4096 → x % 4096 * n < 2 ^ 64
+guess-fits x n h =
+    let most : x % 4096 ≤ 4096 = omega arith in
+    let all : x % 4096 * n ≤ 4096 * 4096 = mul-le-mul {n₂ = 4096} {m₂ = 4096} most h in
+    omega arith

@@ -1,5 +1,5 @@
--- A table of starts that keeps a mark and a digit with each: a word is 256 times a start, twice a digit below 128, and 1 if it is marked. Offsets are
--- below 2 ^ 24, so this fits 32 bits, and such words rise as the starts do.
+-- A table of starts that keeps a mark and a digit with each: a word is the sum of 256 times a start, twice a digit below 128, and 1 if it is marked.
+-- Offsets are below 2 ^ 24, so this fits 32 bits, and such words rise as the starts do.
 --
 --   startsIn t         the starts that a table keeps
 --   isMarked w         whether a word is marked
@@ -7,7 +7,7 @@
 --   kept ms            how many are marked
 --   digit w            the digit of a word
 --   four t i           the number that the digits of four words make, from word number i on, the lowest digit first
---   NumberedTo n t     of the first n words of t, each four keep how many words are marked up to them and with them
+--   NumberedTo n t     in the first n words of t, the digits of each four make the number of marks from the table's first word to the last of the four
 --   Indexed t blocks   the starts that t keeps rise, and are counted by `blocks`
 --   Numbers t u        u keeps the starts and the marks of t, and is numbered
 use mathlib.Core.Path.{_≡_}

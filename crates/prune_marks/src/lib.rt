@@ -97,6 +97,14 @@ fn high(t: &[u32], blocks: &[u32], x: u32) -> usize
     t.len()
 }
 
+// Where x would be among the n starts of its block, if they were as far from each other.
+fn guess(n: usize, x: u32) -> usize {
+    if table::BLOCK < n {
+        return 0;
+    }
+    (x % table::BLOCK_WORD) as usize * n / table::BLOCK
+}
+
 // How many starts are less than x: the index of the word that keeps x, if one does. `blocks` has how many starts come
 // before each block, as far as these are counted. A word is less than 256 * x exactly if its start is less than x.
 pub fn find(t: &[u32], blocks: &[u32], x: u32) -> usize
@@ -105,7 +113,7 @@ pub fn find(t: &[u32], blocks: &[u32], x: u32) -> usize
 {
     let lo = low(t, blocks, x);
     let hi = high(t, blocks, x);
-    lo + table_search::rank(&t[lo..hi], &t[..0], 256 * x)
+    lo + table_search::rank_near(&t[lo..hi], guess(hi - lo, x), 256 * x)
 }
 
 // How many words are marked from number `from` on, before number `to`.

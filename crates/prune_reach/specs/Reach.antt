@@ -4,8 +4,8 @@
 --   aims ss ts         the numbers of the values that the references and pointers among the tokens ts name, if the values start at ss
 --   aimsAt s ss i      the numbers of the values that value number i of the region s leads to
 --   marked js ms       the marks ms, with those of the numbers js set
---   sweep f k ms       the marks ms after a pass over the values k - 1 down to 0: each that is marked then marks f of it
---   reached s ss e     which values of the region s, which start at ss, the value number e reaches; e itself among them
+--   sweep f k ms       the marks ms after a pass over the values k - 1 down to 0, in which each value i that is marked sets the marks of the numbers f i
+--   reached s ss e     a mark for each value of the region s, if they start at ss: set if value number e reaches it. It reaches itself
 use Prim.Native.Nat.{ℕ, zero, suc}
 use mathlib.Core.Bool.{Bool, true, false}
 use mathlib.Core.List.{List, [], _∷_}

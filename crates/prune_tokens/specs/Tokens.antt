@@ -2,8 +2,8 @@
 --
 --   PlacedHead           a token: the offset of its header, and its head
 --   headsBy at a more    the token at `at`, if it was scanned with the answer a, and `more` from its end on
---   headsIn k s end at   at most k tokens of the region s from `at` on, those that start before `end`; one that does not scan ends them, which no
---                        accepted file has
+--   headsIn k s end at   at most k tokens of the region s from `at` on, those that start before `end`. A token that does not scan ends them; no accepted
+--                        file has one
 --   heads s end at       all of them
 --   headsOf s ss i       the tokens of value number i, if the values of s start at ss: it ends where the next one starts, and the last at the region's end
 --   targetOf t           the offset that a reference or pointer t names. `-` stops at 0: it is meaningful if n is less than the offset of the header

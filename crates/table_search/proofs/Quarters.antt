@@ -9,7 +9,7 @@ use lib.ListN.{length, getD}
 use Rattle.prelude.specs.Pick.{pick}
 use Rattle.prelude.specs.Search.{rank, Rising}
 use Rattle.prelude.proofs.Tests.{split}
-use Rattle.prelude.proofs.Searches.{rank-after, rank-until}
+use Rattle.prelude.proofs.Searches.{rank-after, rank-above, rank-until}
 
 -- what one word says about the rank
 module _ (x : ℕ) (t : List ℕ) (i : ℕ) (up : Rising t) where
@@ -18,6 +18,16 @@ module _ (x : ℕ) (t : List ℕ) (i : ℕ) (up : Rising t) where
 
   pub not-past : x ≤ getD t i 0 → _≡_ {A = ℕ} 0 (pick (ltb i (rank x t)) 1 0)
   not-past g = rw (le-ltb i (rank x t) (rank-until x t up i g))
+
+-- what a word that is at most x says about the rank of x
+rank-from : (x : ℕ) (t : List ℕ) (i : ℕ) → Rising t → i < length t → getD t i 0 ≤ x → i ≤ rank x t
+rank-from x t i up h l =
+    split (rank x t) i (λ less. absurd (omega (arith, up (rank x t) i less h, rank-above x t up (rank x t) (omega arith) (omega arith)))) (λ most. most)
+
+-- the rank is at one of 16 words, by the first and the last of them
+pub rank-window : (x : ℕ) (t : List ℕ) (i : ℕ) → Rising t → i + 16 ≤ length t → getD t i 0 ≤ x → x ≤ getD t (i + 15) 0
+    → Rising t × (i ≤ rank x t) × (rank x t ≤ i + 16) × (i + 16 ≤ length t)
+rank-window x t i up h first last = (up, rank-from x t i up (omega arith) first, omega (arith, rank-until x t up (i + 15) last), h)
 
 -- the rank is one of lo to lo + size
 pub record Between (r n lo size : ℕ) : Type 0 where

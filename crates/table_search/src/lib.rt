@@ -105,6 +105,39 @@ pub fn rank(t: &[u32], blocks: &[u32], x: u32) -> usize
     count_16(t, base, x)
 }
 
+// The start of 16 words around an index that is guessed, in a table of n words.
+fn window(n: usize, guess: usize) -> usize
+    requires { ⌜ 16 ≤ n ⌝ }
+    ensures { λ r. ⌜ r + 16 ≤ n ⌝ }
+{
+    if guess < 8 {
+        return 0;
+    }
+    if n - 8 < guess {
+        return n - 16;
+    }
+    guess - 8
+}
+
+// How many words of a rising table are less than x, first looked for in 16 words around an index that is guessed.
+pub fn rank_near(t: &[u32], guess: usize, x: u32) -> usize
+    requires { ⌜ Rising (now t) ⌝ }
+    ensures { λ r. ⌜ r ≡ rank x (now (t .entry)) ⌝ }
+{
+    let n = t.len();
+    if n < 16 {
+        return count_all(t, x);
+    }
+    let base = window(n, guess);
+    let end = base + 15;
+    if t[base] <= x {
+        if x <= t[end] {
+            return count_16(t, base, x);
+        }
+    }
+    rank(t, &t[..0], x)
+}
+
 // Whether a rising table has x.
 pub fn is_among(t: &[u32], blocks: &[u32], x: u32) -> bool
     requires { ⌜ (Rising (now t)) × (Counted (now blocks) (now t)) ⌝ }

@@ -2,7 +2,6 @@
 use Prim.Native.Nat.{_≤_}
 use native.Mathlib.Omega.{arith}
 use borrow.Author.Needs.{needs}
-use Rattle.table.proofs.Blocks.{counted-none}
 use Rattle.prune_marks.proofs.Words.{part-rising, rank-part, rank-fits}
 use Rattle.prune_marks.proofs.find.Statement.{statement}
 use Rattle.prune_marks.proofs.find.Tie as tie
@@ -21,11 +20,12 @@ find-spec =
     (λ c. search needs)
     (λ c. search needs)
     (λ c. search needs)
+    (λ c κs. search needs)
     (λ c. search needs)
     (λ c κs. let h = c .before .before in
     let l = h .before in
     let s = l .before .before .before in
     let lo-hi : l .low .result ≤ h .high .result = omega (arith, l .low .ensures, h .high .ensures .0) in
-    (part-rising (s .args .t .now) _ _ (s .pre .0 .rising) (h .high .ensures .1) lo-hi, counted-none _))
+    part-rising (s .args .t .now) _ _ (s .pre .0 .rising) (h .high .ensures .1) lo-hi)
     (λ c. let s = c .before .before .before .before .before .before .before in omega (arith, found c, rank-fits (s .args .x) (s .args .t .now)))
     (λ c. found c))
