@@ -129,8 +129,10 @@ impl<'a> File<'a> {
     /// The others are in the new file each once, in their old order, and hold the same things; offsets are other ones. The entry is the same
     /// value. The new file is never longer, and pruned again it is the same.
     ///
-    /// A file that was checked in strict mode has no error. One that was checked in tolerant mode has that of a check in strict mode,
-    /// OVERLONG, if a number is padded: prune is strict, and such a file has to be written anew first.
+    /// # Panics
+    ///
+    /// If the file was checked in tolerant mode and has a padded number: prune is strict, and such a file has to be written anew first.
+    /// [`File::try_prune`] returns this as an error. A file that was checked in strict mode has none.
     ///
     /// ```
     /// use twine::{File, Writer};
@@ -146,13 +148,19 @@ impl<'a> File<'a> {
     /// let bytes = w.close(row)?;
     ///
     /// let file = File::check(&bytes)?;
-    /// let pruned = file.prune()?;
+    /// let pruned = file.prune();
     /// let new = File::check(&pruned)?;
     /// assert_eq!((file.count(), new.count()), (4, 2));
     /// assert_eq!(new.entry().item(0)?.follow().offset(), 0);
     /// # Ok::<(), twine::Error>(())
     /// ```
-    pub fn prune(&self) -> Result<Vec<u8>, Error> {
+    pub fn prune(&self) -> Vec<u8> {
+        self.try_prune().unwrap_or_else(|error| panic!("prune is strict, and the file was checked in tolerant mode: {error}"))
+    }
+
+    /// The same as [`File::prune`]; or, of a file that was checked in tolerant mode and has a padded number, the error of a check in strict
+    /// mode, OVERLONG.
+    pub fn try_prune(&self) -> Result<Vec<u8>, Error> {
         let mut out = vec![0; self.bytes.len()];
         let mut old_starts = vec![0; self.count()];
         let mut new_starts = vec![0; self.count()];

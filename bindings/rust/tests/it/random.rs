@@ -495,18 +495,18 @@ fn pruned() {
     for round in 0..600 {
         let bytes = write_some(&mut random, Writer::new(), 1 + round / 4);
         let Ok(file) = File::check(&bytes) else { continue };
-        let new = file.prune().unwrap();
+        let new = file.prune();
         assert_eq!(new, rewritten(&file));
         assert!(new.len() <= bytes.len());
         let again = File::check(&new).unwrap();
-        assert_eq!(again.prune().unwrap(), new);
+        assert_eq!(again.prune(), new);
         kept += usize::from(1 < again.count() && again.count() < file.count());
 
         let padded = pad(&mut random, &parts(&file));
         let read = File::check_with(Mode::Tolerant, &padded.bytes).unwrap();
         // the entry is the null at its end
         let want = padded.first.map_or(Ok(vec![0x02, 0x00]), |at| Err(error(ErrorKind::Overlong, at)));
-        assert_eq!(read.prune(), want);
+        assert_eq!(read.try_prune(), want);
     }
     assert!(kept > 100, "more than the entry, and not all, is kept in {kept}");
 }
@@ -533,7 +533,7 @@ fn pruned_into() {
         match answer {
             Ok(Pruned { length, count, entry }) => {
                 let old = checked.unwrap();
-                assert_eq!(out[..length], old.prune().unwrap());
+                assert_eq!(out[..length], old.prune());
                 assert!(out[length..].iter().all(|byte| *byte == 0xaa));
                 let new = File::check(&out[..length]).unwrap();
                 assert_eq!((count, entry), (new.count(), new.entry().offset()));
@@ -554,7 +554,7 @@ fn pruned_into() {
                         assert_eq!((error.kind, error.place), (ErrorKind::Full, without));
                     }
                     Ok(old) => {
-                        let new = old.prune().unwrap();
+                        let new = old.prune();
                         let count = File::check(&new).unwrap().count();
                         assert!(out.len() < new.len() || new_starts.len() < count);
                         assert!(error.kind == ErrorKind::NoRoom || error.kind == ErrorKind::Full && new_starts.len() < count);
