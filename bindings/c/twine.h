@@ -173,8 +173,8 @@ enum twine_mode {
 
 /* Checks a file. out = {count of values, offset of the entry}; starts gets the offset at which each value starts, in
    rising order, and 0 in every other word. On an error out = {place, 0}, and starts gets 0 in every word. A value
-   has at least one byte, so that len - 1 words, one for each byte of the region, are always enough. In a file that is
-   accepted every text is UTF-8. */
+   has at least one byte, so that len - 1 words, one for each byte of the region, are always enough, and none for an empty file.
+   In a file that is accepted every text is UTF-8. */
 uint32_t twine_check(const uint8_t *file, size_t len, uint32_t mode,
                      uint32_t *starts, size_t words, uint64_t out[2]);
 
@@ -346,7 +346,7 @@ uint32_t twine_close(uint64_t state[TWINE_STATE], size_t at,
    told[0] = 0 is about new_starts, unless old_words is 0.
 
    The new file is never longer than the file, and has no more values: out_len = len and len - 1 words in each table are
-   always enough. */
+   always enough, and none of either for an empty file. */
 uint32_t twine_prune(const uint8_t *file, size_t len, uint8_t *out, size_t out_len,
                      uint32_t *old_starts, size_t old_words, uint32_t *new_starts, size_t new_words,
                      uint64_t told[3]);

@@ -34,7 +34,7 @@ pub enum ErrorKind {
     NoItem = 13,
     /// The query does not fit the kind.
     WrongKind = 14,
-    /// In the writer: the output has no room.
+    /// In the writer and in [`prune_into`](crate::prune_into): the output has no room.
     NoRoom = 15,
     /// In the writer: the open value still has to get items.
     Owed = 16,
@@ -134,7 +134,8 @@ impl fmt::Display for ErrorKind {
 pub struct Error {
     /// What is wrong.
     pub kind: ErrorKind,
-    /// The offset in the file. The writer's errors have none.
+    /// The offset in the file. The writer's errors have none, nor have FULL and `NO_ROOM` of [`prune_into`](crate::prune_into) about the memory
+    /// for the new file.
     pub place: Option<usize>,
 }
 

@@ -18,7 +18,8 @@ fn always<T>(answer: Result<T, Error>) -> T {
 
 /// A file that was checked: every value and item in it can be read, every text is UTF-8, and no pointer leads astray or around in a loop.
 ///
-/// It borrows the bytes and owns the list of the offsets at which the values start. It is read in the mode in which it was checked.
+/// It borrows the bytes and owns the list of the offsets at which the values start. It is read in the mode in which it was checked;
+/// [`prune`](File::prune) alone is always strict.
 #[derive(Clone)]
 pub struct File<'a> {
     bytes: &'a [u8],
@@ -126,7 +127,7 @@ impl<'a> File<'a> {
     /// The file without its dead values: those to which no path along pointers and references leads from the entry. A file whose plan was
     /// rebuilt may have many.
     ///
-    /// The others are in the new file each once, in their old order, and hold the same things; offsets are other ones. The entry is the same
+    /// The others are in the new file each once, in their old order, and hold the same things; offsets may be other ones. The entry is the same
     /// value. The new file is never longer, and pruned again it is the same.
     ///
     /// # Panics
@@ -154,12 +155,26 @@ impl<'a> File<'a> {
     /// assert_eq!(new.entry().item(0)?.follow().offset(), 0);
     /// # Ok::<(), twine::Error>(())
     /// ```
+    #[must_use]
     pub fn prune(&self) -> Vec<u8> {
-        self.try_prune().unwrap_or_else(|error| panic!("prune is strict, and the file was checked in tolerant mode: {error}"))
+        self.try_prune().unwrap_or_else(|error| {
+            panic!("prune is strict, and the file was checked in tolerant mode (try_prune returns this error): {error}")
+        })
     }
 
-    /// The same as [`File::prune`]; or, of a file that was checked in tolerant mode and has a padded number, the error of a check in strict
-    /// mode, OVERLONG.
+    /// The same as [`File::prune`], without a panic.
+    ///
+    /// # Errors
+    ///
+    /// OVERLONG, with its place, if the file was checked in tolerant mode and has a padded number, also in a dead value.
+    ///
+    /// ```
+    /// use twine::{ErrorKind, File, Mode};
+    ///
+    /// let file = File::check_with(Mode::Tolerant, &[0x1f, 0x80, 0x00, 0x02])?;
+    /// assert_eq!(file.try_prune().unwrap_err().kind, ErrorKind::Overlong);
+    /// # Ok::<(), twine::Error>(())
+    /// ```
     pub fn try_prune(&self) -> Result<Vec<u8>, Error> {
         let mut out = vec![0; self.bytes.len()];
         let mut old_starts = vec![0; self.count()];

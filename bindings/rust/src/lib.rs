@@ -2,7 +2,7 @@
 //!
 //! - [`File::check`] checks a whole file, and in one that it accepts every [`Text`] is UTF-8; a [`Node`] is a value or an item of it.
 //! - [`Writer`] writes a file.
-//! - [`File::prune`] leaves out what the entry does not reach; [`prune_into`] does so in given memory.
+//! - [`File::prune`] leaves out what the entry does not reach; [`prune_into`] does so in given memory. Both are strict.
 //! - [`query`] asks at any offset of any bytes, checked or not.
 //! - [`Mode`] is for whoever reads files of the old exporter, whose numbers are padded.
 //!
@@ -25,9 +25,9 @@
 //! # Ok::<(), twine::Error>(())
 //! ```
 //!
-//! What the library answers is proved for every input. The crate itself is not: it hands slices over and names the answers. No bytes,
-//! offsets or calls make it panic; only an archive that breaks its contract, or a newer one that returns an error which [`ErrorKind`] does
-//! not have. An archive of another version does not link. Offsets that the archive returns are bounds-checked before they are used.
+//! What the library answers is proved for every input. The crate itself is not: it hands slices over and names the answers. No bytes or
+//! offsets make it panic, and of the calls only [`File::prune`], of a file that tolerant mode alone accepts; else only an archive that breaks
+//! its contract, or a newer one that returns an error which [`ErrorKind`] does not have. An archive of another version does not link. Offsets that the archive returns are bounds-checked before they are used.
 
 #[cfg(not(target_pointer_width = "64"))]
 compile_error!("libtwine.a is for 64-bit targets");

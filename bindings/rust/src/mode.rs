@@ -7,7 +7,7 @@ use crate::c;
 /// The exporter of the firm that we bought padded lengths to five bytes; [`Tolerant`](Mode::Tolerant) is for its files alone, and reads any
 /// padded number in them. The mode changes nothing else: in both, a number has at most ten bytes and is within its bounds (RANGE), and what
 /// is not OVERLONG in strict mode has the same answer in tolerant mode. [`Writer`](crate::Writer) never pads, so a padded file that is read
-/// and written again has other bytes and offsets.
+/// and written again has other bytes and offsets. [`File::prune`](crate::File::prune) has no mode: it is strict.
 ///
 /// ```
 /// use twine::{ErrorKind, File, Mode};

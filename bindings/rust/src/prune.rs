@@ -18,10 +18,10 @@ pub struct Pruned {
 /// dead, and is the same for a file that was checked.
 ///
 /// Accepted: the output past the new file is as it was; `old_starts` has the offset of each value of the file, `new_starts` that of each
-/// value of the new file, and both have 0 in every other word. The new file is never longer than the file: an output of its length, and
-/// tables of one word less than it has bytes, are always enough.
+/// value of the new file, and both have 0 in every other word. The new file is never longer: an output of the old
+/// file's length, and tables of one word less than that, are always enough.
 ///
-/// Refused: all three are zeros. First come the errors of a check in strict mode, each with a place; FULL at a place means that `old_starts`
+/// Refused: the output and both tables are zeros. First come the errors of a check in strict mode, each with a place; FULL at a place means that `old_starts`
 /// is too short. Then, without a place, FULL if `new_starts` is too short, or NO_ROOM if the output is: the first call of a
 /// [`Writer`](crate::Writer) with that memory that would be refused decides.
 ///

@@ -13,5 +13,5 @@ new-number-spec =
     (λ c κs. search needs)
     (λ c κs. search needs)
     (λ c κs. (search number-fits, search needs))
-    (λ c. rw (le-leb _ _ (c .before .before .before .if1 .taken)) (search number-is))
-    (λ c. rw (lt-leb _ _ (c .if1 .left))))
+    (λ c. rw (le-leb 14 _ (c .before .before .before .if1 .taken)) (search number-is))
+    (λ c. rw (lt-leb 14 _ (c .if1 .left))))

@@ -15,5 +15,5 @@ mark-target-spec =
     (λ c κs. search needs)
     (λ c. search needs)
     (λ c. let f = c .before .before .before .before .before .before in
-    rw (le-leb _ _ (f .before .if1 .taken)) (search needs, search target-marked))
-    (λ c. rw (lt-leb _ _ (c .if1 .left)) (search needs, search needs)))
+    rw (le-leb 14 _ (f .before .if1 .taken)) (search needs, search target-marked))
+    (λ c. rw (lt-leb 14 _ (c .if1 .left)) (search needs, search needs)))

@@ -6,4 +6,4 @@ use Rattle.writer_target.proofs.moved_number.Tie as tie
 
 pub moved-number-spec : {M : Type 1} → statement M
 moved-number-spec =
-    tie.close (tie.spec (λ c. rw (lt-leb _ _ (c .if1 .taken))) (λ c κs. search needs) (λ c. rw (le-leb _ _ (c .before .if1 .left)) (c .distance .ensures)))
+    tie.close (tie.spec (λ c. rw (lt-leb 14 _ (c .if1 .taken))) (λ c κs. search needs) (λ c. rw (le-leb 14 _ (c .before .if1 .left)) (c .distance .ensures)))

@@ -1,5 +1,6 @@
 -- `writer_target::named` meets its contract.
 use native.Mathlib.Omega.{arith}
+use mir.Facts.{fits-widen}
 use borrow.Author.Needs.{needs}
 use borrow.Author.Tests.{le-leb, lt-leb}
 use Rattle.prelude.proofs.Lists.{getD-past}
@@ -12,7 +13,7 @@ named-spec =
     (tie.spec
     (λ c. search needs)
     (λ c. search needs)
-    (λ c. omega (arith, c .shared-slice-known .given (c .before .before .before .args .number)))
-    (λ c. rw (le-leb _ _ (c .before .before .if1 .taken)))
-    (λ c. rw (le-leb _ _ (c .before .if1 .taken)) (search (getD-past, arith)))
-    (λ c. rw (lt-leb _ _ (c .if1 .left))))
+    (λ c. fits-widen tt (c .shared-slice-known .given _))
+    (λ c. rw (le-leb 14 _ (c .before .before .if1 .taken)))
+    (λ c. rw (le-leb 14 _ (c .before .if1 .taken)) (search (getD-past, arith)))
+    (λ c. rw (lt-leb 14 _ (c .if1 .left))))

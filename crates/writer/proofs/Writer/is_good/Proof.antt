@@ -10,7 +10,7 @@ is-good-spec =
     tie.close
     (tie.spec
     (λ c κs. search needs)
-    (λ c. rw (le-leb _ _ (c .before .if1 .taken)) (c .is-listed-near .ensures))
+    (λ c. rw (le-leb 14 _ (c .before .if1 .taken)) (c .is-listed-near .ensures))
     (λ c κs. search needs)
-    (λ c. rw (lt-leb _ _ (c .before .before .if1 .left), eq-eqb _ _ (c .before .if2 .taken)) (c .is-text .ensures))
-    (λ c. rw (lt-leb _ _ (c .before .if1 .left), ne-eqb _ _ (c .if2 .left)) refl))
+    (λ c. rw (lt-leb 14 _ (c .before .before .if1 .left), eq-eqb _ 4 (c .before .if2 .taken)) (c .is-text .ensures))
+    (λ c. rw (lt-leb 14 _ (c .before .if1 .left), ne-eqb _ 4 (c .if2 .left)) refl))
