@@ -1,19 +1,18 @@
 -- The ways through prune.
 --
 -- In order: a row of values; its table marked; the new file; what is left in memory.
-use mathlib.Core.Path.{_≡_, refl, sym, ap, _∙_}
+use mathlib.Core.Path.{_≡_, refl, ap, _∙_}
 use mathlib.Core.Bool.{Bool, false}
 use mathlib.Core.List.{List, _++_}
-use Prim.Native.Nat.{ℕ, suc, _+_, _-_, _/_, _^_, _≤_, _<_}
+use Prim.Native.Nat.{ℕ, _+_, _-_, _/_, _^_, _≤_, _<_}
 use native.Mathlib.Numerals.{add-one}
 use native.Mathlib.Omega.{arith}
 use lib.ListN.{length, take, drop, getD, replicate, length-take, length-map, take-append-drop}
 use Rattle.prelude.specs.Answer.{ok, error}
-use Rattle.prelude.specs.Search.{among, rank, Rising}
-use Rattle.prelude.proofs.Tests.{split}
+use Rattle.prelude.specs.Search.{rank}
 use Rattle.prelude.proofs.Searches.{among-by, rank-at, rising-ge}
 use Rattle.error.specs.Error as errors
-use Rattle.error.specs.Error.{LIMIT, numberOf}
+use Rattle.error.specs.Error.{numberOf}
 use Rattle.error.specs.declared.Error.{Error}
 use Rattle.error.specs.declared.ErrorKind.{ErrorKind}
 use Rattle.leb128.specs.declared.Mode.the-variants.{Strict}
@@ -29,10 +28,9 @@ use Rattle.writer.specs.Step.{fresh, closeAt, Result, result}
 use Rattle.writer.specs.Answers.{wrote}
 use Rattle.writer.specs.declared.WriteAnswer.the-variants as answers
 use Rattle.writer.specs.declared.WriteResult.{WriteResult}
-use Rattle.prune_marks.specs.Marks.{startsIn, marksIn, kept, NumberedTo, Indexed, Numbers}
+use Rattle.prune_marks.specs.Marks.{startsIn, marksIn, kept, Indexed, Numbers}
 use Rattle.prune_reach.specs.Reach.{reached}
 use Rattle.prune_copy.specs.Copy.{andOn, copyValues}
-use Rattle.prune_copy.specs.Internal.{Ready}
 use Rattle.prune.specs.Prune.{Pruned, pruned, badFile, noFit, closeNumber, newFile, prunedBy, pruneOf}
 use Rattle.prune.specs.Internal.{Row, Marked, Rebuilt, settledBy, settled}
 use Rattle.prune.specs.declared.Written.{Written}

@@ -3,7 +3,7 @@
 -- In order: the number of a target; one token; the tokens of a value; a value; values.
 use mathlib.Core.Path.{_≡_, refl, sym, ap, _∙_}
 use mathlib.Core.Bool.{Bool, true, false}
-use mathlib.Core.List.{List, [], _∷_}
+use mathlib.Core.List.{List}
 use Prim.Native.Nat.{ℕ, suc, _+_, _-_, _≤_, _<_}
 use native.Mathlib.Numerals.{add-one}
 use native.Mathlib.Omega.{arith}
@@ -31,7 +31,7 @@ use Rattle.writer.specs.Step.{Result, result, putMoved}
 use Rattle.writer.specs.Answers.{answerOf, wrote}
 use Rattle.writer.specs.declared.WriteAnswer.the-variants as answers
 use Rattle.writer.specs.declared.WriteResult.{WriteResult}
-use Rattle.prune_tokens.specs.Tokens.{PlacedHead, heads, headsOf}
+use Rattle.prune_tokens.specs.Tokens.{heads, headsOf}
 use Rattle.prune_tokens.proofs.Heads.{heads-end, heads-error, heads-token}
 use Rattle.prune_marks.specs.Marks.{startsIn, marksIn, kept}
 use Rattle.prune_marks.proofs.Words.{rank-fits}

@@ -3,7 +3,7 @@
 -- In order: a table that keeps the same starts; the tokens of a value; a value; the values from the last to the first.
 use mathlib.Core.Path.{_≡_, refl, sym, ap, _∙_}
 use mathlib.Core.Bool.{Bool, true, false}
-use mathlib.Core.List.{List, [], _∷_, map}
+use mathlib.Core.List.{List, _∷_}
 use Prim.Native.Nat.{ℕ, suc, _+_, _-_, _/_, _≤_, _<_}
 use native.Mathlib.Numerals.{add-one}
 use native.Mathlib.Omega.{arith}
@@ -20,7 +20,7 @@ use Rattle.scan.specs.Answers.{answerOf, scanAt}
 use Rattle.scan.specs.declared.Head.{Head}
 use Rattle.scan.specs.declared.ScanResult.{ScanResult}
 use Rattle.scan.specs.declared.ScanResult.the-variants.{Ok, Err}
-use Rattle.prune_tokens.specs.Tokens.{PlacedHead, heads, headsOf}
+use Rattle.prune_tokens.specs.Tokens.{heads, headsOf}
 use Rattle.prune_tokens.proofs.Heads.{heads-end, heads-error, heads-token}
 use Rattle.prune_marks.specs.Marks.{startsIn, marksIn, Indexed}
 use Rattle.prune_reach.specs.Reach.{aims, aimsAt, marked, sweep, reached}

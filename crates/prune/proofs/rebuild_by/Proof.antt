@@ -1,5 +1,4 @@
 -- `prune::rebuild_by` meets its contract.
-use native.Mathlib.Omega.{arith}
 use borrow.Author.Needs.{needs}
 use Rattle.prune.proofs.Laws.{marked-inside, rebuilt-is}
 use Rattle.prune.proofs.rebuild_by.Statement.{statement}

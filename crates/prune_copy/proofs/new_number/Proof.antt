@@ -1,5 +1,4 @@
 -- `prune_copy::new_number` meets its contract.
-use native.Mathlib.Omega.{arith}
 use borrow.Author.Needs.{needs}
 use borrow.Author.Tests.{le-leb, lt-leb}
 use Rattle.prune_copy.proofs.Laws.{number-fits, number-is}

@@ -1,5 +1,4 @@
 -- `prune_marks::mark_from` meets its contract.
-use native.Mathlib.Omega.{arith}
 use borrow.Author.Needs.{needs}
 use Rattle.prune_marks.proofs.Numbering.{mark-le, mark-fits}
 use Rattle.prune_marks.proofs.mark_from.Statement.{statement}

@@ -1,5 +1,4 @@
 -- `prune_reach::mark_target` meets its contract.
-use mathlib.Core.Path.{refl}
 use borrow.Author.Needs.{needs}
 use borrow.Author.Tests.{le-leb, lt-leb}
 use Rattle.prune_reach.proofs.Laws.{target-marked}

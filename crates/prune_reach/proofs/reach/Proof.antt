@@ -1,5 +1,4 @@
 -- `prune_reach::reach` meets its contract.
-use native.Mathlib.Omega.{arith}
 use borrow.Author.Needs.{needs}
 use Rattle.prune_reach.proofs.Laws.{indexed-same, starts-same, below-same, reach-is}
 use Rattle.prune_reach.proofs.reach.Statement.{statement}

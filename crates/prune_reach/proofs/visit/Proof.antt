@@ -1,5 +1,4 @@
 -- `prune_reach::visit` meets its contract.
-use native.Mathlib.Omega.{arith}
 use borrow.Author.Needs.{needs}
 use Rattle.prune_marks.proofs.Words.{start-le}
 use Rattle.prune_reach.proofs.Laws.{visited, passed}
