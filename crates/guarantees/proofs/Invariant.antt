@@ -27,13 +27,14 @@ use Rattle.prelude.specs.Search.{among}
 use Rattle.prelude.specs.Each.{Each}
 use Rattle.prelude.proofs.Tests.{pick-elim, and-false, facts}
 use Rattle.prelude.proofs.Searches.{among-at}
+use Rattle.prelude.proofs.Lists.{each-append}
 use Rattle.error.specs.Error.{LIMIT}
 use Rattle.utf8.specs.Text.{isText}
 use Rattle.kind.specs.Kind.{rule, pending, immediate}
 use Rattle.token.specs.Token.{emit}
 use Rattle.token.proofs.Laws.{emit-pos}
 use Rattle.values.specs.Values.{region, starts}
-use Rattle.values.proofs.Members.{each-all, each-append, each-imp}
+use Rattle.values.proofs.Members.{each-all, each-imp}
 use Rattle.values.proofs.Laws.{length-starts, start-of}
 use Rattle.writer_refusal.specs.Refusal.{Verdict}
 use Rattle.writer_refusal.proofs.Refusals.{past}

@@ -19,6 +19,7 @@ use borrow.Author.Tests.{le-leb, lt-leb, le-ltb, lt-ltb, ne-eqb}
 use Rattle.prelude.specs.Answer.{Answer, ok, error, bind}
 use Rattle.prelude.specs.Each.{Each}
 use Rattle.prelude.proofs.Readers.{bind-ok}
+use Rattle.prelude.proofs.Lists.{each-append}
 use Rattle.error.specs.Error.{Fault, fault, LIMIT, NO_ITEM, WRONG_KIND}
 use Rattle.leb128.specs.declared.Mode.{Mode}
 use Rattle.kind.specs.Kind.{rule, immediate}
@@ -27,7 +28,6 @@ use Rattle.token.proofs.Laws.{emit-pos}
 use Rattle.scan.specs.declared.Head.{Head}
 use Rattle.scan.proofs.Places.{headAt}
 use Rattle.values.specs.Values.{Value, tokens, bytes, region, starts, Item, Formed, HasTarget, HasTargets, TargetsEarlier, WellFormed}
-use Rattle.values.proofs.Members.{each-append}
 use Rattle.values.proofs.Laws.{bytes-append, region-at, targets-earlier-append, fits-head, fits-item, immediate-counts}
 use Rattle.reader_region.specs.Region.{regionLen, inRegion, peekIn}
 use Rattle.reader_region.proofs.Laws.{in-region-ok}

@@ -20,6 +20,7 @@ use Rattle.prelude.specs.Search.{among}
 use Rattle.prelude.specs.Each.{Each}
 use Rattle.prelude.proofs.Tests.{split, unless}
 use Rattle.prelude.proofs.Parts.{bytes-after, bytes-front}
+use Rattle.prelude.proofs.Lists.{each-append}
 use Rattle.error.specs.Error.{LIMIT}
 use Rattle.leb128.specs.declared.Mode.the-variants.{Strict}
 use Rattle.utf8.specs.Text.{isText}
@@ -27,7 +28,7 @@ use Rattle.utf8.proofs.Laws.{text-isText}
 use Rattle.kind.specs.Kind.{rule, pending, immediate}
 use Rattle.token.specs.Token.{Token, emit}
 use Rattle.values.specs.Values.{Value, tokens, bytes, region, starts, Sound, Item, Formed, HasTarget, HasTargets, TargetsEarlier, WellFormed}
-use Rattle.values.proofs.Members.{each-append, each-imp}
+use Rattle.values.proofs.Members.{each-imp}
 use Rattle.values.proofs.Laws.{bytes-append, region-append, starts-append, items-room}
 use Rattle.writer.specs.Call.{Call, close}
 use Rattle.writer.specs.Given.{Given}

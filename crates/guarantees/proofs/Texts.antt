@@ -11,6 +11,7 @@ use borrow.Author.Tests.{not-false}
 use Rattle.prelude.specs.Answer.{ok, error}
 use Rattle.prelude.specs.Bytes.{Bytes}
 use Rattle.prelude.specs.Each.{Each}
+use Rattle.prelude.proofs.Lists.{each-append}
 use Rattle.error.specs.Error.{Fault, fault, BAD_TEXT}
 use Rattle.leb128.specs.declared.Mode.{Mode}
 use Rattle.utf8.specs.Text.{isText}
@@ -19,7 +20,6 @@ use Rattle.utf8.proofs.Utf8.{text-exactly, isText-exactly}
 use Rattle.kind.specs.Kind.{rule}
 use Rattle.token.specs.Token.{Token, token}
 use Rattle.values.specs.Values.{Value, tokens, Sound, Item, Formed, WellFormed}
-use Rattle.values.proofs.Members.{each-append}
 use Rattle.checker.specs.Check.{checkOf}
 use Rattle.writer_refusal.specs.declared.State.{State}
 use Rattle.writer.specs.Call.{text}

@@ -14,13 +14,13 @@ use lib.ListN.{length, drop, length-append}
 use lib.Seq.{drop-append-seam}
 use Rattle.prelude.specs.Each.{Each}
 use Rattle.prelude.proofs.Parts.{length-past}
+use Rattle.prelude.proofs.Lists.{each-append}
 use Rattle.leb128.specs.declared.Mode.{Mode}
 use Rattle.kind.specs.Kind.{rule, counted, pending, immediate}
 use Rattle.token.specs.Token.{Token, emit}
 use Rattle.scan.specs.declared.Head.{Head}
 use Rattle.scan.proofs.Places.{headAt}
 use Rattle.values.specs.Values.{Value, bytes, region, starts, Sound, Item, Formed, HasTarget, HasTargets, Values}
-use Rattle.values.proofs.Members.{each-append}
 use Rattle.values.proofs.Laws.{bytes-append, region-append, starts-append, targets-earlier-append}
 use Rattle.checker_value.specs.Walk.{Walk, between, walkAfter}
 use Rattle.guarantees.proofs.WalkTokens.{TakenToken, TakenHead, settled, after-settled, due-suc}

@@ -13,13 +13,13 @@ use Rattle.prelude.specs.Each.{Each}
 use Rattle.prelude.specs.Loop.{Turn, follow, run, from}
 use Rattle.prelude.proofs.Tests.{pick-elim, and-r, facts}
 use Rattle.prelude.proofs.Readers.{bind-ok-by}
+use Rattle.prelude.proofs.Lists.{each-append}
 use Rattle.error.specs.Error.{Fault, fault, LIMIT}
 use Rattle.leb128.specs.declared.Mode.the-variants.{Strict}
 use Rattle.kind.specs.Kind.{due}
 use Rattle.scan.specs.Answers.{scanAt}
 use Rattle.scan.specs.declared.Head.{Head}
 use Rattle.scan.proofs.Places.{scanAt-item}
-use Rattle.values.proofs.Members.{each-append}
 use Rattle.checker_value.specs.Walk.{Walk, between, nextToken, walkAfter, walkTurned, walkTurn, startsFrom}
 use Rattle.checker_value.proofs.Walks.{taken}
 use Rattle.checker.specs.Check.{checkIn}

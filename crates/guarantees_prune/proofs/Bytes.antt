@@ -14,13 +14,13 @@ use Rattle.prelude.specs.Bytes.{Bytes}
 use Rattle.prelude.specs.Each.{Each}
 use Rattle.prelude.proofs.Tests.{pick-elim, split}
 use Rattle.prelude.proofs.Parts.{bytes-after, bytes-front}
+use Rattle.prelude.proofs.Lists.{each-append}
 use Rattle.leb128.specs.Leb.{top, put}
 use Rattle.leb128.specs.declared.Mode.the-variants.{Strict}
 use Rattle.kind.specs.Kind.{rule}
 use Rattle.kind.proofs.Laws.{used-lt}
 use Rattle.token.specs.Token.{Token, emit, SpellsIf}
 use Rattle.values.specs.Values.{Value, tokens, bytes, region, Sound, Formed, Values}
-use Rattle.values.proofs.Members.{each-append}
 use Rattle.writer.specs.Step.{movedTo}
 use Rattle.guarantees.proofs.Rewrites.{bytes-body}
 use Rattle.guarantees_prune.specs.Internal.{movedTokens, movedValue, newStart, keptValues}

@@ -19,11 +19,12 @@ use Rattle.prelude.specs.Each.{Each}
 use Rattle.prelude.specs.Search.{rank}
 use Rattle.prelude.proofs.Tests.{pick-elim, split}
 use Rattle.prelude.proofs.Parts.{bytes-after, bytes-front, drop-past}
+use Rattle.prelude.proofs.Lists.{each-append}
 use Rattle.leb128.specs.declared.Mode.the-variants.{Strict}
 use Rattle.token.specs.Token.{Token, emit}
 use Rattle.scan.proofs.Places.{headAt}
 use Rattle.values.specs.Values.{Value, tokens, bytes, region, starts, Sound, Item, Formed, HasTarget, HasTargets, TargetsEarlier, Values}
-use Rattle.values.proofs.Members.{each-append, each-imp}
+use Rattle.values.proofs.Members.{each-imp}
 use Rattle.values.proofs.Laws.{region-at, starts-lt, length-starts}
 use Rattle.writer_refusal.specs.declared.State.{State}
 use Rattle.writer.specs.Call.{Call, close}

@@ -17,6 +17,7 @@ use Rattle.prelude.specs.Answer.{ok}
 use Rattle.prelude.specs.Each.{Each}
 use Rattle.prelude.specs.Search.{among, rank}
 use Rattle.prelude.proofs.Tests.{or-true}
+use Rattle.prelude.proofs.Lists.{each-append}
 use Rattle.leb128.specs.declared.Mode.the-variants.{Strict}
 use Rattle.kind.specs.Kind.{rule}
 use Rattle.kind.proofs.Laws.{rule-row}
@@ -26,7 +27,7 @@ use Rattle.scan.specs.Answers.{scanAt}
 use Rattle.scan.proofs.Places.{headAt, scanAt-emit, scanAt-item, body-read}
 use Rattle.values.specs.Values.{Value, tokens, bytes, region, starts, Sound, Item, Formed, Values}
 use Rattle.values.specs.Paths.{targets, targetsOf, Leads}
-use Rattle.values.proofs.Members.{each-append, each-among}
+use Rattle.values.proofs.Members.{each-among}
 use Rattle.values.proofs.Laws.{region-at, start-of, value-at, fits-item, fits-head}
 use Rattle.values.proofs.Depths.{before, number-start, leads-earlier}
 use Rattle.values.proofs.Leads.{targetsOf-at}

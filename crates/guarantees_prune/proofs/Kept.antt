@@ -18,10 +18,11 @@ use Rattle.prelude.specs.Each.{Each}
 use Rattle.prelude.specs.Search.{among}
 use Rattle.prelude.proofs.Tests.{pick-elim, split}
 use Rattle.prelude.proofs.Searches.{rank-at, among-at}
+use Rattle.prelude.proofs.Lists.{each-append}
 use Rattle.leb128.specs.declared.Mode.the-variants.{Strict}
 use Rattle.values.specs.Values.{Value, tokens, bytes, region, starts, Formed, HasTargets, Values}
 use Rattle.values.specs.Paths.{targets, targetsOf, Leads}
-use Rattle.values.proofs.Members.{each-append, each-among}
+use Rattle.values.proofs.Members.{each-among}
 use Rattle.values.proofs.Laws.{length-starts, rising-starts, starts-append, starts-lt, start-of, targets-earlier-append}
 use Rattle.values.proofs.Depths.{before}
 use Rattle.values.proofs.Leads.{targetsOf-at}

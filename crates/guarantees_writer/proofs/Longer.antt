@@ -18,10 +18,10 @@ use Rattle.prelude.specs.Pick.{pick}
 use Rattle.prelude.specs.Answer.{ok, error}
 use Rattle.prelude.specs.Each.{Each}
 use Rattle.prelude.proofs.Tests.{and-false, and-none}
+use Rattle.prelude.proofs.Lists.{each-append}
 use Rattle.error.specs.Error.{BAD_STATE, FULL, NO_ROOM}
 use Rattle.kind.specs.Kind.{due}
 use Rattle.token.specs.Token.{Token, emit}
-use Rattle.values.proofs.Members.{each-append}
 use Rattle.writer_refusal.specs.Refusal.{badState, room, limit, isListed, Verdict, isOk, refusalOf}
 use Rattle.writer_refusal.specs.declared.State.{State}
 use Rattle.writer_refusal.specs.declared.CallFlags.{CallFlags}

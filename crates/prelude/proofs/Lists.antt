@@ -1,7 +1,9 @@
 -- Laws of lists that the library has not.
 --
--- In order: an element, within the list and past it; what holds for each; words below a bound, and one more; parts of equal lists; what was stored.
+-- In order: an element, within the list and past it; what holds for each, and for each of lists joined; words below a bound, and one more;
+-- parts of equal lists; what was stored.
 use mathlib.Core.Path.{_≡_, refl, sym, ap, subst, _∙_}
+use mathlib.Core.Logic.{_↔_}
 use mathlib.Core.List.{List, [], _∷_, _++_, List·Memᴰ, List·Memᴰ·head, List·Memᴰ·tail}
 use Prim.Native.Nat.{ℕ, zero, suc, _+_, _-_, _≤_, _<_}
 use native.Mathlib.Nat.{not-suc-le-zero}
@@ -23,6 +25,13 @@ getD-past xs i j e h = sym (List·getD-eq-default xs 0 {n = j} (omega arith))
 pub each-mem : {A : Type 0} (P : A → Type 0) {x : A} (xs : List A) → Each P xs → List·Memᴰ x xs → P x
 each-mem P (y ∷ xs) e (List·Memᴰ·head p) = subst P (sym p) (e .0)
 each-mem P (y ∷ xs) e (List·Memᴰ·tail m) = each-mem P xs (e .1) m
+
+module _ {A : Type 0} (P : A → Type 0) where
+  pub each-append : (a b : List A) → Each P (a ++ b) ↔ (Each P a × Each P b)
+  each-append [] b = (λ e. (tt, e), λ e. e .1)
+  each-append (x ∷ a) b =
+      let ih = each-append a b in
+      (λ e. let r = ih .0 (e .1) in ((e .0, r .0), r .1), λ e. (e .0 .0, ih .1 (e .0 .1, e .1)))
 
 -- a list below m, with one more word below m
 pub below-snoc : (xs : List ℕ) (x m : ℕ) → ((k : ℕ) → k < length xs → getD xs k 0 < m) → x < m → (k : ℕ)

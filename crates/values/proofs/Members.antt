@@ -1,9 +1,8 @@
 -- Members of lists: `Each` and `among`.
 --
--- In order: `Each` by a test that all pass; of lists joined, and of what follows from it; what holds for each holds for one that is among them;
+-- In order: `Each` by a test that all pass, and of what follows from it; what holds for each holds for one that is among them;
 -- what is among a list is among a longer one; the index of what is among the first of a rising list.
 use mathlib.Core.Path.{_≡_, sym, _∙_}
-use mathlib.Core.Logic.{_↔_}
 use mathlib.Core.Bool.{Bool, true, false≢true, or-comm}
 use mathlib.Core.List.{List, [], _∷_, _++_}
 use Prim.Native.Nat.{ℕ, _<_}
@@ -26,12 +25,6 @@ module _ {A : Type 0} where
   pub each-every : (p : A → Bool) (xs : List A) → every p xs ≡ true → Each (λ x. p x ≡ true) xs
   each-every p [] e = tt
   each-every p (x ∷ xs) e = (and-l (p x) _ e, each-every p xs (and-r (p x) _ e))
-
-  pub each-append : (P : A → Type 0) (a b : List A) → Each P (a ++ b) ↔ (Each P a × Each P b)
-  each-append P [] b = (λ e. (tt, e), λ e. e .1)
-  each-append P (x ∷ a) b =
-      let ih = each-append P a b in
-      (λ e. let r = ih .0 (e .1) in ((e .0, r .0), r .1), λ e. (e .0 .0, ih .1 (e .0 .1, e .1)))
 
   pub each-imp : (P Q : A → Type 0) → ((x : A) → P x → Q x) → (xs : List A) → Each P xs → Each Q xs
   each-imp P Q f [] e = tt
