@@ -1,11 +1,12 @@
 -- Bytes and their number, for any width.
 --
 -- In order: the bytes of a number hold it (`value-little`), and the number that bytes hold has these bytes
--- (`little-from`); how many bytes, and how large a number; `load` gives back a number whose bytes are in front
+-- (`little-from`); bytes of two numbers in one (`little-append`); how many bytes, and how large a number; `load` gives back a number whose bytes are in front
 -- (`load-little`), and the bytes of what it returns are those in front (`little-load`); `load` as the code computes it.
 use mathlib.Core.Path.{_≡_, refl, ap}
 use mathlib.Core.List.{List, [], _∷_, _++_}
 use Prim.Native.Nat.{ℕ, zero, suc, _+_, _*_, _/_, _%_, _^_, _≤_, _<_}
+use native.Mathlib.Nat.{zero-add, suc-add, pow-suc}
 use native.Mathlib.Omega.{arith}
 use lib.ListN.{length, take, drop, getD, length-append}
 use lib.Seq.{drop-cons, take-at, length-take-le}
@@ -30,6 +31,15 @@ pub length-little : (k n : ℕ) → length (little k n) ≡ k
 unfolding little
 length-little zero n = refl
 length-little (suc k) n = ap suc (length-little k (n / 256))
+
+pub little-append : (j k a b : ℕ) → a < 256 ^ j → little (j + k) (a + 256 ^ j * b) ≡ little j a ++ little k b
+unfolding little
+little-append zero k a b h = let same : a + 1 * b ≡ b = omega arith in rw (zero-add k, same)
+little-append (suc j) k a b h =
+    let power : 256 ^ suc j * b ≡ 256 * (256 ^ j * b) = rw (pow-suc 256 j) (omega arith) in
+    let low : (a + 256 ^ suc j * b) % 256 ≡ a % 256 = omega arith in
+    let high : (a + 256 ^ suc j * b) / 256 ≡ a / 256 + 256 ^ j * b = omega arith in
+    rw (suc-add j k, low, high, little-append j k (a / 256) b (omega (arith, pow-suc 256 j)))
 
 pub value-lt : (s : List ℕ) → Bytes s → fromLittle s < 256 ^ length s
 unfolding fromLittle
@@ -69,6 +79,11 @@ listed-take (suc k) i s h = rw (drop-cons s i 0 (omega arith), listed-take k (su
 pub load-short : (k : ℕ) (s : List ℕ) → length s < k → 0 ≡ load k s
 unfolding load
 load-short k s h = rw (lt-leb k (length s) h)
+
+pub little-listed : (k : ℕ) (s : List ℕ) {r : ℕ} → k ≤ length s → Bytes (listed k 0 s) → r ≡ fromLittle (listed k 0 s) → little k r ≡ take k s
+little-listed k s h b e =
+    let front = listed-take k 0 s (omega arith) in
+    rw (e, front) (rw (length-take-le k s h) at (little-from (take k s) (rw front at b)))
 
 pub load-listed : (k : ℕ) (s : List ℕ) {r : ℕ} → k ≤ length s → r ≡ fromLittle (listed k 0 s) → r ≡ load k s
 unfolding load

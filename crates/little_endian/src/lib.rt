@@ -1,7 +1,9 @@
 // Numbers as little-endian bytes: the bits of floats (document 01, "Row of a file", the body of kind 3).
 ghost use mathlib.Core.Path.{_≡_};
 ghost use mathlib.Core.List.{[], _∷_};
-ghost use Prim.Native.Nat.{_^_, _<_};
+ghost use Prim.Native.Nat.{_^_, _≤_, _<_};
+ghost use lib.ListN.{length, take};
+ghost use Rattle.prelude.specs.Bytes.{Bytes};
 ghost use Rattle.little_endian.specs.LittleEndian.{little, fromLittle, load};
 
 // The bytes of an f32 with these bits.
@@ -40,7 +42,7 @@ fn wide(b: u8) -> u64
 
 // The number that four bytes hold, the lowest first.
 fn four(a: u8, b: u8, c: u8, d: u8) -> u64
-    ensures { λ r. ⌜ (r ≡ fromLittle (a ∷ b ∷ c ∷ d ∷ [])) × (r < 2 ^ 32) ⌝ }
+    ensures { λ r. ⌜ (r ≡ fromLittle (a ∷ b ∷ c ∷ d ∷ [])) × (r < 2 ^ 32) × Bytes (a ∷ b ∷ c ∷ d ∷ []) ⌝ }
 {
     wide(a) + 0x100 * wide(b) + 0x1_0000 * wide(c) + 0x100_0000 * wide(d)
 }
@@ -48,6 +50,7 @@ fn four(a: u8, b: u8, c: u8, d: u8) -> u64
 // The bits of the f32 at the front of s; 0 if s is shorter than four bytes.
 pub fn load4(s: &[u8]) -> u32
     ensures { λ r. ⌜ r ≡ load 4 (now (s .entry)) ⌝ }
+    ensures bytes { λ r. ⌜ (4 ≤ length (now (s .entry)) → little 4 r ≡ take 4 (now (s .entry))) ⌝ }
 {
     if s.len() < 4 {
         return 0;
@@ -58,6 +61,7 @@ pub fn load4(s: &[u8]) -> u32
 // The bits of the f64 at the front of s; 0 if s is shorter than eight bytes.
 pub fn load8(s: &[u8]) -> u64
     ensures { λ r. ⌜ r ≡ load 8 (now (s .entry)) ⌝ }
+    ensures bytes { λ r. ⌜ (8 ≤ length (now (s .entry)) → little 8 r ≡ take 8 (now (s .entry))) ⌝ }
 {
     if s.len() < 8 {
         return 0;

@@ -20,4 +20,4 @@ four-spec =
     (λ c κs. search needs)
     (λ c. search needs)
     (λ c. search needs)
-    (λ c. (omega arith, omega arith)))
+    (λ c. (omega arith, omega arith, (omega arith, (omega arith, (omega arith, (omega arith, tt)))))))
