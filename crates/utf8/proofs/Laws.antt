@@ -14,6 +14,7 @@ use borrow.Author.Needs.{needs}
 use borrow.Author.Tests.{leb-true, le-leb, lt-leb}
 use Rattle.prelude.specs.Pick.{pick}
 use Rattle.prelude.proofs.Tests.{pick-elim, and-l, and-r}
+use Rattle.utf8_plain.specs.Plain.{Plain}
 use Rattle.utf8.specs.Text.{Range, forms, Matches, end, byte, Text, empty, character, within, lead, next, textFrom, isText}
 
 -- ---- the table
@@ -61,6 +62,11 @@ isText-character : {f : List Range} {p : List ℕ} (s : List ℕ) → List·Mem�
 unfolding next
 isText-character s k end = refl
 isText-character s k (byte lo hi m) = text-cons _ _ _ (lead-form 0 _ _ _ forms rising-forms k lo hi .1) ∙ text-matches s m
+
+-- plain bytes are passed at once: before what follows them, they change nothing
+pub isText-plain : (p s : List ℕ) → Plain p → isText (p ++ s) ≡ isText s
+isText-plain [] s h = refl
+isText-plain (b ∷ p) s h = isText-character (p ++ s) (List·Memᴰ·head refl) (byte (omega arith) (omega (arith, h .0)) end) ∙ isText-plain p s (h .1)
 
 pub text-isText : {s : List ℕ} → Text s → isText s ≡ true
 unfolding textFrom

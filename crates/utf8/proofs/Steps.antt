@@ -1,25 +1,28 @@
 -- The steps of the test, as the code takes them.
 --
--- In order: a first byte, row by row of the table; the bytes due of a character, from an index on; the characters.
+-- In order: a first byte, row by row of the table; the bytes due of a character, from an index on; the characters; plain
+-- bytes.
 use mathlib.Core.Path.{_≡_, refl, sym, ap, _∙_}
-use mathlib.Core.Bool.{Bool, true, false, not}
-use mathlib.Core.List.{List, [], _∷_}
+use mathlib.Core.Bool.{Bool, true, false, _&&_}
+use mathlib.Core.List.{List, [], _∷_, append-nil}
 use mathlib.Core.Option.{Option, some, none}
 use Prim.Native.Nat.{ℕ, zero, suc, _+_, _-_, _≤_, _<_}
 use native.Mathlib.Nat.{not-suc-le-zero}
 use native.Mathlib.Numerals.{add-one, sub-one}
 use native.Mathlib.Omega.{arith}
-use lib.Dec.{eqb, leb·zero}
-use lib.ListN.{length, getD, take, drop, replicate, drop-of-length-le}
-use lib.Seq.{drop-cons, drop-drop}
-use borrow.Author.Tests.{le-leb, lt-leb, lt-ltb, le-ltb, ne-eqb, not-true, not-false}
+use lib.Dec.{eqb, ltb, leb, leb·zero}
+use lib.ListN.{length, getD, take, drop, replicate, length-drop, take-append-drop, drop-of-length-le}
+use lib.Seq.{drop-cons, drop-drop, take-all}
+use borrow.Author.Tests.{le-leb, lt-leb, lt-ltb, le-ltb, ltb-true, eq-eqb, ne-eqb}
 use Rattle.prelude.specs.Pick.{pick}
-use Rattle.prelude.proofs.Tests.{split}
+use Rattle.prelude.proofs.Tests.{split, and-l, and-r}
 use Rattle.prelude.proofs.Parts.{part-from, length-part}
+use Rattle.utf8_plain.specs.Plain.{Plain}
+use Rattle.utf8_plain.proofs.Laws.{plain-later}
 use Rattle.utf8.specs.Text.{Range, range, continuation, forms, within, lead, next, complete, textFrom, isText}
-use Rattle.utf8.specs.Internal.{ranges, dueOf}
+use Rattle.utf8.specs.Internal.{ranges, dueOf, allowed}
 use Rattle.utf8.specs.declared.Due.{Due}
-use Rattle.utf8.proofs.Laws.{within-yes, text-none}
+use Rattle.utf8.proofs.Laws.{within-yes, text-none, isText-plain}
 
 -- ---- a first byte
 
@@ -86,30 +89,56 @@ pub text-never : (s : List ℕ) (d : Due) → 0 < length s → dueOf d ≡ lead 
 unfolding dueOf
 text-never s d p e l = sym (text-none _) ∙ (rw (le-ltb (d .left) 4) at (text-first s d p e))
 
+module _ (s : List ℕ) (i : ℕ) (d : Due) where
+  pub allowed-past : length s ≤ i → false ≡ allowed s i d
+  unfolding allowed
+  allowed-past h = rw (le-ltb i (length s))
+
+  pub allowed-in : i < length s → within (range (d .low) (d .high)) (getD s i 0) ≡ allowed s i d
+  unfolding allowed
+  allowed-in h = rw (lt-ltb i (length s))
+
+pub allowed-lt : (s : List ℕ) (i : ℕ) (d : Due) {t : Bool} → t ≡ allowed s i d → t ≡ true → i < length s
+unfolding allowed
+allowed-lt s i d e z = ltb-true i (length s) (and-l _ _ (sym e ∙ z))
+
 -- the bytes from i on give the answer a
 module _ (s : List ℕ) (i : ℕ) (d : Due) {a : Bool} (inv : textFrom (dueOf d) (drop i s) ≡ a) where
   pub text-end : 0 < i → d .left ≤ 0 → pick (eqb i 0) false (isText (drop i s)) ≡ a
   unfolding dueOf
   text-end p h = let none-left : d .left ≡ 0 = omega arith in rw (ne-eqb i 0 (λ z. omega arith)) (rw none-left at inv)
 
-  module _ (p : 0 < d .left) (l : d .left < 4) where
-    pub text-incomplete : length s ≤ i → false ≡ a
+  -- t tells whether s has a byte at i that is allowed
+  module _ (p : 0 < d .left) (l : d .left < 4) {t : Bool} (e : t ≡ allowed s i d) where
+    incomplete : length s ≤ i → false ≡ a
     unfolding textFrom
-    text-incomplete h = sym (complete-due (d .low) (d .high) (d .left) p l) ∙ (rw drop-of-length-le at inv)
+    incomplete h = sym (complete-due (d .low) (d .high) (d .left) p l) ∙ (rw drop-of-length-le at inv)
 
-    module _ (h : i < length s) where
-      abbrev allowed : Bool
-      allowed = within (range (d .low) (d .high)) (getD s i 0)
+    after : (h : i < length s)
+        → textFrom (pick (within (range (d .low) (d .high)) (getD s i 0)) (dueOf (due (d .left - 1) 0x80 0xBF)) none) (drop (suc i) s) ≡ a
+    unfolding textFrom
+    after h = rw (← next-due (d .low) (d .high) (d .left) (getD s i 0) p l) (rw (drop-cons s i 0 h) at inv)
 
-      after : textFrom (pick allowed (dueOf (due (d .left - 1) 0x80 0xBF)) none) (drop (suc i) s) ≡ a
-      unfolding textFrom
-      after = rw (← next-due (d .low) (d .high) (d .left) (getD s i 0) p l) (rw (drop-cons s i 0 h) at inv)
+    pub text-bad : t ≡ false → false ≡ a
+    unfolding allowed
+    text-bad z =
+        split i (length s) (λ h. let no : within (range (d .low) (d .high)) (getD s i 0) ≡ false = rw (lt-ltb i (length s)) at (sym e ∙ z) in
+        sym (text-none _) ∙ (rw no at (after h))) incomplete
 
-      pub text-bad : not allowed ≡ true → false ≡ a
-      text-bad e = sym (text-none _) ∙ (rw (not-true allowed e) at after)
+    pub text-next : t ≡ true → textFrom (dueOf (due (d .left - 1) 0x80 0xBF)) (drop (i + 1) s) ≡ a
+    unfolding allowed
+    text-next z =
+        let yes = sym e ∙ z in
+        rw add-one (rw (and-r (ltb i (length s)) _ yes) at (after (allowed-lt s i d e z)))
 
-      pub text-next : not allowed ≡ false → textFrom (dueOf (due (d .left - 1) 0x80 0xBF)) (drop (i + 1) s) ≡ a
-      text-next e = rw add-one (rw (not-false allowed e) at after)
+-- the character has two bytes, if t is true
+module _ (s : List ℕ) (d : Due) (p : 0 < length s) (e : dueOf d ≡ lead forms (getD s 0 0)) (one : d .left ≡ 1) {t : Bool} (f : t ≡ allowed s 1 d) where
+  pub two-bad : t ≡ false → false ≡ isText s
+  two-bad = text-bad s 1 d (text-first s d p e) (omega arith) (omega arith) f
+
+  pub two-next : t ≡ true → isText (drop 2 s) ≡ isText s
+  unfolding dueOf
+  two-next z = rw one at (text-next s 1 d (text-first s d p e) (omega arith) (omega arith) f z)
 
 -- ---- the characters
 
@@ -131,6 +160,44 @@ module _ (s : List ℕ) (i n : ℕ) where
     pub character-next : (n ≡ 0 → ⊥) → isText (drop (i + n) s) ≡ a
     character-next z = ap isText (sym (drop-drop n i s)) ∙ (rw (part-from i s, ne-eqb n 0 z) at e) ∙ inv
 
-pub text-all : (s : List ℕ) (i : ℕ) {a : Bool} → isText (drop i s) ≡ a → length s ≤ i → true ≡ a
+-- what was passed ends at i
+pub pass-all : (s : List ℕ) (i : ℕ) {a : Bool} → isText (drop i s) ≡ a → i ≤ length s → pick (leb i (length s)) (isText (drop i s)) false ≡ a
+pass-all s i e h = rw (le-leb i (length s)) e
+
+-- one was no character
+pub pass-none : (s : List ℕ) {a : Bool} → false ≡ a → pick (leb (length s + 1) (length s)) (isText (drop (length s + 1) s)) false ≡ a
+pass-none s e = let past : length s < length s + 1 = omega arith in rw (lt-leb (length s + 1) (length s) past) e
+
+-- r is how far the characters from i on were passed
+module _ (s : List ℕ) (i r : ℕ) {a : Bool} (inv : isText (drop i s) ≡ a) (e : pick (leb r (length s)) (isText (drop r s)) false ≡ isText (drop i s)) where
+  pub pass-bad : length s < r → false ≡ a
+  pass-bad h = (rw (lt-leb r (length s)) at e) ∙ inv
+
+  pub pass-next : r ≤ length s → isText (drop r s) ≡ a
+  pass-next h = (rw (le-leb r (length s)) at e) ∙ inv
+
+  -- at least to the end
+  pub pass-end : length s ≤ r → eqb r (length s) ≡ a
+  unfolding textFrom
+  pass-end h =
+      split (length s) r (λ past. rw (ne-eqb r (length s) (λ z. omega arith)) (pass-bad past))
+      (λ at. let same : r ≡ length s = omega arith in rw (eq-eqb r (length s) same) (rw (drop-of-length-le s h) at (pass-next at)))
+
+-- ---- plain bytes
+
+pub plain-all : (s : List ℕ) → Plain s → true ≡ isText s
 unfolding textFrom
-text-all s i e h = rw drop-of-length-le at e
+plain-all s p = sym (isText-plain s [] p) ∙ rw append-nil
+
+pub plain-front : (s : List ℕ) (n : ℕ) → Plain (take n s) → isText (drop n s) ≡ isText s
+plain-front s n p = sym (isText-plain (take n s) (drop n s) p) ∙ rw take-append-drop
+
+module _ (s : List ℕ) (i : ℕ) {a : Bool} (inv : isText (drop i s) ≡ a) where
+  pub plain-next : (n : ℕ) → Plain (take n (drop i s)) → isText (drop (i + n) s) ≡ a
+  plain-next n p = (rw drop-drop at (plain-front (drop i s) n p)) ∙ inv
+
+  -- the last eight bytes are plain, and those from i on are among them
+  pub plain-last : 8 ≤ length s → length s - 8 ≤ i → Plain (take 8 (drop (length s - 8) s)) → true ≡ a
+  plain-last l h p =
+      let own : length (drop (length s - 8) s) ≤ 8 = rw length-drop (omega arith) in
+      plain-all (drop i s) (plain-later s (length s - 8) i h (rw (take-all 8 (drop (length s - 8) s) own) at p)) ∙ inv

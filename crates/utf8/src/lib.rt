@@ -1,12 +1,12 @@
 // Whether bytes are text (document 01, "Row of a file", and W-202): UTF-8 by RFC 3629.
 ghost use mathlib.Core.Path.{_≡_};
 ghost use mathlib.Core.Bool.{false};
-ghost use Prim.Native.Nat.{_≤_, _<_};
-ghost use lib.Dec.{eqb};
+ghost use Prim.Native.Nat.{_+_, _≤_, _<_};
+ghost use lib.Dec.{eqb, leb};
 ghost use lib.ListN.{length, drop};
 ghost use Rattle.prelude.specs.Pick.{pick};
 ghost use Rattle.utf8.specs.Text.{forms, lead, isText};
-ghost use Rattle.utf8.specs.Internal.{dueOf};
+ghost use Rattle.utf8.specs.Internal.{dueOf, allowed};
 
 // The bytes due of a character: how many, 4 if no character begins with the first byte, and the range of the next of
 // them; those after it are from 80 to BF.
@@ -58,6 +58,17 @@ fn lead(b: u8) -> Due
     Due::new(4, 0x80, 0xBF)
 }
 
+// Whether s has a byte at i, in the range of the next byte due.
+fn is_allowed(s: &[u8], i: usize, due: Due) -> bool
+    ensures { λ r. ⌜ r ≡ allowed (now (s .entry)) i due ⌝ }
+{
+    if s.len() <= i {
+        return false;
+    }
+    let b = s[i];
+    (due.low <= b) & (b <= due.high)
+}
+
 // How many bytes of s may be passed, 0 if none may: s is text exactly if some may, and the bytes after them are text. They are
 // its first character.
 fn character(s: &[u8]) -> usize
@@ -66,20 +77,22 @@ fn character(s: &[u8]) -> usize
     ensures { λ r. ⌜ pick (eqb r 0) false (isText (drop r (now (s .entry)))) ≡ isText (now (s .entry)) ⌝ }
 {
     let mut due = lead(s[0]);
+    // most letters beyond ASCII have two bytes: without the loop they take half of the time
+    if due.left == 1 {
+        if is_allowed(s, 1, due) {
+            return 2;
+        }
+        // BAD_TEXT: as below
+        return 0;
+    }
     // BAD_TEXT: no character begins with it
     if 3 < due.left {
         return 0;
     }
     let mut i: usize = 1;
     while 0 < due.left {
-        // BAD_TEXT: the character is incomplete
-        if s.len() <= i {
-            return 0;
-        }
-        let b = s[i];
-        let allowed = (due.low <= b) & (b <= due.high);
-        // BAD_TEXT: a byte that is not allowed there
-        if !allowed {
+        // BAD_TEXT: the character is incomplete, or has a byte that is not allowed there
+        if !is_allowed(s, i, due) {
             return 0;
         }
         due = Due::new(due.left - 1, 0x80, 0xBF);
@@ -88,17 +101,58 @@ fn character(s: &[u8]) -> usize
     i
 }
 
+// Passes characters of s, from `from` on, until `to` is reached or passed. The offset where they end; the length of s and 1
+// if one of them is none.
+fn pass_characters(s: &[u8], from: usize, to: usize) -> usize
+    requires { ⌜ (from ≤ length (now s)) × (to ≤ length (now s)) ⌝ }
+    ensures within { λ r. ⌜ (to ≤ r) × (r ≤ length (now (s .entry)) + 1) ⌝ }
+    ensures { λ r. ⌜ pick (leb r (length (now (s .entry)))) (isText (drop r (now (s .entry)))) false ≡ isText (drop from (now (s .entry))) ⌝ }
+{
+    let mut i = from;
+    while i < to {
+        let size = character(&s[i..]);
+        if size == 0 {
+            return s.len() + 1;
+        }
+        i += size;
+    }
+    i
+}
+
+// Whether s, of eight bytes or more, is text. Plain bytes are passed by words; if a word has another byte, its characters are
+// passed one by one, and then words again. If fewer than eight bytes remain, the last word of s has them all.
+fn is_long_text(s: &[u8]) -> bool
+    requires { ⌜ 8 ≤ length (now s) ⌝ }
+    ensures { λ r. ⌜ r ≡ isText (now (s .entry)) ⌝ }
+{
+    let mut i = utf8_plain::skip_plain(s);
+    while 8 <= s.len() - i {
+        if utf8_plain::is_plain_at(s, i) {
+            i += 8;
+        } else {
+            i = pass_characters(s, i, i + 8);
+            if s.len() < i {
+                return false;
+            }
+        }
+    }
+    if utf8_plain::is_plain_at(s, s.len() - 8) {
+        return true;
+    }
+    pass_characters(s, i, s.len()) == s.len()
+}
+
 // Whether s is text.
 pub fn is_text(s: &[u8]) -> bool
     ensures { λ r. ⌜ r ≡ isText (now (s .entry)) ⌝ }
 {
-    let mut i: usize = 0;
-    while i < s.len() {
-        let size = character(&s[i..]);
-        if size == 0 {
-            return false;
-        }
-        i += size;
+    if 8 <= s.len() {
+        return is_long_text(s);
     }
-    true
+    if 4 <= s.len() {
+        if utf8_plain::is_short_plain(s) {
+            return true;
+        }
+    }
+    pass_characters(s, 0, s.len()) == s.len()
 }

@@ -1,35 +1,18 @@
--- `utf8::is_text` meets its contract. The invariant: whether the bytes from i on are a text is the answer.
-use mathlib.Core.Path.{_≡_}
-use Prim.Native.Nat.{_-_, _≤_}
+-- `utf8::is_text` meets its contract: by its length.
+use mathlib.Core.Path.{refl}
 use native.Mathlib.Omega.{arith}
-use lib.ListN.{length, drop}
 use borrow.Author.Needs.{needs}
-use Rattle.utf8.specs.Text.{isText}
-use Rattle.utf8.proofs.Steps.{part-some, character-within, character-none, character-next, text-all}
+use Rattle.utf8.proofs.Steps.{pass-end, plain-all}
 use Rattle.utf8.proofs.is_text.Statement.{statement}
 use Rattle.utf8.proofs.is_text.Tie as tie
-
-abbrev Inv-loop : tie.InvT-loop
-Inv-loop s i₀ i = (i ≤ length s) × (isText (drop i s) ≡ isText s)
-
-abbrev μ-loop : tie.MeasureT-loop
-μ-loop s i₀ i = length s - i
 
 pub is-text-spec : {M : Type 1} → statement M
 is-text-spec =
     tie.close
     (tie.spec
-    Inv-loop
-    μ-loop
-    (λ c. search needs)
-    (λ c. search needs)
-    (λ c. search needs)
-    (λ c. search needs)
-    (λ c κs. search (part-some, arith))
-    -- no character
-    (λ c. search (character-none, arith))
-    (λ c. search (character-within, needs))
-    (λ c. search needs)
-    (λ c. search (character-within, character-next, arith))
-    -- after the last character
-    (λ c. search (text-all, arith)))
+    (λ c κs. search needs)
+    (λ c. c .is-long-text .ensures)
+    (λ c κs. search needs)
+    (λ c. plain-all _ (c .before .is-short-plain .ensures .0 (c .if3 .taken)))
+    (λ c κs. search needs)
+    (λ c. pass-end _ 0 _ refl (c .pass-characters .ensures .1) (c .pass-characters .ensures .0 .0)))

@@ -1,0 +1,2 @@
+-- plain bytes, and the test of eight
+pub mod Plain
