@@ -23,8 +23,12 @@ use Rattle.leb128.proofs.Spellings as spellings
 use Rattle.leb128.proofs.Padding as padding
 use Rattle.leb128.specs.declared.Mode.{Mode}
 use Rattle.leb128.specs.declared.Mode.the-variants.{Strict, Tolerant}
+use Rattle.little_endian.specs.LittleEndian.{fromLittle}
+use Rattle.utf8_plain.specs.Plain.{Plain, arePlain}
+use Rattle.utf8_plain.proofs.Laws as plain
 use Rattle.utf8.specs.Text.{Text, isText}
 use Rattle.utf8.specs.Utf8.{Encodable, Row, utf8Rows, octets, encode, utf8, FitsRow, Utf8, decode}
+use Rattle.utf8.proofs.Laws as text-laws
 use Rattle.utf8.proofs.Utf8 as utf8-laws
 use Rattle.kind.specs.Kind.{rule, size, counted}
 use Rattle.token.specs.Token.{Token, emit, Fits}
@@ -215,6 +219,14 @@ text-exactly = utf8-laws.text-exactly
 
 pub isText-exactly : (s : List ℕ) → (isText s ≡ true) ↔ Utf8 s
 isText-exactly = utf8-laws.isText-exactly
+
+-- "by one test that says yes exactly when all eight are"
+pub plain-exactly : (s : List ℕ) → Bytes s → length s ≡ 8 → (arePlain (fromLittle s) ≡ true) ↔ Plain s
+plain-exactly = plain.plain-exactly
+
+-- "No answer .. changes"
+pub isText-plain : (p s : List ℕ) → Plain p → isText (p ++ s) ≡ isText s
+isText-plain = text-laws.isText-plain
 
 pub accepted-texts : (mode : Mode) (file : List ℕ) (cap count entry : ℕ) → Bytes file → checkOf mode file cap .answer ≡ ok (count, entry)
     → (vs : List Value) × WellFormed mode file vs entry × TextsUtf8 mode file vs
