@@ -58,7 +58,7 @@ fn table(plans: &[Plan]) -> Vec<u32> {
 /// Check of one file after the other, in this mode. All other rows are strict.
 pub fn check(clock: &Clock, mode: u32, plans: &[Plan]) -> Row {
     let (mut starts, mut starts2) = (table(plans), table(plans));
-    let nanoseconds = clock.race(
+    let nanoseconds = clock.race([
         &mut || {
             let mut out = [0; 2];
             plans.iter().all(|plan| ffi::check(black_box(&plan.file), mode, &mut starts[..plan.starts.len()], &mut out) == 0)
@@ -68,7 +68,7 @@ pub fn check(clock: &Clock, mode: u32, plans: &[Plan]) -> Row {
                 .iter()
                 .all(|plan| reference::check(black_box(&plan.file), ffi::mode(mode), &mut starts2[..plan.starts.len()]).is_ok())
         },
-    );
+    ]);
     assert_eq!(starts, starts2);
     let (units, bytes) = size(plans);
     Row { units, bytes, nanoseconds }
@@ -78,7 +78,7 @@ pub fn check(clock: &Clock, mode: u32, plans: &[Plan]) -> Row {
 pub fn depths(clock: &Clock, plans: &[Plan]) -> Row {
     let (mut starts, mut depths) = (table(plans), table(plans));
     let (mut starts2, mut depths2) = (table(plans), table(plans));
-    let nanoseconds = clock.race(
+    let nanoseconds = clock.race([
         &mut || {
             let mut out = [0; 2];
             plans.iter().all(|plan| {
@@ -92,7 +92,7 @@ pub fn depths(clock: &Clock, plans: &[Plan]) -> Row {
                 reference::depths(black_box(&plan.file), Mode::Strict, &mut starts2[..count], &mut depths2[..count]).is_ok()
             })
         },
-    );
+    ]);
     assert_eq!((starts, depths), (starts2, depths2));
     let (units, bytes) = size(plans);
     Row { units, bytes, nanoseconds }
@@ -133,7 +133,7 @@ pub fn last_item(clock: &Clock, items: usize) -> Row {
 }
 
 fn items_of(clock: &Clock, file: &[u8], questions: &[(usize, usize)]) -> Row {
-    let nanoseconds = clock.race(
+    let nanoseconds = clock.race([
         &mut || {
             let mut out = [0; 2];
             questions.iter().all(|&(at, index)| ffi::item(black_box(file), ffi::STRICT, at, index, &mut out) == 0)
@@ -141,7 +141,7 @@ fn items_of(clock: &Clock, file: &[u8], questions: &[(usize, usize)]) -> Row {
         &mut || {
             questions.iter().all(|&(at, index)| reference::item(black_box(file), Mode::Strict, at as u64, index as u64).is_ok())
         },
-    );
+    ]);
     Row { units: questions.len(), bytes: 0, nanoseconds }
 }
 
@@ -159,7 +159,7 @@ pub fn lookups(clock: &Clock, plan: &Plan, is_present: bool) -> Row {
             questions.push((start as usize, key));
         }
     }
-    let nanoseconds = clock.race(
+    let nanoseconds = clock.race([
         &mut || {
             let mut out = [0; 2];
             questions.iter().all(|&(at, key)| (ffi::lookup(black_box(file), ffi::STRICT, at, key, &mut out) == 0) == is_present)
@@ -169,7 +169,7 @@ pub fn lookups(clock: &Clock, plan: &Plan, is_present: bool) -> Row {
                 .iter()
                 .all(|&(at, key)| reference::lookup(black_box(file), Mode::Strict, at as u64, key).is_ok() == is_present)
         },
-    );
+    ]);
     Row { units: questions.len(), bytes: 0, nanoseconds }
 }
 
@@ -178,7 +178,7 @@ pub fn writes(clock: &Clock, plans: &[Plan]) -> Row {
     let longest = plans.iter().map(|plan| plan.file.len()).max().unwrap_or(0);
     let (mut out, mut starts) = (vec![0; longest], table(plans));
     let (mut out2, mut starts2) = (vec![0; longest], table(plans));
-    let nanoseconds = clock.race(
+    let nanoseconds = clock.race([
         &mut || {
             plans.iter().all(|plan| {
                 let mut state = [0; ffi::STATE];
@@ -196,7 +196,7 @@ pub fn writes(clock: &Clock, plans: &[Plan]) -> Row {
                 })
             })
         },
-    );
+    ]);
     assert_eq!((out, starts), (out2, starts2));
     let (_, bytes) = size(plans);
     Row { units: plans.iter().map(|plan| plan.calls.len()).sum(), bytes, nanoseconds }
@@ -219,7 +219,7 @@ pub fn prunes(clock: &Clock, plans: &[Plan]) -> (Row, f64) {
         assert!(out[..length] == out2[..length] && old[..count] == starts2[..count] && new[..count] == table2[..count]);
         live += kept;
     }
-    let nanoseconds = clock.race(
+    let nanoseconds = clock.race([
         &mut || {
             let mut told = [0; 3];
             plans.iter().all(|plan| {
@@ -235,7 +235,7 @@ pub fn prunes(clock: &Clock, plans: &[Plan]) -> (Row, f64) {
                     && rewrite(file, checked[1] as usize, &mut out2, &mut table2[..count])
             })
         },
-    );
+    ]);
     if let Some(last) = plans.last() {
         assert!(out2[..last.file.len()] == last.file && table2[..last.starts.len()] == last.starts);
     }

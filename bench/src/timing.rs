@@ -1,4 +1,4 @@
-//! The shortest times of two programs, which alternate.
+//! The shortest times of programs that alternate.
 
 use std::fs::File;
 use std::os::unix::fs::FileExt;
@@ -45,21 +45,21 @@ impl Clock {
         Duration::from_nanos(number.unwrap_or(0))
     }
 
-    /// The nanoseconds that one run of each of two programs takes: the shortest of several rounds, in which they take turns
+    /// The nanoseconds that one run of each of some programs takes: the shortest of several rounds, in which they take turns
     /// in being first. A run answers whether it went well.
     ///
     /// # Panics
     ///
     /// Panics if a run did not go well.
-    pub fn race(&self, product: &mut dyn FnMut() -> bool, second: &mut dyn FnMut() -> bool) -> [f64; 2] {
-        let runs = [self.repeats(product), self.repeats(second)];
-        let mut best = [f64::MAX; 2];
+    pub fn race<const N: usize>(&self, mut programs: [&mut dyn FnMut() -> bool; N]) -> [f64; N] {
+        let runs = programs.each_mut().map(|run| self.repeats(run));
+        let mut best = [f64::MAX; N];
         let begin = Instant::now();
         let mut round = 0;
         while round < ROUNDS || begin.elapsed() < ROW {
-            for turn in 0..2 {
-                let program = (turn + round) % 2;
-                let time = if program == 0 { self.time(product, runs[0]) } else { self.time(second, runs[1]) };
+            for turn in 0..N {
+                let program = (turn + round) % N;
+                let time = self.time(programs[program], runs[program]);
                 best[program] = best[program].min(time);
             }
             round += 1;
