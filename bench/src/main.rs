@@ -12,7 +12,7 @@ mod timing;
 
 use std::io::{self, Write};
 
-use plans::{Dead, Shape};
+use plans::{Dead, Letters, Shape, LABELS};
 use rows::Row;
 use timing::Clock;
 
@@ -28,6 +28,7 @@ fn main() -> io::Result<()> {
         ("depths", Page::depths),
         ("queries", Page::queries),
         ("writer", Page::writer),
+        ("labels", Page::labels),
         ("prune", Page::prune),
     ];
     let only: Vec<String> = std::env::args().skip(1).collect();
@@ -131,6 +132,42 @@ impl<W: Write> Page<W> {
                 let row = rows::writes(&self.clock, &[plans::make(shape, *length, 1)]);
                 self.row(&format!("{}, {name}", shape.name()), &row)?;
             }
+        }
+        Ok(())
+    }
+
+    /// The table of labels.
+    fn labels(&mut self) -> io::Result<()> {
+        self.title(
+            "Labels",
+            "Files of 64 labels, as many as have 256 KB of labels, and the time for one label: of `check`, which reads its header too; of the \
+             writer's call for a\ntext, which writes header and bytes too; and of `std::str::from_utf8`, the test of Rust's library, which is given the \
+             bytes alone.",
+        )?;
+        writeln!(
+            self.out,
+            "| | labels | check, libtwine.a, ns | check, second, ns | ratio | text call, libtwine.a, ns | text call, second, ns | ratio | from_utf8, ns |\n\
+             |---|--:|--:|--:|--:|--:|--:|--:|--:|"
+        )?;
+        let [plain, mixed, wide] = [Letters::Plain, Letters::Mixed, Letters::Wide];
+        for (letters, length, name) in [
+            (plain, 4096, "4,096"),
+            (plain, 64, "64"),
+            (plain, 20, "20"),
+            (plain, 5, "5"),
+            (mixed, 4096, "4,096"),
+            (mixed, 64, "64"),
+            (wide, 64, "64"),
+        ] {
+            let files = rows::label_files(letters, length);
+            let labels = files.len() * LABELS;
+            write!(self.out, "| {}, {name} bytes | {labels} |", letters.name())?;
+            for row in [rows::check(&self.clock, ffi::STRICT, &files), rows::writes(&self.clock, &files)] {
+                let [product, second] = row.nanoseconds.map(|time| time / labels as f64);
+                write!(self.out, " {product:.1} | {second:.1} | {:.2} |", product / second)?;
+            }
+            writeln!(self.out, " {:.1} |", rows::from_utf8(&self.clock, &files) / labels as f64)?;
+            self.out.flush()?;
         }
         Ok(())
     }

@@ -1,4 +1,4 @@
-//! Made-up files of four shapes.
+//! Made-up files of four shapes, and of labels alone.
 
 use reference::{Call, Mode, Scalar, Writer};
 
@@ -64,6 +64,28 @@ impl Dead {
     }
 }
 
+/// What labels are made of.
+#[derive(Clone, Copy, Debug, PartialEq, Eq)]
+pub enum Letters {
+    /// Letters of one byte.
+    Plain,
+    /// Those, and in each sixteen bytes a letter of two bytes.
+    Mixed,
+    /// Letters of two bytes.
+    Wide,
+}
+
+impl Letters {
+    /// Their name in a table.
+    pub const fn name(self) -> &'static str {
+        match self {
+            Self::Plain => "plain",
+            Self::Mixed => "some letters beyond ASCII",
+            Self::Wide => "only letters beyond ASCII",
+        }
+    }
+}
+
 /// A file, its starts, and the calls that write it.
 #[derive(Debug)]
 pub struct Plan {
@@ -123,6 +145,19 @@ pub fn rebuilt(shape: Shape, dead: Dead, length: usize, seed: u64) -> Plan {
     }
     let entry = maker.hold();
     maker.close(entry)
+}
+
+/// How many labels a file of labels has.
+pub const LABELS: usize = 64;
+
+/// A file of labels of this length, and, if they are long, of the pointer that its close adds.
+pub fn labels(letters: Letters, length: usize, seed: u64) -> Plan {
+    let mut maker = Maker::new(LABELS * (length + 4) + 8, seed);
+    for _ in 0..LABELS {
+        maker.label(letters, length);
+    }
+    let last = maker.starts[LABELS - 1];
+    maker.close(last)
 }
 
 /// No value is longer than this, with the delta.
@@ -306,6 +341,21 @@ impl Maker {
                 text.extend("ä".as_bytes());
                 text.push(b' ');
             }
+        }
+        self.call(Said::Text(text.into()));
+    }
+
+    fn label(&mut self, letters: Letters, length: usize) {
+        let mut text: Vec<u8> = (0..length).map(|_| b'a' + self.random.below(26) as u8).collect();
+        // Each part of this many bytes gets a letter of two bytes.
+        let part = match letters {
+            Letters::Plain => usize::MAX,
+            Letters::Mixed => 16,
+            Letters::Wide => 2,
+        };
+        for part in text.chunks_exact_mut(part) {
+            let place = self.random.below(part.len() as u64 - 1) as usize;
+            part[place..place + 2].copy_from_slice(&[0xc3, 0x80 + self.random.below(64) as u8]);
         }
         self.call(Said::Text(text.into()));
     }

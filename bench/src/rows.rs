@@ -5,7 +5,7 @@ use std::hint::black_box;
 use reference::{Mode, Pruned, Value, Writer};
 
 use crate::ffi;
-use crate::plans::{self, Dead, Plan, Said, Shape};
+use crate::plans::{self, Dead, Letters, Plan, Said, Shape, LABELS};
 use crate::rewrite::rewrite;
 use crate::timing::Clock;
 
@@ -40,6 +40,12 @@ pub fn padded_files(shape: Shape, count: usize) -> Vec<Plan> {
 /// Different files of 16 KB with dead values.
 pub fn rebuilt_files(shape: Shape, dead: Dead, count: usize) -> Vec<Plan> {
     (1..=count as u64).map(|seed| plans::rebuilt(shape, dead, 16 << 10, seed)).collect()
+}
+
+/// Different files of labels of this length, as many as have 256 KB of labels.
+pub fn label_files(letters: Letters, length: usize) -> Vec<Plan> {
+    let count = (256 << 10) / (LABELS * length);
+    (1..=count as u64).map(|seed| plans::labels(letters, length, seed)).collect()
 }
 
 /// The values and the bytes of files.
@@ -241,4 +247,14 @@ pub fn prunes(clock: &Clock, plans: &[Plan]) -> (Row, f64) {
     }
     let (units, bytes) = size(plans);
     (Row { units, bytes, nanoseconds }, 1.0 - live as f64 / units as f64)
+}
+
+/// The nanoseconds in which `std::str::from_utf8` tests all labels of files.
+pub fn from_utf8(clock: &Clock, plans: &[Plan]) -> f64 {
+    let labels: Vec<&[u8]> = plans
+        .iter()
+        .flat_map(|plan| plan.starts[..LABELS].iter().map(|&start| reference::body(&plan.file, Mode::Strict, start.into())))
+        .collect();
+    let [nanoseconds] = clock.race([&mut || labels.iter().all(|label| std::str::from_utf8(black_box(label)).is_ok())]);
+    nanoseconds
 }
