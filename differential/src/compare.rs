@@ -4,6 +4,7 @@ use reference::query::{Body, Followed};
 use reference::{kind, Call, Checked, Error, ErrorKind, Mode, Pruned, Refusal, Value, Writer};
 
 use crate::difference::{self, Difference};
+use crate::edges::Edges;
 use crate::ffi::{self, NAME, STATE};
 use crate::guarded::Guarded;
 use crate::make;
@@ -218,6 +219,28 @@ impl<P: Product> Comparer<P> {
             |file, mode, [starts, _]| checked(reference::check(file, mode, starts)),
         )?;
         Ok((number == 0).then_some(count as usize))
+    }
+
+    /// The last check once more, in the tolerant mode, of copies of the file at the edges of what can be read.
+    pub fn check_again(&mut self, edges: &mut Edges) -> Result<(), Difference> {
+        let words = self.left.starts.slice().len();
+        for copy in edges.copies(self.file.slice()) {
+            // The strict mode's memory is free by now.
+            self.strict.refill(2, [words, 0]);
+            let Left { number, out, starts, .. } = &mut self.strict;
+            *number = self.product.check(copy, ffi::TOLERANT, starts.slice_mut(), array(out.slice_mut()));
+            if self.strict != self.left || copy != self.file.slice() {
+                return Err(Difference {
+                    question: format!(
+                        "check with {words} words at an edge, of the file of {}",
+                        difference::hex(self.file.slice())
+                    ),
+                    product: self.strict.answer(),
+                    second: format!("{}, as elsewhere, and the same memory", self.left.answer()),
+                });
+            }
+        }
+        Ok(())
     }
 
     /// `twine_depths`, with tables of these lengths.
@@ -497,26 +520,28 @@ impl<P: Product> Comparer<P> {
 
     /// A call of the writer. Both get the same state, output and table, and leave theirs in `lent`.
     pub fn call(&mut self, memory: &mut Writing, call: Call<'_>) -> Result<u32, Difference> {
-        let before = *memory.state();
-        let (answer, next) = make::step(writer(&before), call, &mut memory.second_out, &mut memory.second_starts);
-        let expected = answer.map_or_else(|kind| kind.number().into(), |()| 0);
-        // A refused call hands back the very same words; an accepted one leaves 0 or 1 for whether it is closed.
-        let state = if expected == 0 { words(next) } else { before };
-
-        let bytes = match call {
-            Call::Text(bytes) | Call::Bytes(bytes) => bytes,
-            _ => &[],
-        };
-        self.argument.copy_from(bytes);
+        self.argument.copy_from(bytes(call));
         let argument = self.argument.slice();
         let own = match call {
             Call::Text(_) => Call::Text(argument),
             Call::Bytes(_) => Call::Bytes(argument),
             call => call,
         };
+        let number = self.call_with(memory, call, own)?;
+        self.met[Asked::Call as usize][number as usize] += 1;
+        Ok(number)
+    }
+
+    /// The same; what the product is handed has its bytes somewhere else.
+    pub fn call_with(&self, memory: &mut Writing, call: Call<'_>, own: Call<'_>) -> Result<u32, Difference> {
+        let before = *memory.state();
+        let (answer, next) = make::step(writer(&before), call, &mut memory.second_out, &mut memory.second_starts);
+        let expected = answer.map_or_else(|kind| kind.number().into(), |()| 0);
+        // A refused call hands back the very same words; an accepted one leaves 0 or 1 for whether it is closed.
+        let state = if expected == 0 { words(next) } else { before };
+
         let number = memory.with_product(|state, out, starts| self.product.call(state, own, out, starts));
-        let is_guarded = memory.is_guarded() && self.argument.is_guarded() && self.argument.slice() == bytes;
-        self.met[Asked::Call as usize][expected as usize] += 1;
+        let is_guarded = memory.is_guarded() && self.argument.is_guarded() && bytes(own) == bytes(call);
         if number == expected && *memory.state() == state && memory.is_same() && is_guarded {
             return Ok(number);
         }
@@ -543,6 +568,14 @@ impl<P: Product> Comparer<P> {
             product,
             second,
         })
+    }
+}
+
+/// The bytes of a writer's call.
+fn bytes(call: Call<'_>) -> &[u8] {
+    match call {
+        Call::Text(bytes) | Call::Bytes(bytes) => bytes,
+        _ => &[],
     }
 }
 

@@ -10,6 +10,7 @@ use reference::{Call, Mode, Token};
 
 use crate::compare::{Asked, Comparer};
 use crate::ffi::{self, STATE, STRICT, TOLERANT};
+use crate::labels;
 use crate::make;
 use crate::options::Options;
 use crate::padded::SYSTEMATIC;
@@ -581,6 +582,10 @@ fn the_archive_has_no_fault() {
     // The first texts are those at the narrowed borders; all of them would take a debug build more than a minute.
     for case in 0..60 {
         assert_eq!(run_only(Archive, "text", 1, Some(case)), Ok(()), "text {case}");
+    }
+    // A few lengths and places, for the same reason.
+    for case in (0..labels::CASES).step_by(37) {
+        assert_eq!(run_only(Archive, "labels", 1, Some(case)), Ok(()), "labels {case}");
     }
 }
 

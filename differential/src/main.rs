@@ -4,10 +4,12 @@
 
 mod compare;
 mod difference;
+mod edges;
 #[cfg(test)]
 mod faults;
 mod ffi;
 mod guarded;
+mod labels;
 mod make;
 mod options;
 mod padded;

@@ -13,7 +13,7 @@ const LETTERS: &str = "frames drives ä€😀 slot 0123456789 address \u{0}\u{7
 
 /// The characters of RFC 3629 at its borders: the first and the last of each range of leads, and of each lead whose second byte is
 /// narrowed.
-const CHARACTERS: [char; 18] = [
+pub const CHARACTERS: [char; 18] = [
     '\0',
     '\u{7f}',
     '\u{80}',

@@ -11,14 +11,16 @@ Compares libtwine.a with the second program; the exit status is 1 at the first d
   --seed N       make the cases from this number (1)
   --minutes M    how long in all (100 seconds)
   --seconds S    the same in seconds
-  --only NAME    only this section: names, short, text, padded, written, built, damaged, ends, prune,
-                 calls, states, edge, long
+  --only NAME    only this section: names, short, text, labels, padded, written, built, damaged, ends,
+                 prune, calls, states, edge, long
   --case K       only this case of it
 ";
 
 /// The names of the sections.
-const SECTIONS: [&str; 13] =
-    ["names", "short", "text", "padded", "written", "built", "damaged", "ends", "prune", "calls", "states", "edge", "long"];
+const SECTIONS: [&str; 14] = [
+    "names", "short", "text", "labels", "padded", "written", "built", "damaged", "ends", "prune", "calls", "states", "edge",
+    "long",
+];
 
 /// What to compare.
 #[derive(Clone, Debug, PartialEq, Eq)]

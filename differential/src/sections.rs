@@ -6,6 +6,7 @@ use reference::{Call, Scalar, MAX_LEN};
 use crate::compare::{Comparer, Writing};
 use crate::difference::{self, Difference};
 use crate::ffi::STATE;
+use crate::labels;
 use crate::make::{self, Padding};
 use crate::padded;
 use crate::product::Product;
@@ -41,13 +42,14 @@ pub struct Case {
 const SHORT: u64 = 1 + (1 << 8) + (1 << 16) + (1 << 24);
 
 /// All sections in their order.
-pub fn all<P: Product>() -> [Section<P>; 13] {
+pub fn all<P: Product>() -> [Section<P>; 14] {
     let section = |name, share, run| Section { name, cases: None, least: 1, share, run };
     [
         Section { cases: Some(40), ..section("names", 1, names) },
-        // These three take some seconds at least: two always end, the third goes on with made-up files.
+        // These four take some seconds at least: three always end, the last goes on with made-up files.
         Section { cases: Some(SHORT), least: SHORT, ..section("short", 70, short) },
         Section { cases: Some(text::CASES), least: text::CASES, ..section("text", 20, text::text) },
+        Section { cases: Some(labels::CASES), least: labels::CASES, ..section("labels", 10, labels::labels) },
         Section { least: padded::SYSTEMATIC, ..section("padded", 20, padded::padded) },
         section("written", 15, written),
         section("built", 15, built),

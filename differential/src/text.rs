@@ -14,13 +14,13 @@ use crate::random::Random;
 use crate::sections::{self, Case};
 
 /// The borders of RFC 3629's ranges of bytes, and the bytes beside them.
-const BORDERS: [u8; 39] = [
+pub const BORDERS: [u8; 39] = [
     0x00, 0x01, 0x7e, 0x7f, 0x80, 0x81, 0x8e, 0x8f, 0x90, 0x91, 0x9e, 0x9f, 0xa0, 0xa1, 0xbe, 0xbf, 0xc0, 0xc1, 0xc2, 0xc3, 0xde,
     0xdf, 0xe0, 0xe1, 0xe2, 0xeb, 0xec, 0xed, 0xee, 0xef, 0xf0, 0xf1, 0xf2, 0xf3, 0xf4, 0xf5, 0xf6, 0xfe, 0xff,
 ];
 
 /// The state of a new writer.
-const NEW: [u64; STATE] = [0; STATE];
+pub const NEW: [u64; STATE] = [0; STATE];
 
 /// A case is the texts with the same first two bytes.
 pub const CASES: u64 = 1 << 16;
@@ -82,7 +82,7 @@ pub fn text<P: Product>(comparer: &mut Comparer<P>, mut case: Case) -> Result<()
 }
 
 /// A variant without an argument, as a value or an item. If a text is cut within a character, this byte would go on with it.
-const VARIANT: u8 = 0xa0;
+pub const VARIANT: u8 = 0xa0;
 
 /// A file of a text of up to four bytes and a variant, and a new writer's call with the text.
 fn alone<P: Product>(comparer: &mut Comparer<P>, memory: &mut Writing, text: &[u8]) -> Result<(), Difference> {
@@ -124,7 +124,7 @@ fn between<P: Product>(comparer: &mut Comparer<P>, random: &mut Random, bytes: &
 }
 
 /// Compares what both programs answered with Rust's own check of UTF-8.
-fn agrees(question: &str, text: &[u8], is_accepted: bool) -> Result<(), Difference> {
+pub fn agrees(question: &str, text: &[u8], is_accepted: bool) -> Result<(), Difference> {
     if is_accepted == std::str::from_utf8(text).is_ok() {
         return Ok(());
     }
