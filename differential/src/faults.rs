@@ -1,6 +1,7 @@
 //! Faults between the comparison and the archive, each of which has to be found.
 
 mod prune;
+mod runs;
 
 use std::borrow::Cow;
 use std::fmt::Debug;
@@ -162,15 +163,6 @@ impl Fault {
         }
     }
 
-    /// A file with the mistake made in each of its texts.
-    fn mistaken(self, file: &[u8]) -> Vec<u8> {
-        let mut mistaken = file.to_vec();
-        for token in tokens(file).filter(|token| token.kind == 4) {
-            self.mistake(&mut mistaken[token.first..token.end]);
-        }
-        mistaken
-    }
-
     /// What a call takes a file for.
     fn seen(self, asked: Asked, file: &[u8]) -> Cow<'_, [u8]> {
         match (self, asked) {
@@ -184,7 +176,7 @@ impl Fault {
                 | Self::Cut,
                 Asked::Check,
             )
-            | (Self::SurrogateDeep, Asked::Depths) => self.mistaken(file).into(),
+            | (Self::SurrogateDeep, Asked::Depths) => with_texts(file, |text, _| self.mistake(text)).into(),
             (Self::TenthTwo, _) => without_tenth_twos(file).into(),
             (Self::Unpadded, _) => with_unpadded_distances(file).into(),
             _ => file.into(),
@@ -221,6 +213,24 @@ impl Fault {
 fn tokens(file: &[u8]) -> impl Iterator<Item = Token> + '_ {
     let region = file.split_last().map_or(file, |(_, region)| region);
     reference::tokens(region, Mode::Tolerant).map_while(Result::ok)
+}
+
+/// A file with each of its texts changed. `change` gets the bytes after the text too.
+fn with_texts(file: &[u8], change: impl Fn(&mut [u8], &[u8])) -> Vec<u8> {
+    let mut with = file.to_vec();
+    for token in tokens(file).filter(|token| token.kind == 4) {
+        change(&mut with[token.first..token.end], &file[token.end..]);
+    }
+    with
+}
+
+/// The writer's call for a text that is tested as if it were another of its length.
+fn call_taking_for(state: &mut [u64; STATE], text: &[u8], other: &[u8], out: &mut [u8], starts: &mut [u32]) -> u32 {
+    let number = ffi::call(state, Call::Text(other), out, starts);
+    if number == 0 {
+        out[state[0] as usize - text.len()..][..text.len()].copy_from_slice(text);
+    }
+    number
 }
 
 /// By how many bytes a number is padded: those zeros at its end that are not its first byte.
@@ -430,11 +440,7 @@ impl Product for Fault {
         if let (Self::SurrogateWritten | Self::LastWritten, Call::Text(text)) = (self, call) {
             let mut mistaken = text.to_vec();
             self.mistake(&mut mistaken);
-            let number = ffi::call(state, Call::Text(&mistaken), out, starts);
-            if number == 0 {
-                out[state[0] as usize - text.len()..][..text.len()].copy_from_slice(text);
-            }
-            return number;
+            return call_taking_for(state, text, &mistaken, out, starts);
         }
         let number = ffi::call(state, call, out, starts);
         match self {
