@@ -12,13 +12,13 @@ use native.Mathlib.Numerals.{add-one, sub-one}
 use native.Mathlib.Omega.{arith}
 use lib.Dec.{eqb, ltb, leb, leb·zero}
 use lib.ListN.{length, getD, take, drop, replicate, length-drop, take-append-drop, drop-of-length-le}
-use lib.Seq.{drop-cons, drop-drop, take-all}
+use lib.Seq.{drop-cons, drop-drop, take-all, take-take, length-take-le}
 use borrow.Author.Tests.{le-leb, lt-leb, lt-ltb, le-ltb, ltb-true, eq-eqb, ne-eqb}
 use Rattle.prelude.specs.Pick.{pick}
 use Rattle.prelude.proofs.Tests.{split, and-l, and-r}
 use Rattle.prelude.proofs.Parts.{part-from, length-part}
-use Rattle.utf8_plain.specs.Plain.{Plain}
-use Rattle.utf8_plain.proofs.Laws.{plain-later}
+use Rattle.utf8_plain.specs.Plain.{Plain, plainFront}
+use Rattle.utf8_plain.proofs.Laws.{plain-later, front-plain, front-le}
 use Rattle.utf8.specs.Text.{Range, range, continuation, forms, within, lead, next, complete, textFrom, isText}
 use Rattle.utf8.specs.Internal.{ranges, dueOf, allowed}
 use Rattle.utf8.specs.declared.Due.{Due}
@@ -176,12 +176,9 @@ module _ (s : List ℕ) (i r : ℕ) {a : Bool} (inv : isText (drop i s) ≡ a) (
   pub pass-next : r ≤ length s → isText (drop r s) ≡ a
   pass-next h = (rw (le-leb r (length s)) at e) ∙ inv
 
-  -- at least to the end
-  pub pass-end : length s ≤ r → eqb r (length s) ≡ a
-  unfolding textFrom
-  pass-end h =
-      split (length s) r (λ past. rw (ne-eqb r (length s) (λ z. omega arith)) (pass-bad past))
-      (λ at. let same : r ≡ length s = omega arith in rw (eq-eqb r (length s) same) (rw (drop-of-length-le s h) at (pass-next at)))
+pub text-all : (s : List ℕ) (i : ℕ) {a : Bool} → isText (drop i s) ≡ a → length s ≤ i → true ≡ a
+unfolding textFrom
+text-all s i e h = rw drop-of-length-le at e
 
 -- ---- plain bytes
 
@@ -201,3 +198,18 @@ module _ (s : List ℕ) (i : ℕ) {a : Bool} (inv : isText (drop i s) ≡ a) whe
   plain-last l h p =
       let own : length (drop (length s - 8) s) ≤ 8 = rw length-drop (omega arith) in
       plain-all (drop i s) (plain-later s (length s - 8) i h (rw (take-all 8 (drop (length s - 8) s) own) at p)) ∙ inv
+
+-- n bytes of the word at i are plain
+module _ (s : List ℕ) (i n : ℕ) (e : n ≡ plainFront (take 8 (drop i s))) (h : i + 8 ≤ length s) where
+  front-few : n ≤ 8
+  front-few =
+      let own : length (take 8 (drop i s)) ≡ 8 = length-take-le 8 (drop i s) (rw length-drop (omega arith)) in
+      omega (arith, e, own, front-le (take 8 (drop i s)))
+
+  pub front-within : i + n ≤ length s
+  front-within = omega (arith, front-few)
+
+  pub front-next : isText (drop (i + n) s) ≡ isText (drop i s)
+  front-next =
+      let plain : Plain (take n (take 8 (drop i s))) = rw e (front-plain (take 8 (drop i s))) in
+      plain-next s i refl n (rw (take-take n 8 (drop i s) front-few) at plain)

@@ -101,26 +101,47 @@ fn character(s: &[u8]) -> usize
     i
 }
 
-// Passes characters of s, from `from` on, until `to` is reached or passed. The offset where they end; the length of s and 1
-// if one of them is none.
-fn pass_characters(s: &[u8], from: usize, to: usize) -> usize
-    requires { ⌜ (from ≤ length (now s)) × (to ≤ length (now s)) ⌝ }
-    ensures within { λ r. ⌜ (to ≤ r) × (r ≤ length (now (s .entry)) + 1) ⌝ }
+// Passes the plain bytes of the word at `from`, and then characters, until two plain bytes or the end: one alone may be a blank
+// among letters beyond ASCII. The offset where they end; the length of s and 1 if one of them is none.
+fn pass_characters(s: &[u8], from: usize) -> usize
+    requires { ⌜ from + 8 ≤ length (now s) ⌝ }
+    ensures within { λ r. ⌜ (from < r) × (r ≤ length (now (s .entry)) + 1) ⌝ }
     ensures { λ r. ⌜ pick (leb r (length (now (s .entry)))) (isText (drop r (now (s .entry)))) false ≡ isText (drop from (now (s .entry))) ⌝ }
 {
-    let mut i = from;
-    while i < to {
+    let mut i = from + utf8_plain::plain_before(s, from);
+    while i < s.len() {
         let size = character(&s[i..]);
         if size == 0 {
             return s.len() + 1;
         }
         i += size;
+        if 2 <= s.len() - i {
+            if (s[i] < 0x80) & (s[i + 1] < 0x80) {
+                return i;
+            }
+        }
     }
     i
 }
 
-// Whether s, of eight bytes or more, is text. Plain bytes are passed by words; if a word has another byte, its characters are
-// passed one by one, and then words again. If fewer than eight bytes remain, the last word of s has them all.
+// Whether the bytes of s from `from` on are text, character by character.
+fn is_text_from(s: &[u8], from: usize) -> bool
+    requires { ⌜ from ≤ length (now s) ⌝ }
+    ensures { λ r. ⌜ r ≡ isText (drop from (now (s .entry))) ⌝ }
+{
+    let mut i = from;
+    while i < s.len() {
+        let size = character(&s[i..]);
+        if size == 0 {
+            return false;
+        }
+        i += size;
+    }
+    true
+}
+
+// Whether s, of eight bytes or more, is text. Plain bytes are passed by words. If a word has another byte, characters are
+// passed from there on, and then words again. If fewer than eight bytes remain, the last word of s has them all.
 fn is_long_text(s: &[u8]) -> bool
     requires { ⌜ 8 ≤ length (now s) ⌝ }
     ensures { λ r. ⌜ r ≡ isText (now (s .entry)) ⌝ }
@@ -130,7 +151,7 @@ fn is_long_text(s: &[u8]) -> bool
         if utf8_plain::is_plain_at(s, i) {
             i += 8;
         } else {
-            i = pass_characters(s, i, i + 8);
+            i = pass_characters(s, i);
             if s.len() < i {
                 return false;
             }
@@ -139,7 +160,7 @@ fn is_long_text(s: &[u8]) -> bool
     if utf8_plain::is_plain_at(s, s.len() - 8) {
         return true;
     }
-    pass_characters(s, i, s.len()) == s.len()
+    is_text_from(s, i)
 }
 
 // Whether s is text.
@@ -154,5 +175,5 @@ pub fn is_text(s: &[u8]) -> bool
             return true;
         }
     }
-    pass_characters(s, 0, s.len()) == s.len()
+    is_text_from(s, 0)
 }

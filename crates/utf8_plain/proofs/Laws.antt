@@ -1,23 +1,27 @@
 -- The test of eight bytes says yes exactly if all of them are plain, and what that says of parts of bytes.
 --
--- In order: the test, for a word of any width and for its bytes; parts of plain bytes; what the code joins to one word.
+-- In order: the test, for a word of any width and for its bytes; the plain bytes in front, by the digits 0 below the lowest bit; parts of plain
+-- bytes; what the code reads, and joins to one word.
 use mathlib.Core.Path.{_≡_, refl, sym, ap, subst, _∙_}
 use mathlib.Core.Logic.{_↔_}
 use mathlib.Core.Bool.{Bool, true}
 use mathlib.Core.List.{List, [], _∷_, _++_}
 use Prim.Native.Nat.{ℕ, zero, suc, _+_, _*_, _-_, _/_, _%_, _^_, _≤_, _<_}
+use native.Mathlib.Nat.{zero-add, suc-add, pow-suc}
 use native.Mathlib.Omega.{arith}
 use lib.Bits.{bitAnd, and-block, and-high, and-zero-r}
-use lib.Dec.{eqb}
+use lib.Count.{trailingZeros}
+use lib.Dec.{eqb, ltb}
 use lib.ListN.{length, take, drop, length-drop, take-append-drop}
 use lib.Seq.{drop-drop, take-add, take-all}
-use borrow.Author.Tests.{eqb-true, eq-eqb}
+use borrow.Author.Tests.{eqb-true, eq-eqb, ltb-true, lt-ltb, le-ltb}
 use Rattle.prelude.specs.Bytes.{Bytes}
+use Rattle.prelude.proofs.Tests.{pick-elim, split}
 use Rattle.prelude.proofs.Lists.{each-append}
 use Rattle.prelude.proofs.Parts.{part-from, length-part}
 use Rattle.little_endian.specs.LittleEndian.{little, fromLittle}
 use Rattle.little_endian.proofs.Laws.{little-from, little-append}
-use Rattle.utf8_plain.specs.Plain.{Plain, highBits, arePlain}
+use Rattle.utf8_plain.specs.Plain.{Plain, plainFront, highBits, arePlain}
 
 -- ---- the test
 
@@ -46,6 +50,43 @@ plain-exactly s b e =
     let own : little 8 (fromLittle s) ≡ s = rw e at (little-from s b) in
     rw own at (plain-word (fromLittle s))
 
+-- ---- the bytes in front
+
+trailing-even : (n y : ℕ) → trailingZeros (suc n) (2 * y) ≡ suc (trailingZeros n y)
+unfolding trailingZeros
+trailing-even n y =
+    let low : 2 * y % 2 ≡ 0 = omega arith in
+    let high : 2 * y / 2 ≡ y = omega arith in
+    rw (low, high)
+
+trailing-odd : (n y : ℕ) → trailingZeros (suc n) (2 * y + 1) ≡ 0
+unfolding trailingZeros
+trailing-odd n y = let low : (2 * y + 1) % 2 ≡ 1 = omega arith in rw low
+
+-- j digits 0 below those of y
+trailing-above : (j n y : ℕ) → trailingZeros (j + n) (2 ^ j * y) ≡ j + trailingZeros n y
+trailing-above zero n y = let same : 2 ^ 0 * y ≡ y = omega arith in rw (zero-add n, same, zero-add)
+trailing-above (suc j) n y =
+    let twice : 2 ^ suc j * y ≡ 2 * (2 ^ j * y) = rw (pow-suc 2 j) (omega arith) in
+    rw (suc-add j n, twice, trailing-even, trailing-above j n y, suc-add)
+
+front-word : (k w : ℕ) → trailingZeros (8 * k) (bitAnd w (highBits k)) / 8 ≡ plainFront (little k w)
+unfolding little plainFront trailingZeros
+front-word zero w = refl
+front-word (suc k) w =
+    let q : ℕ = bitAnd (w / 256) (highBits k) in
+    let bits : 8 * suc k ≡ 7 + suc (8 * k) = omega arith in
+    split (w % 256) 128
+    (λ plain.
+    let word : bitAnd w (highBits (suc k)) ≡ 2 ^ 7 * (2 * q) = and-byte k w ∙ omega arith in
+    let zeros : trailingZeros (8 * suc k) (bitAnd w (highBits (suc k))) ≡ 8 + trailingZeros (8 * k) q =
+    rw (bits, word, trailing-above 7 (suc (8 * k)) (2 * q), trailing-even (8 * k) q) (omega arith) in
+    rw (lt-ltb (w % 256) 128, ← front-word k (w / 256)) (omega (arith, zeros)))
+    (λ other.
+    let word : bitAnd w (highBits (suc k)) ≡ 2 ^ 7 * (2 * q + 1) = and-byte k w ∙ omega arith in
+    let zeros : trailingZeros (8 * suc k) (bitAnd w (highBits (suc k))) ≡ 7 = rw (bits, word, trailing-above 7 (suc (8 * k)) (2 * q + 1), trailing-odd (8 * k) q) in
+    rw (le-ltb (w % 256) 128) (omega (arith, zeros)))
+
 -- ---- parts
 
 plain-parts : (k : ℕ) (s : List ℕ) → Plain s ↔ (Plain (take k s) × Plain (drop k s))
@@ -59,6 +100,16 @@ plain-later s j i h p =
     let sum : j + (i - j) ≡ i = omega arith in
     let same : drop (i - j) (drop j s) ≡ drop i s = drop-drop (i - j) j s ∙ rw sum in
     rw same at (plain-parts (i - j) (drop j s) .0 p .1)
+
+pub front-plain : (s : List ℕ) → Plain (take (plainFront s) s)
+unfolding plainFront
+front-plain [] = tt
+front-plain (b ∷ s) = pick-elim (λ n. Plain (take n (b ∷ s))) (ltb b 0x80) (λ e. (ltb-true b 0x80 e, front-plain s)) (λ e. tt)
+
+pub front-le : (s : List ℕ) → plainFront s ≤ length s
+unfolding plainFront
+front-le [] = omega arith
+front-le (b ∷ s) = pick-elim (λ n. n ≤ suc (length s)) (ltb b 0x80) (λ e. omega (arith, front-le s)) (λ e. omega arith)
 
 -- ---- as the code has it
 
@@ -92,3 +143,11 @@ plain-short s a b {r} l m h front back e =
       λ t. let q = both .0 (test .0 t) in plain-parts 4 s .1 (q .0, plain-later s (length s - 4) 4 (omega arith) (q .1)),
       λ p. test .1 (both .1 (plain-parts 4 s .0 p .0, plain-parts (length s - 4) s .0 p .1)),
     )
+
+-- the lowest of the highest bits of the word w, read from the part at i
+pub front-at : (s : List ℕ) (i w : ℕ) → i + 8 ≤ length s
+    → (8 ≤ length (take (length s - i) (drop i s)) → little 8 w ≡ take 8 (take (length s - i) (drop i s)))
+    → trailingZeros 64 (bitAnd w (highBits 8)) / 8 ≡ plainFront (take 8 (drop i s))
+front-at s i w h bytes =
+    let own : little 8 w ≡ take 8 (drop i s) = rw (part-from i s) at (bytes (rw length-part (omega arith))) in
+    front-word 8 w ∙ rw own

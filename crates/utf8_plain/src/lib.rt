@@ -4,7 +4,7 @@ ghost use mathlib.Core.Logic.{_↔_};
 ghost use mathlib.Core.Bool.{true};
 ghost use Prim.Native.Nat.{_+_, _≤_};
 ghost use lib.ListN.{length, take, drop};
-ghost use Rattle.utf8_plain.specs.Plain.{Plain, arePlain};
+ghost use Rattle.utf8_plain.specs.Plain.{Plain, plainFront, arePlain};
 
 // The one test: whether the eight bytes of a word are all plain.
 fn is_plain(word: u64) -> bool
@@ -19,6 +19,15 @@ pub fn is_plain_at(s: &[u8], i: usize) -> bool
     ensures { λ r. ⌜ (r ≡ true) ↔ Plain (take 8 (drop i (now (s .entry)))) ⌝ }
 {
     is_plain(little_endian::load8(&s[i..]))
+}
+
+// How many of the eight bytes of s from i on are before the first that is not plain: by the lowest of the highest bits.
+pub fn plain_before(s: &[u8], i: usize) -> usize
+    requires { ⌜ i + 8 ≤ length (now s) ⌝ }
+    ensures { λ r. ⌜ r ≡ plainFront (take 8 (drop i (now (s .entry)))) ⌝ }
+{
+    let high_bits = little_endian::load8(&s[i..]) & 0x8080_8080_8080_8080;
+    (u64::trailing_zeros(high_bits) / 8) as usize
 }
 
 // Whether s, of four to eight bytes, is all plain: its first four bytes and its last four are the eight of a word.

@@ -1,11 +1,11 @@
 -- `utf8::is_long_text` meets its contract. The invariant: whether the bytes from i on are a text is the answer.
-use mathlib.Core.Path.{_≡_}
+use mathlib.Core.Path.{_≡_, _∙_}
 use Prim.Native.Nat.{_-_, _≤_}
 use native.Mathlib.Omega.{arith}
 use lib.ListN.{length, drop}
 use borrow.Author.Needs.{needs}
 use Rattle.utf8.specs.Text.{isText}
-use Rattle.utf8.proofs.Steps.{pass-bad, pass-next, pass-end, plain-front, plain-next, plain-last}
+use Rattle.utf8.proofs.Steps.{pass-bad, pass-next, plain-front, plain-next, plain-last}
 use Rattle.utf8.proofs.is_long_text.Statement.{statement}
 use Rattle.utf8.proofs.is_long_text.Tie as tie
 
@@ -32,19 +32,19 @@ is-long-text-spec =
     (λ c.
     let l = c .before .before .before in
     (omega arith, plain-next (l .before .before .before .args .s .now) (l .loop .i) (l .loop .inv .1) 8 (c .before .is-plain-at .ensures .0 (c .if1 .taken))))
-    (λ c. search needs)
     (λ c κs. search needs)
     -- one is no character
     (λ c. search (pass-bad, arith))
     (λ c. search needs)
-    -- the characters of a word
+    -- the characters of the word, and after it
     (λ c. (omega arith, search (pass-next, arith)))
     (λ c. search needs)
     (λ c κs. search needs)
     -- the last word is plain
     (λ c.
     let l = c .before .before .before in
-    plain-last (l .before .before .before .args .s .now) (l .loop .i) (l .loop .inv .1) (omega arith) (omega arith) (c .before .is-plain-at2 .ensures .0 (c .if3 .taken)))
+    plain-last (l .before .before .before .args .s .now) (l .loop .i) (l .loop .inv .1) (omega arith) (omega arith)
+    (c .before .is-plain-at2 .ensures .0 (c .if3 .taken)))
     (λ c κs. search needs)
     -- the last characters
-    (λ c. search (pass-end, arith)))
+    (λ c. c .is-text-from .ensures ∙ c .before .before .before .before .loop .inv .1))

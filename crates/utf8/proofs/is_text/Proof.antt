@@ -1,8 +1,6 @@
 -- `utf8::is_text` meets its contract: by its length.
-use mathlib.Core.Path.{refl}
-use native.Mathlib.Omega.{arith}
 use borrow.Author.Needs.{needs}
-use Rattle.utf8.proofs.Steps.{pass-end, plain-all}
+use Rattle.utf8.proofs.Steps.{plain-all}
 use Rattle.utf8.proofs.is_text.Statement.{statement}
 use Rattle.utf8.proofs.is_text.Tie as tie
 
@@ -15,4 +13,4 @@ is-text-spec =
     (λ c κs. search needs)
     (λ c. plain-all _ (c .before .is-short-plain .ensures .0 (c .if3 .taken)))
     (λ c κs. search needs)
-    (λ c. pass-end _ 0 _ refl (c .pass-characters .ensures .1) (c .pass-characters .ensures .0 .0)))
+    (λ c. c .is-text-from .ensures))

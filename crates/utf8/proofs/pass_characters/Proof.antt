@@ -5,15 +5,15 @@ use native.Mathlib.Omega.{arith}
 use lib.ListN.{length, drop}
 use borrow.Author.Needs.{needs}
 use Rattle.utf8.specs.Text.{isText}
-use Rattle.utf8.proofs.Steps.{part-some, character-within, character-none, character-next, pass-none, pass-all}
+use Rattle.utf8.proofs.Steps.{part-some, character-within, character-none, character-next, pass-none, pass-all, front-within, front-next}
 use Rattle.utf8.proofs.pass_characters.Statement.{statement}
 use Rattle.utf8.proofs.pass_characters.Tie as tie
 
 abbrev Inv-loop : tie.InvT-loop
-Inv-loop s from to i₀ i = (i ≤ length s) × (isText (drop i s) ≡ isText (drop from s))
+Inv-loop s from i₀ i = (from ≤ i) × (i ≤ length s) × (isText (drop i s) ≡ isText (drop from s))
 
 abbrev μ-loop : tie.MeasureT-loop
-μ-loop s from to i₀ i = length s - i
+μ-loop s from i₀ i = length s - i
 
 pub pass-characters-spec : {M : Type 1} → statement M
 pass-characters-spec =
@@ -21,16 +21,33 @@ pass-characters-spec =
     (tie.spec
     Inv-loop
     μ-loop
-    (λ c. search needs)
+    (λ c κs. search needs)
+    (λ c.
+    let start = c .before .before in
+    let few = front-within (start .args .s .now) (start .args .from) (c .plain-before .result) (c .plain-before .ensures) (start .pre) in
+    record { fits = omega arith })
+    -- the plain bytes of the word
+    (λ c.
+    let start = c .before .before in
+    let few = front-within (start .args .s .now) (start .args .from) (c .plain-before .result) (c .plain-before .ensures) (start .pre) in
+    (omega arith, few, front-next (start .args .s .now) (start .args .from) (c .plain-before .result) (c .plain-before .ensures) (start .pre)))
     (λ c. search needs)
     (λ c. search needs)
     (λ c. search needs)
     (λ c κs. search (part-some, arith))
-    -- no character
     (λ c. record { fits = omega arith })
+    -- no character
     (λ c. ((omega arith, omega arith), search (pass-none, character-none, arith)))
     (λ c. search (character-within, needs))
-    (λ c. search needs)
+    (λ c. search (character-within, needs))
+    (λ c. search (character-within, needs))
+    (λ c. search (character-within, needs))
+    (λ c. search (character-within, needs))
+    -- two plain bytes
+    (λ c. ((omega arith, search (character-within, arith)), search (pass-all, character-within, character-next, arith)))
+    (λ c. search (character-within, needs))
     (λ c. search (character-within, character-next, arith))
-    -- `to` is reached
+    (λ c. search (character-within, needs))
+    (λ c. search (character-within, character-next, arith))
+    -- the end
     (λ c. ((omega arith, omega arith), search (pass-all, arith))))
