@@ -2,7 +2,7 @@
 --
 -- In order: the test, for a word of any width and for its bytes; the plain bytes in front, by the digits 0 below the lowest bit; parts of plain
 -- bytes; what the code reads, and joins to one word.
-use mathlib.Core.Path.{_≡_, refl, sym, ap, subst, _∙_}
+use mathlib.Core.Path.{_≡_, refl, sym, ap, _∙_}
 use mathlib.Core.Logic.{_↔_}
 use mathlib.Core.Bool.{Bool, true}
 use mathlib.Core.List.{List, [], _∷_, _++_}
@@ -10,7 +10,7 @@ use Prim.Native.Nat.{ℕ, zero, suc, _+_, _*_, _-_, _/_, _%_, _^_, _≤_, _<_}
 use native.Mathlib.Nat.{zero-add, suc-add, pow-suc}
 use native.Mathlib.Omega.{arith}
 use lib.Bits.{bitAnd, and-block, and-high, and-zero-r}
-use lib.Count.{trailingZeros}
+use lib.Count.{trailingZeros, trailing-le}
 use lib.Dec.{eqb, ltb}
 use lib.ListN.{length, take, drop, length-drop, take-append-drop}
 use lib.Seq.{drop-drop, take-add, take-all}
@@ -79,21 +79,20 @@ front-word (suc k) w =
     split (w % 256) 128
     (λ plain.
     let word : bitAnd w (highBits (suc k)) ≡ 2 ^ 7 * (2 * q) = and-byte k w ∙ omega arith in
-    let zeros : trailingZeros (8 * suc k) (bitAnd w (highBits (suc k))) ≡ 8 + trailingZeros (8 * k) q =
-    rw (bits, word, trailing-above 7 (suc (8 * k)) (2 * q), trailing-even (8 * k) q) (omega arith) in
-    rw (lt-ltb (w % 256) 128, ← front-word k (w / 256)) (omega (arith, zeros)))
+    let zeros = trailing-above 7 (suc (8 * k)) (2 * q) in
+    rw (lt-ltb (w % 256) 128, ← front-word k (w / 256), bits, word) (omega (arith, zeros, trailing-even (8 * k) q)))
     (λ other.
     let word : bitAnd w (highBits (suc k)) ≡ 2 ^ 7 * (2 * q + 1) = and-byte k w ∙ omega arith in
-    let zeros : trailingZeros (8 * suc k) (bitAnd w (highBits (suc k))) ≡ 7 = rw (bits, word, trailing-above 7 (suc (8 * k)) (2 * q + 1), trailing-odd (8 * k) q) in
-    rw (le-ltb (w % 256) 128) (omega (arith, zeros)))
+    let zeros = trailing-above 7 (suc (8 * k)) (2 * q + 1) in
+    rw (le-ltb (w % 256) 128, bits, word) (omega (arith, zeros, trailing-odd (8 * k) q)))
 
 -- ---- parts
 
 plain-parts : (k : ℕ) (s : List ℕ) → Plain s ↔ (Plain (take k s) × Plain (drop k s))
 plain-parts k s = rw (take-append-drop k s) at (each-append (λ b. b < 0x80) (take k s) (drop k s))
 
-plain-front : (m n : ℕ) (s : List ℕ) → Plain (take m s) → Plain (take n (drop m s)) → Plain (take (m + n) s)
-plain-front m n s p q = rw take-add (each-append (λ b. b < 0x80) (take m s) (take n (drop m s)) .1 (p, q))
+plain-append : (m n : ℕ) (s : List ℕ) → Plain (take m s) → Plain (take n (drop m s)) → Plain (take (m + n) s)
+plain-append m n s p q = rw take-add (each-append (λ b. b < 0x80) (take m s) (take n (drop m s)) .1 (p, q))
 
 pub plain-later : (s : List ℕ) (j i : ℕ) → j ≤ i → Plain (drop j s) → Plain (drop i s)
 plain-later s j i h p =
@@ -114,40 +113,41 @@ front-le (b ∷ s) = pick-elim (λ n. n ≤ suc (length s)) (ltb b 0x80) (λ e. 
 -- ---- as the code has it
 
 -- the word w, read from the part at i
-pub plain-at : (s : List ℕ) (i w : ℕ) {r : Bool} → i + 8 ≤ length s
-    → (8 ≤ length (take (length s - i) (drop i s)) → little 8 w ≡ take 8 (take (length s - i) (drop i s))) → r ≡ arePlain w
-    → (r ≡ true) ↔ Plain (take 8 (drop i s))
-plain-at s i w h bytes e =
-    let own : little 8 w ≡ take 8 (drop i s) = rw (part-from i s) at (bytes (rw length-part (omega arith))) in
-    rw (e, ← own) (plain-word w)
+module _ (s : List ℕ) (i w : ℕ) (h : i + 8 ≤ length s)
+    (bytes : 8 ≤ length (take (length s - i) (drop i s)) → little 8 w ≡ take 8 (take (length s - i) (drop i s))) where
+  word-at : little 8 w ≡ take 8 (drop i s)
+  word-at = rw (part-from i s) at (bytes (rw length-part (omega arith)))
 
--- two words, read from the part at i and from that eight bytes on
+  pub plain-at : {r : Bool} → r ≡ arePlain w → (r ≡ true) ↔ Plain (take 8 (drop i s))
+  plain-at e = rw (e, ← word-at) (plain-word w)
+
+  pub front-at : trailingZeros 64 (bitAnd w (highBits 8)) / 8 ≡ plainFront (take 8 (drop i s))
+  front-at = front-word 8 w ∙ rw word-at
+
+pub zeros-lt : (x : ℕ) → trailingZeros 64 x / 8 < 2 ^ 64
+zeros-lt x = omega (arith, trailing-le 64 x)
+
+-- the words at i and eight bytes on
 pub plain-both : (s : List ℕ) (i : ℕ) → Plain (take i s) → Plain (take 8 (drop i s)) → Plain (take 8 (drop (i + 8) s)) → Plain (take (i + 16) s)
 plain-both s i p q r =
     let sum : i + 8 + 8 ≡ i + 16 = omega arith in
-    rw sum at (plain-front (i + 8) 8 s (plain-front i 8 s p q) r)
+    rw sum at (plain-append (i + 8) 8 s (plain-append i 8 s p q) r)
 
 -- the first four bytes and the last four, in one word
-pub plain-short : (s : List ℕ) (a b : ℕ) {r : Bool} → 4 ≤ length s → length s ≤ 8 → a < 2 ^ 32
-    → (4 ≤ length s → little 4 a ≡ take 4 s)
-    → (let p = take (length s - (length s - 4)) (drop (length s - 4) s) in 4 ≤ length p → little 4 b ≡ take 4 p)
-    → r ≡ arePlain (a + 2 ^ 32 * b) → (r ≡ true) ↔ Plain s
-plain-short s a b {r} l m h front back e =
-    let last : little 4 b ≡ drop (length s - 4) s =
-    let j = length s - 4 in
-    let own : length (drop j s) ≤ 4 = rw length-drop (omega arith) in
-    (rw (part-from j s) at (back (rw length-part (omega arith)))) ∙ take-all 4 (drop j s) own in
-    let word : little 8 (a + 2 ^ 32 * b) ≡ take 4 s ++ drop (length s - 4) s = little-append 4 4 a b h ∙ rw (front l, last) in
-    let both = each-append (λ b. b < 0x80) (take 4 s) (drop (length s - 4) s) in
-    let test : (r ≡ true) ↔ Plain (take 4 s ++ drop (length s - 4) s) = rw (e, ← word) (plain-word (a + 2 ^ 32 * b)) in (
-      λ t. let q = both .0 (test .0 t) in plain-parts 4 s .1 (q .0, plain-later s (length s - 4) 4 (omega arith) (q .1)),
-      λ p. test .1 (both .1 (plain-parts 4 s .0 p .0, plain-parts (length s - 4) s .0 p .1)),
-    )
+module _ (s : List ℕ) (a b : ℕ) (l : 4 ≤ length s) (m : length s ≤ 8) (h : a < 2 ^ 32) (front : 4 ≤ length s → little 4 a ≡ take 4 s)
+    (back : let p = take (length s - (length s - 4)) (drop (length s - 4) s) in 4 ≤ length p → little 4 b ≡ take 4 p) where
+  last-four : little 4 b ≡ drop (length s - 4) s
+  last-four =
+      let own : length (drop (length s - 4) s) ≤ 4 = rw length-drop (omega arith) in
+      (rw (part-from (length s - 4) s) at (back (rw length-part (omega arith)))) ∙ take-all 4 (drop (length s - 4) s) own
 
--- the lowest of the highest bits of the word w, read from the part at i
-pub front-at : (s : List ℕ) (i w : ℕ) → i + 8 ≤ length s
-    → (8 ≤ length (take (length s - i) (drop i s)) → little 8 w ≡ take 8 (take (length s - i) (drop i s)))
-    → trailingZeros 64 (bitAnd w (highBits 8)) / 8 ≡ plainFront (take 8 (drop i s))
-front-at s i w h bytes =
-    let own : little 8 w ≡ take 8 (drop i s) = rw (part-from i s) at (bytes (rw length-part (omega arith))) in
-    front-word 8 w ∙ rw own
+  word-short : little 8 (a + 2 ^ 32 * b) ≡ take 4 s ++ drop (length s - 4) s
+  word-short = little-append 4 4 a b h ∙ rw (front l, last-four)
+
+  pub plain-short : {r : Bool} → r ≡ arePlain (a + 2 ^ 32 * b) → (r ≡ true) ↔ Plain s
+  plain-short {r} e =
+      let both = each-append (λ b. b < 0x80) (take 4 s) (drop (length s - 4) s) in
+      let test : (r ≡ true) ↔ Plain (take 4 s ++ drop (length s - 4) s) = rw (e, ← word-short) (plain-word (a + 2 ^ 32 * b)) in (
+        λ t. let q = both .0 (test .0 t) in plain-parts 4 s .1 (q .0, plain-later s (length s - 4) 4 (omega arith) (q .1)),
+        λ p. test .1 (both .1 (plain-parts 4 s .0 p .0, plain-parts (length s - 4) s .0 p .1)),
+      )
