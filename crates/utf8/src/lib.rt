@@ -101,8 +101,8 @@ fn character(s: &[u8]) -> usize
     i
 }
 
-// Passes the plain bytes of the word at `from`, and then characters, until two plain bytes or the end: one alone may be a blank
-// among letters beyond ASCII. The offset where they end; the length of s and 1 if one of them is none.
+// Passes the plain bytes of the word at `from`, and then characters: until a plain byte comes after a plain one, since one alone
+// may be a blank among letters beyond ASCII, or to the end. The offset reached; the length of s and 1 if one is no character.
 fn pass_characters(s: &[u8], from: usize) -> usize
     requires { ⌜ from + 8 ≤ length (now s) ⌝ }
     ensures within { λ r. ⌜ (from < r) × (r ≤ length (now (s .entry)) + 1) ⌝ }
@@ -115,8 +115,8 @@ fn pass_characters(s: &[u8], from: usize) -> usize
             return s.len() + 1;
         }
         i += size;
-        if 2 <= s.len() - i {
-            if (s[i] < 0x80) & (s[i + 1] < 0x80) {
+        if (size == 1) & (i < s.len()) {
+            if s[i] < 0x80 {
                 return i;
             }
         }

@@ -2,8 +2,11 @@
 use mathlib.Core.Path.{_≡_}
 use Prim.Native.Nat.{_-_, _≤_}
 use native.Mathlib.Omega.{arith}
+use lib.Dec.{eqb}
 use lib.ListN.{length, drop}
 use borrow.Author.Needs.{needs}
+use borrow.Author.Tests.{ltb-true}
+use Rattle.prelude.proofs.Tests.{and-r}
 use Rattle.utf8.specs.Text.{isText}
 use Rattle.utf8.proofs.Steps.{part-some, character-within, character-none, character-next, pass-none, pass-all, front-within, front-next}
 use Rattle.utf8.proofs.pass_characters.Statement.{statement}
@@ -39,11 +42,8 @@ pass-characters-spec =
     -- no character
     (λ c. ((omega arith, omega arith), search (pass-none, character-none, arith)))
     (λ c. search (character-within, needs))
-    (λ c. search (character-within, needs))
-    (λ c. search (character-within, needs))
-    (λ c. search (character-within, needs))
-    (λ c. search (character-within, needs))
-    -- two plain bytes
+    (λ c. ltb-true _ _ (and-r (eqb (c .before .before .before .character .result) 1) _ (c .before .if2 .taken)))
+    -- a second plain byte
     (λ c. ((omega arith, search (character-within, arith)), search (pass-all, character-within, character-next, arith)))
     (λ c. search (character-within, needs))
     (λ c. search (character-within, character-next, arith))
