@@ -1,5 +1,5 @@
-//! The functions of libtwine.a (bindings/c/twine.h), as safe ones over slices and arrays. All `unsafe` is here; `differential` and `bench` take
-//! this file too.
+//! The functions of libtwine.a (bindings/c/twine.h), as safe ones over slices and arrays. All `unsafe` of this crate is here; `differential` and `bench`
+//! take this file too.
 //!
 //! What twine.h asks of a caller holds of every call below:
 //!

@@ -9,7 +9,7 @@ use mathlib.Core.Path.{_≡_}
 use mathlib.Core.Bool.{Bool, true, false}
 use mathlib.Core.Logic.{_⊎_, _↔_}
 use mathlib.Core.Option.{some}
-use mathlib.Core.List.{List, [], _++_, map, List·Memᴰ}
+use mathlib.Core.List.{List, [], _∷_, _++_, map, List·Memᴰ}
 use Prim.Native.Nat.{ℕ, suc, _+_, _-_, _*_, _/_, _^_, _≤_, _<_}
 use lib.Dec.{ltb}
 use lib.ListN.{length, take, getD}
@@ -24,7 +24,7 @@ use Rattle.leb128.proofs.Padding as padding
 use Rattle.leb128.specs.declared.Mode.{Mode}
 use Rattle.leb128.specs.declared.Mode.the-variants.{Strict, Tolerant}
 use Rattle.little_endian.specs.LittleEndian.{fromLittle}
-use Rattle.utf8_plain.specs.Plain.{Plain, arePlain}
+use Rattle.utf8_plain.specs.Plain.{Plain, plainFront, arePlain}
 use Rattle.utf8_plain.proofs.Laws as plain
 use Rattle.utf8.specs.Text.{Text, isText}
 use Rattle.utf8.specs.Utf8.{Encodable, Row, utf8Rows, octets, encode, utf8, FitsRow, Utf8, decode}
@@ -223,6 +223,13 @@ isText-exactly = utf8-laws.isText-exactly
 -- "by one test that says yes exactly when all eight are"
 pub plain-exactly : (s : List ℕ) → Bytes s → length s ≡ 8 → (arePlain (fromLittle s) ≡ true) ↔ Plain s
 plain-exactly = plain.plain-exactly
+
+pub plain-alone : (b : ℕ) → (isText (b ∷ []) ≡ true) ↔ Plain (b ∷ [])
+plain-alone = text-laws.plain-alone
+
+pub front-exactly : (s : List ℕ) (n : ℕ)
+    → (n ≡ plainFront s) ↔ ((n ≤ length s) × Plain (take n s) × (n < length s → 0x80 ≤ getD s n 0))
+front-exactly = plain.front-exactly
 
 -- "No answer .. changes"
 pub isText-plain : (p s : List ℕ) → Plain p → isText (p ++ s) ≡ isText s

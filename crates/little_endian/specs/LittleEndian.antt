@@ -1,5 +1,5 @@
 -- Numbers as bytes, the lowest first. Float bits are stored this way (document 01, "Row of a file", the body of kind
--- 3): a float is the number that its bits are, and nothing is computed with it.
+-- 3): a float is the number that its bits are, and nothing is computed with it. Texts are read so too, eight bytes at a time (W-205).
 --
 --   little k n    the k lowest bytes of n, the lowest first
 --   fromLittle s  the number that the bytes s hold, the lowest first

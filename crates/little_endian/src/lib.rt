@@ -1,4 +1,4 @@
-// Numbers as little-endian bytes: the bits of floats (document 01, "Row of a file", the body of kind 3).
+// Numbers as little-endian bytes: the bits of floats (document 01, "Row of a file", the body of kind 3), and words of texts (W-205).
 ghost use mathlib.Core.Path.{_≡_};
 ghost use mathlib.Core.List.{[], _∷_};
 ghost use Prim.Native.Nat.{_^_, _≤_, _<_};
@@ -47,7 +47,7 @@ fn four(a: u8, b: u8, c: u8, d: u8) -> u64
     wide(a) + 0x100 * wide(b) + 0x1_0000 * wide(c) + 0x100_0000 * wide(d)
 }
 
-// The bits of the f32 at the front of s; 0 if s is shorter than four bytes.
+// The number of the four bytes at the front of s, as the bits of an f32; 0 if s is shorter.
 pub fn load4(s: &[u8]) -> u32
     ensures { λ r. ⌜ r ≡ load 4 (now (s .entry)) ⌝ }
     ensures bytes { λ r. ⌜ (4 ≤ length (now (s .entry)) → little 4 r ≡ take 4 (now (s .entry))) ⌝ }
@@ -58,7 +58,7 @@ pub fn load4(s: &[u8]) -> u32
     four(s[0], s[1], s[2], s[3]) as u32
 }
 
-// The bits of the f64 at the front of s; 0 if s is shorter than eight bytes.
+// The number of the eight bytes at the front of s, as the bits of an f64; 0 if s is shorter.
 pub fn load8(s: &[u8]) -> u64
     ensures { λ r. ⌜ r ≡ load 8 (now (s .entry)) ⌝ }
     ensures bytes { λ r. ⌜ (8 ≤ length (now (s .entry)) → little 8 r ≡ take 8 (now (s .entry))) ⌝ }

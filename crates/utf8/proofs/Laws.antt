@@ -2,20 +2,23 @@
 -- (`isText-text`).
 --
 -- In order: a byte in a range; the first ranges of the forms rise, so that a byte begins at most one form; a text passes, character by
--- character; what passes fills the ranges due, and then is a text.
+-- character; plain bytes pass, and no other byte by itself; what passes fills the ranges due, and then is a text.
 use mathlib.Core.Path.{_≡_, refl, sym, ap, _∙_}
+use mathlib.Core.Logic.{_↔_}
 use mathlib.Core.Bool.{true, false, false≢true}
 use mathlib.Core.List.{List, [], _∷_, _++_, List·Memᴰ, List·Memᴰ·head, List·Memᴰ·tail}
 use mathlib.Core.Option.{Option, some, none}
 use Prim.Native.Nat.{ℕ, suc, _≤_, _<_}
 use native.Mathlib.Omega.{arith}
-use lib.Dec.{leb}
+use lib.Dec.{leb, leb·zero}
+use lib.ListN.{length, drop}
 use borrow.Author.Needs.{needs}
 use borrow.Author.Tests.{leb-true, le-leb, lt-leb}
 use Rattle.prelude.specs.Pick.{pick}
-use Rattle.prelude.proofs.Tests.{pick-elim, and-l, and-r}
+use Rattle.prelude.specs.Each.{Each}
+use Rattle.prelude.proofs.Tests.{pick-elim, split, and-l, and-r}
 use Rattle.utf8_plain.specs.Plain.{Plain}
-use Rattle.utf8.specs.Text.{Range, forms, Matches, end, byte, Text, empty, character, within, lead, next, textFrom, isText}
+use Rattle.utf8.specs.Text.{Range, range, forms, Matches, end, byte, Text, empty, character, within, lead, next, complete, textFrom, isText}
 
 -- ---- the table
 
@@ -67,6 +70,25 @@ isText-character s k (byte lo hi m) = text-cons _ _ _ (lead-form 0 _ _ _ forms r
 pub isText-plain : (p s : List ℕ) → Plain p → isText (p ++ s) ≡ isText s
 isText-plain [] s h = refl
 isText-plain (b ∷ p) s h = isText-character (p ++ s) (List·Memᴰ·head refl) (byte (omega arith) (omega (arith, h .0)) end) ∙ isText-plain p s (h .1)
+
+-- no form but the first has one byte
+lead-long : (b : ℕ) (fs : List (List Range)) → Each (λ f. 2 ≤ length f) fs → complete (lead fs b) ≡ false
+unfolding lead
+lead-long b [] h = refl
+lead-long b ([] ∷ fs) h = lead-long b fs (h .1)
+lead-long b ((r ∷ []) ∷ fs) h = absurd (omega (arith, h .0))
+lead-long b ((r ∷ (q ∷ f)) ∷ fs) h = pick-elim (λ o. complete o ≡ false) (within r b) (λ e. refl) (λ e. lead-long b fs (h .1))
+
+pub plain-alone : (b : ℕ) → (isText (b ∷ []) ≡ true) ↔ Plain (b ∷ [])
+unfolding textFrom next lead
+plain-alone b = (
+  λ e.
+      split b 0x80 (λ less. (less, tt))
+      (λ more.
+      let first : within (range 0 0x7F) b ≡ false = rw (leb·zero, lt-leb b 0x7F) in
+      absurd (false≢true (sym (lead-long b (drop 1 forms) (search needs)) ∙ (rw first at e)))),
+  λ p. isText-plain (b ∷ []) [] p,
+)
 
 pub text-isText : {s : List ℕ} → Text s → isText s ≡ true
 unfolding textFrom

@@ -2,7 +2,7 @@
 --
 --   ranges k lo hi    k ranges: the first from lo to hi, the others of continuation bytes
 --   dueOf d           the ranges due by `Due`: a refusal if `left` is not below 4
---   allowed s i d     whether s has a byte at i, in the first of these ranges
+--   allowed s i d     whether s has a byte at i, from d's low to its high
 use Prim.Native.Nat.{ℕ, zero, suc}
 use mathlib.Core.Bool.{Bool, _&&_}
 use mathlib.Core.List.{List, [], _∷_}

@@ -8,8 +8,8 @@ ghost use Rattle.prelude.specs.Pick.{pick};
 ghost use Rattle.utf8.specs.Text.{forms, lead, isText};
 ghost use Rattle.utf8.specs.Internal.{dueOf, allowed};
 
-// The bytes due of a character: how many, 4 if no character begins with the first byte, and the range of the next of
-// them; those after it are from 80 to BF.
+// The bytes due of a character: how many, 4 or more if no character begins with the first byte, and, if some are due, the range of
+// the next of them; those after it are from 80 to BF.
 struct Due {
     left: u8,
     low: u8,
@@ -58,7 +58,7 @@ fn lead(b: u8) -> Due
     Due::new(4, 0x80, 0xBF)
 }
 
-// Whether s has a byte at i, in the range of the next byte due.
+// Whether s has a byte at i, from due's low to its high.
 fn is_allowed(s: &[u8], i: usize, due: Due) -> bool
     ensures { λ r. ⌜ r ≡ allowed (now (s .entry)) i due ⌝ }
 {
@@ -69,8 +69,8 @@ fn is_allowed(s: &[u8], i: usize, due: Due) -> bool
     (due.low <= b) & (b <= due.high)
 }
 
-// How many bytes of s may be passed, 0 if none may: s is text exactly if some may, and the bytes after them are text. They are
-// its first character.
+// How many bytes of s may be passed, 0 if none: s is text exactly if some may, and the bytes after them are text. The code takes
+// the first character; the contract says no more than it needs.
 fn character(s: &[u8]) -> usize
     requires { ⌜ 0 < length (now s) ⌝ }
     ensures within { λ r. ⌜ r ≤ length (now (s .entry)) ⌝ }
@@ -101,8 +101,8 @@ fn character(s: &[u8]) -> usize
     i
 }
 
-// Passes the plain bytes of the word at `from`, and then characters: until a plain byte comes after a plain one, since one alone
-// may be a blank among letters beyond ASCII, or to the end. The offset reached; the length of s and 1 if one is no character.
+// Passes plain bytes at the front of the word at `from`, and then characters. The offset reached; the length of s plus 1 if the
+// bytes there are no character. Where it stops is for speed, and not in the contract.
 fn pass_characters(s: &[u8], from: usize) -> usize
     requires { ⌜ from + 8 ≤ length (now s) ⌝ }
     ensures within { λ r. ⌜ (from < r) × (r ≤ length (now (s .entry)) + 1) ⌝ }
@@ -115,6 +115,7 @@ fn pass_characters(s: &[u8], from: usize) -> usize
             return s.len() + 1;
         }
         i += size;
+        // words again, if two plain bytes come: one alone may be a blank among letters beyond ASCII
         if (size == 1) & (i < s.len()) {
             if s[i] < 0x80 {
                 return i;
@@ -140,8 +141,9 @@ fn is_text_from(s: &[u8], from: usize) -> bool
     true
 }
 
-// Whether s, of eight bytes or more, is text. Plain bytes are passed by words. If a word has another byte, characters are
-// passed from there on, and then words again. If fewer than eight bytes remain, the last word of s has them all.
+// Whether s, of eight bytes or more, is text. Plain bytes are passed by words; where a word has a byte that is not plain,
+// characters are passed, and then words again. If fewer than eight bytes remain, they are among the last eight, the last word: if
+// that is plain, so are they; if not, they are tested character by character.
 fn is_long_text(s: &[u8]) -> bool
     requires { ⌜ 8 ≤ length (now s) ⌝ }
     ensures { λ r. ⌜ r ≡ isText (now (s .entry)) ⌝ }

@@ -4,17 +4,17 @@
 -- bytes; what the code reads, and joins to one word.
 use mathlib.Core.Path.{_≡_, refl, sym, ap, _∙_}
 use mathlib.Core.Logic.{_↔_}
-use mathlib.Core.Bool.{Bool, true}
+use mathlib.Core.Bool.{Bool, true, false, _&&_, false≢true}
 use mathlib.Core.List.{List, [], _∷_, _++_}
 use Prim.Native.Nat.{ℕ, zero, suc, _+_, _*_, _-_, _/_, _%_, _^_, _≤_, _<_}
-use native.Mathlib.Nat.{zero-add, suc-add, pow-suc}
+use native.Mathlib.Nat.{not-suc-le-zero, zero-add, suc-add, pow-suc}
 use native.Mathlib.Omega.{arith}
 use lib.Bits.{bitAnd, and-block, and-high, and-zero-r}
 use lib.Count.{trailingZeros, trailing-le}
 use lib.Dec.{eqb, ltb}
-use lib.ListN.{length, take, drop, length-drop, take-append-drop}
-use lib.Seq.{drop-drop, take-add, take-all}
-use borrow.Author.Tests.{eqb-true, eq-eqb, ltb-true, lt-ltb, le-ltb}
+use lib.ListN.{length, getD, take, drop, length-drop, take-append-drop}
+use lib.Seq.{drop-drop, take-nil, take-add, take-all, take-take}
+use borrow.Author.Tests.{eqb-true, eq-eqb, ltb-true, ltb-false, lt-ltb, le-ltb}
 use Rattle.prelude.specs.Bytes.{Bytes}
 use Rattle.prelude.proofs.Tests.{pick-elim, split}
 use Rattle.prelude.proofs.Lists.{each-append}
@@ -110,6 +110,35 @@ unfolding plainFront
 front-le [] = omega arith
 front-le (b ∷ s) = pick-elim (λ n. n ≤ suc (length s)) (ltb b 0x80) (λ e. omega (arith, front-le s)) (λ e. omega arith)
 
+front-stop : (s : List ℕ) → plainFront s < length s → 0x80 ≤ getD s (plainFront s) 0
+unfolding plainFront
+front-stop [] h = absurd (not-suc-le-zero h)
+front-stop (b ∷ s) h =
+    pick-elim (λ n. n < suc (length s) → 0x80 ≤ getD (b ∷ s) n 0) (ltb b 0x80) (λ e l. front-stop s (omega arith)) (λ e l. ltb-false b 0x80 e) h
+
+-- no fewer: n bytes in front are plain
+front-ge : (n : ℕ) (s : List ℕ) → n ≤ length s → Plain (take n s) → n ≤ plainFront s
+unfolding plainFront
+front-ge zero s h p = omega arith
+front-ge (suc n) [] h p = absurd (not-suc-le-zero h)
+front-ge (suc n) (b ∷ s) h p = rw (lt-ltb b 0x80 (p .0)) (omega (arith, front-ge n s (omega arith) (p .1)))
+
+-- no more: the byte after n is not plain
+front-until : (n : ℕ) (s : List ℕ) → n < length s → 0x80 ≤ getD s n 0 → plainFront s ≤ n
+unfolding plainFront
+front-until n [] h l = absurd (not-suc-le-zero h)
+front-until zero (b ∷ s) h l = rw (le-ltb b 0x80 l) (omega arith)
+front-until (suc n) (b ∷ s) h l = pick-elim (λ k. k ≤ suc n) (ltb b 0x80) (λ e. omega (arith, front-until n s (omega arith) l)) (λ e. omega arith)
+
+pub front-exactly : (s : List ℕ) (n : ℕ)
+    → (n ≡ plainFront s) ↔ ((n ≤ length s) × Plain (take n s) × (n < length s → 0x80 ≤ getD s n 0))
+front-exactly s n = (
+  λ e. rw e (front-le s, front-plain s, front-stop s),
+  λ h.
+      split n (length s) (λ less. omega (arith, front-ge n s (h .0) (h .1), front-until n s less (h .2 less)))
+      (λ all. omega (arith, front-ge n s (h .0) (h .1), front-le s)),
+)
+
 -- ---- as the code has it
 
 -- the word w, read from the part at i
@@ -132,6 +161,33 @@ pub plain-both : (s : List ℕ) (i : ℕ) → Plain (take i s) → Plain (take 8
 plain-both s i p q r =
     let sum : i + 8 + 8 ≡ i + 16 = omega arith in
     rw sum at (plain-append (i + 8) 8 s (plain-append i 8 s p q) r)
+
+plain-inside : (n j k : ℕ) (s : List ℕ) → j + k ≤ n → Plain (take n s) → Plain (take k (drop j s))
+plain-inside n zero k s h p =
+    let less : k ≤ n = omega arith in
+    rw (take-take k n s less) at (plain-parts k (take n s) .0 p .0)
+plain-inside zero (suc j) k s h p = absurd (omega arith)
+plain-inside (suc n) (suc j) k [] h p = rw take-nil tt
+plain-inside (suc n) (suc j) k (b ∷ s) h p = plain-inside n j k s (omega arith) (p .1)
+
+pub skip-plain : (s : List ℕ) {r : ℕ} → r ≡ plainFront s / 16 * 16 → (r ≤ length s) × Plain (take r s)
+skip-plain s {r} e =
+    let less : 0 + r ≤ plainFront s = omega arith in
+    (omega (arith, front-le s), plain-inside (plainFront s) 0 r s less (front-plain s))
+
+-- the run ends at i: a word is not plain, or two are not left
+module _ (s : List ℕ) (i : ℕ) (whole : i % 16 ≡ 0) (h : i ≤ length s) (p : Plain (take i s)) where
+  pub skip-end : length s < i + 16 → i ≡ plainFront s / 16 * 16
+  skip-end l = omega (arith, front-ge i s h p, front-le s)
+
+  pub skip-stop : {x y : Bool} → ((x ≡ true) ↔ Plain (take 8 (drop i s))) → ((y ≡ true) ↔ Plain (take 8 (drop (i + 8) s))) → x && y ≡ false
+      → i ≡ plainFront s / 16 * 16
+  skip-stop {x} {y} first second other =
+      split (plainFront s) (i + 16) (λ less. omega (arith, front-ge i s h p))
+      (λ more.
+      let q = plain-inside (plainFront s) in
+      let both : x && y ≡ true = rw (first .1 (q i 8 s (omega arith) (front-plain s)), second .1 (q (i + 8) 8 s (omega arith) (front-plain s))) in
+      absurd (false≢true (sym other ∙ both)))
 
 -- the first four bytes and the last four, in one word
 module _ (s : List ℕ) (a b : ℕ) (l : 4 ≤ length s) (m : length s ≤ 8) (h : a < 2 ^ 32) (front : 4 ≤ length s → little 4 a ≡ take 4 s)

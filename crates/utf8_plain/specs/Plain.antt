@@ -1,10 +1,10 @@
--- Plain bytes, those of ASCII (document 02, W-205).
+-- Plain bytes, those of ASCII (document 02, W-205). A word is eight bytes as one number below 2^64, the first byte the lowest.
 --
 --   Plain s       each byte of s is plain: below 80
---   plainFront s  how many bytes of s are before the first that is not plain
---   highBits k    the highest bit of each of k bytes
---   arePlain w    the one test of W-205: whether no byte of the word w, of eight bytes, has its highest bit. It is so exactly
---                 if all eight are plain (`plain-exactly`)
+--   plainFront s  how many bytes of s are before the first that is not plain; all of them if there is none
+--   highBits k    the number whose k bytes are all 80: the highest bit of each
+--   arePlain w    the one test of W-205: whether no byte of the word w has its highest bit set. It says yes exactly if all
+--                 eight are plain (`plain-exactly`)
 use Prim.Native.Nat.{ℕ, zero, suc, _+_, _*_, _<_}
 use mathlib.Core.Bool.{Bool}
 use mathlib.Core.List.{List, [], _∷_}

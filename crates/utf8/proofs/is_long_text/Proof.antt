@@ -4,6 +4,7 @@ use Prim.Native.Nat.{_-_, _≤_}
 use native.Mathlib.Omega.{arith}
 use lib.ListN.{length, drop}
 use borrow.Author.Needs.{needs}
+use Rattle.utf8_plain.proofs.Laws.{skip-plain}
 use Rattle.utf8.specs.Text.{isText}
 use Rattle.utf8.proofs.Steps.{pass-bad, pass-next, plain-front, plain-next, plain-last}
 use Rattle.utf8.proofs.is_long_text.Statement.{statement}
@@ -23,7 +24,7 @@ is-long-text-spec =
     μ-loop
     (λ c κs. search needs)
     -- the plain bytes in front
-    (λ c. let front = c .skip-plain .ensures in (front .0, plain-front _ (c .skip-plain .result) (front .1)))
+    (λ c. let front = skip-plain _ (c .skip-plain .ensures) in (front .0, plain-front _ (c .skip-plain .result) (front .1)))
     (λ c. search needs)
     (λ c κs. search needs)
     (λ c. search needs)
@@ -31,7 +32,7 @@ is-long-text-spec =
     -- a plain word
     (λ c.
     let l = c .before .before .before in
-    (omega arith, plain-next (l .before .before .before .args .s .now) (l .loop .i) (l .loop .inv .1) 8 (c .before .is-plain-at .ensures .0 (c .if1 .taken))))
+    (omega arith, plain-next (l .before .before .before .args .s .now) (l .loop .i) (l .loop .inv .1) 8 (c .before .is-plain-at .ensures .1 .0 (c .if1 .taken))))
     (λ c κs. search needs)
     -- one is no character
     (λ c. search (pass-bad, arith))
@@ -44,7 +45,7 @@ is-long-text-spec =
     (λ c.
     let l = c .before .before .before in
     plain-last (l .before .before .before .args .s .now) (l .loop .i) (l .loop .inv .1) (omega arith) (omega arith)
-    (c .before .is-plain-at2 .ensures .0 (c .if3 .taken)))
+    (c .before .is-plain-at2 .ensures .1 .0 (c .if3 .taken)))
     (λ c κs. search needs)
     -- the last characters
     (λ c. c .is-text-from .ensures ∙ c .before .before .before .before .loop .inv .1))

@@ -11,6 +11,6 @@ is-text-spec =
     (λ c κs. search needs)
     (λ c. c .is-long-text .ensures)
     (λ c κs. search needs)
-    (λ c. plain-all _ (c .before .is-short-plain .ensures .0 (c .if3 .taken)))
+    (λ c. plain-all _ (c .before .is-short-plain .ensures .1 .0 (c .if3 .taken)))
     (λ c κs. search needs)
     (λ c. c .is-text-from .ensures))
