@@ -7,7 +7,7 @@ use mathlib.Core.Logic.{_↔_}
 use mathlib.Core.Bool.{Bool, true, false, _&&_, false≢true}
 use mathlib.Core.List.{List, [], _∷_, _++_}
 use Prim.Native.Nat.{ℕ, zero, suc, _+_, _*_, _-_, _/_, _%_, _^_, _≤_, _<_}
-use native.Mathlib.Nat.{not-suc-le-zero, zero-add, suc-add, pow-suc}
+use native.Mathlib.Nat.{not-suc-le-zero, zero-add, suc-add, pow-suc, div-le-self}
 use native.Mathlib.Omega.{arith}
 use lib.Bits.{bitAnd, and-block, and-high, and-zero-r}
 use lib.Count.{trailingZeros, trailing-le}
@@ -153,8 +153,8 @@ module _ (s : List ℕ) (i w : ℕ) (h : i + 8 ≤ length s)
   pub front-at : trailingZeros 64 (bitAnd w (highBits 8)) / 8 ≡ plainFront (take 8 (drop i s))
   front-at = front-word 8 w ∙ rw word-at
 
-pub zeros-lt : (x : ℕ) → trailingZeros 64 x / 8 < 2 ^ 64
-zeros-lt x = omega (arith, trailing-le 64 x)
+pub zeros-lt : (x d : ℕ) → trailingZeros 64 x / d < 2 ^ 64
+zeros-lt x d = omega (arith, trailing-le 64 x, div-le-self (trailingZeros 64 x) d)
 
 -- the words at i and eight bytes on
 pub plain-both : (s : List ℕ) (i : ℕ) → Plain (take i s) → Plain (take 8 (drop i s)) → Plain (take 8 (drop (i + 8) s)) → Plain (take (i + 16) s)

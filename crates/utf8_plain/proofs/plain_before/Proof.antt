@@ -12,5 +12,5 @@ plain-before-spec =
     (λ c. search needs)
     (λ c. search needs)
     (λ c κs. search needs)
-    (λ c. record { fits = zeros-lt _ })
+    (λ c. record { fits = zeros-lt _ _ })
     (λ c. front-at _ _ _ (c .before .before .before .pre) (c .load8 .ensures .1)))
