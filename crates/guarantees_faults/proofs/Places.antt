@@ -17,7 +17,6 @@ use Rattle.leb128.specs.declared.Mode.{Mode}
 use Rattle.leb128.specs.declared.Mode.the-variants.{Strict, Tolerant}
 use Rattle.utf8.specs.Text.{Text}
 use Rattle.prelude.proofs.Tables.{every}
-use Rattle.prelude.proofs.Lists.{each-append}
 use Rattle.values.proofs.Members.{among-more, each-every, each-among}
 use Rattle.guarantees_faults.specs.Faults as faults
 use Rattle.guarantees_faults.specs.Faults.{overlongIn, longErrors, BadNumber, Exceeds, Whole, RefusedHead, HasPlace, RefusedToken}

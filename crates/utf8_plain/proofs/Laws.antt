@@ -11,7 +11,7 @@ use native.Mathlib.Nat.{not-suc-le-zero, zero-add, suc-add, pow-suc, div-le-self
 use native.Mathlib.Omega.{arith}
 use lib.Bits.{bitAnd, and-block, and-high, and-zero-r}
 use lib.Count.{trailingZeros, trailing-le}
-use lib.Dec.{eqb, ltb}
+use lib.Dec.{ltb}
 use lib.ListN.{length, getD, take, drop, length-drop, take-append-drop}
 use lib.Seq.{drop-drop, take-nil, take-add, take-all, take-take}
 use borrow.Author.Tests.{eqb-true, eq-eqb, ltb-true, ltb-false, lt-ltb, le-ltb}

@@ -1,6 +1,6 @@
 -- `utf8::character` meets its contract. The invariant: the bytes from i on, if they fill what is due and then are a text, give the answer.
 use mathlib.Core.Path.{_≡_}
-use Prim.Native.Nat.{_<_, _≤_, _-_}
+use Prim.Native.Nat.{_<_, _≤_}
 use native.Mathlib.Omega.{arith}
 use lib.ListN.{length, drop}
 use borrow.Author.Needs.{needs}
