@@ -10,13 +10,13 @@ use mathlib.Core.List.{List, [], _∷_, _++_, List·Memᴰ, List·Memᴰ·head, 
 use mathlib.Core.Option.{Option, some, none}
 use Prim.Native.Nat.{ℕ, suc, _≤_, _<_}
 use native.Mathlib.Omega.{arith}
-use lib.Dec.{leb, leb·zero}
+use lib.Dec.{leb}
 use lib.ListN.{length, drop}
 use borrow.Author.Needs.{needs}
 use borrow.Author.Tests.{leb-true, le-leb, lt-leb}
 use Rattle.prelude.specs.Pick.{pick}
 use Rattle.prelude.specs.Each.{Each}
-use Rattle.prelude.proofs.Tests.{pick-elim, split, and-l, and-r}
+use Rattle.prelude.proofs.Tests.{pick-elim, and-l, and-r}
 use Rattle.utf8_plain.specs.Plain.{Plain}
 use Rattle.utf8.specs.Text.{Range, range, forms, Matches, end, byte, Text, empty, character, within, lead, next, complete, textFrom, isText}
 
@@ -82,11 +82,8 @@ lead-long b ((r ∷ (q ∷ f)) ∷ fs) h = pick-elim (λ o. complete o ≡ false
 pub plain-alone : (b : ℕ) → (isText (b ∷ []) ≡ true) ↔ Plain (b ∷ [])
 unfolding textFrom next lead
 plain-alone b = (
-  λ e.
-      split b 0x80 (λ less. (less, tt))
-      (λ more.
-      let first : within (range 0 0x7F) b ≡ false = rw (leb·zero, lt-leb b 0x7F) in
-      absurd (false≢true (sym (lead-long b (drop 1 forms) (search needs)) ∙ (rw first at e)))),
+  pick-elim (λ o. complete o ≡ true → Plain (b ∷ [])) (within (range 0 0x7F) b) (λ w e. (omega (arith, leb-true b 0x7F (and-r (leb 0 b) _ w)), tt))
+      (λ w e. absurd (false≢true (sym (lead-long b (drop 1 forms) (search needs)) ∙ e))),
   λ p. isText-plain (b ∷ []) [] p,
 )
 

@@ -76,15 +76,17 @@ front-word zero w = refl
 front-word (suc k) w =
     let q : ℕ = bitAnd (w / 256) (highBits k) in
     let bits : 8 * suc k ≡ 7 + suc (8 * k) = omega arith in
-    split (w % 256) 128
-    (λ plain.
+    pick-elim (λ n. trailingZeros (8 * suc k) (bitAnd w (highBits (suc k))) / 8 ≡ n) (ltb (w % 256) 0x80)
+    (λ e.
+    let plain = ltb-true (w % 256) 0x80 e in
     let word : bitAnd w (highBits (suc k)) ≡ 2 ^ 7 * (2 * q) = and-byte k w ∙ omega arith in
     let zeros = trailing-above 7 (suc (8 * k)) (2 * q) in
-    rw (lt-ltb (w % 256) 128, ← front-word k (w / 256), bits, word) (omega (arith, zeros, trailing-even (8 * k) q)))
-    (λ other.
+    rw (← front-word k (w / 256), bits, word) (omega (arith, zeros, trailing-even (8 * k) q)))
+    (λ e.
+    let other = ltb-false (w % 256) 0x80 e in
     let word : bitAnd w (highBits (suc k)) ≡ 2 ^ 7 * (2 * q + 1) = and-byte k w ∙ omega arith in
     let zeros = trailing-above 7 (suc (8 * k)) (2 * q + 1) in
-    rw (le-ltb (w % 256) 128, bits, word) (omega (arith, zeros, trailing-odd (8 * k) q)))
+    rw (bits, word) (omega (arith, zeros, trailing-odd (8 * k) q)))
 
 -- ---- parts
 
