@@ -77,7 +77,7 @@ fn character(s: &[u8]) -> usize
     ensures { λ r. ⌜ pick (eqb r 0) false (isText (drop r (now (s .entry)))) ≡ isText (now (s .entry)) ⌝ }
 {
     let mut due = lead(s[0]);
-    // most letters beyond ASCII have two bytes: without the loop they take half of the time
+    // most letters beyond ASCII have two bytes, and are passed faster without the loop
     if due.left == 1 {
         if is_allowed(s, 1, due) {
             return 2;
