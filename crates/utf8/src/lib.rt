@@ -102,7 +102,7 @@ fn character(s: &[u8]) -> usize
 }
 
 // Passes plain bytes at the front of the word at `from`, and then characters. The offset reached; the length of s plus 1 if the
-// bytes there are no character. Where it stops is for speed, and not in the contract.
+// bytes there are not a character. Where it stops is for speed, and not in the contract.
 fn pass_characters(s: &[u8], from: usize) -> usize
     requires { ⌜ from + 8 ≤ length (now s) ⌝ }
     ensures within { λ r. ⌜ (from < r) × (r ≤ length (now (s .entry)) + 1) ⌝ }
@@ -141,7 +141,7 @@ fn is_text_from(s: &[u8], from: usize) -> bool
     true
 }
 
-// Whether s, of eight bytes or more, is text. Plain bytes are passed by words; where a word has a byte that is not plain,
+// Whether s, of eight bytes or more, is text. Plain bytes are passed by words; if a word has a byte that is not plain,
 // characters are passed, and then words again. If fewer than eight bytes remain, they are among the last eight, the last word: if
 // that is plain, so are they; if not, they are tested character by character.
 fn is_long_text(s: &[u8]) -> bool
