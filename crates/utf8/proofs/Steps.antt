@@ -108,7 +108,7 @@ module _ (s : List ℕ) (i : ℕ) (d : Due) {a : Bool} (inv : textFrom (dueOf d)
   unfolding dueOf
   text-end p h = let none-left : d .left ≡ 0 = omega arith in rw (ne-eqb i 0 (λ z. omega arith)) (rw none-left at inv)
 
-  -- t tells whether s has a byte at i that is allowed
+  -- t is whether s has a byte at i that is allowed
   module _ (p : 0 < d .left) (l : d .left < 4) {t : Bool} (e : t ≡ allowed s i d) where
     incomplete : length s ≤ i → false ≡ a
     unfolding textFrom
@@ -164,7 +164,7 @@ module _ (s : List ℕ) (i n : ℕ) where
 pub pass-all : (s : List ℕ) (i : ℕ) {a : Bool} → isText (drop i s) ≡ a → i ≤ length s → pick (leb i (length s)) (isText (drop i s)) false ≡ a
 pass-all s i e h = rw (le-leb i (length s)) e
 
--- one was no character
+-- one was not a character
 pub pass-none : (s : List ℕ) {a : Bool} → false ≡ a → pick (leb (length s + 1) (length s)) (isText (drop (length s + 1) s)) false ≡ a
 pass-none s e = let past : length s < length s + 1 = omega arith in rw (lt-leb (length s + 1) (length s) past) e
 

@@ -7,11 +7,14 @@ ghost use lib.ListN.{length, take, drop};
 ghost use Rattle.little_endian.specs.LittleEndian.{load};
 ghost use Rattle.utf8_plain.specs.Plain.{Plain, plainFront, arePlain};
 
+// The highest bit of each byte of a word.
+const HIGH_BITS: u64 = 0x8080_8080_8080_8080;
+
 // The one test: whether the eight bytes of a word are all plain.
 fn is_plain(word: u64) -> bool
     ensures { λ r. ⌜ r ≡ arePlain word ⌝ }
 {
-    word & 0x8080_8080_8080_8080 == 0
+    word & HIGH_BITS == 0
 }
 
 // Whether the eight bytes of s from i on are all plain: by the test, of the word there.
@@ -29,7 +32,7 @@ pub fn plain_before(s: &[u8], i: usize) -> usize
     requires { ⌜ i + 8 ≤ length (now s) ⌝ }
     ensures { λ r. ⌜ r ≡ plainFront (take 8 (drop i (now (s .entry)))) ⌝ }
 {
-    let high_bits = little_endian::load8(&s[i..]) & 0x8080_8080_8080_8080;
+    let high_bits = little_endian::load8(&s[i..]) & HIGH_BITS;
     (u64::trailing_zeros(high_bits) / 8) as usize
 }
 

@@ -34,7 +34,7 @@ is-long-text-spec =
     let l = c .before .before .before in
     (omega arith, plain-next (l .before .before .before .args .s .now) (l .loop .i) (l .loop .inv .1) 8 (c .before .is-plain-at .ensures .1 .0 (c .if1 .taken))))
     (λ c κs. search needs)
-    -- one is no character
+    -- one is not a character
     (λ c. search (pass-bad, arith))
     (λ c. search needs)
     -- the characters of the word, and after it

@@ -39,7 +39,7 @@ pass-characters-spec =
     (λ c. search needs)
     (λ c κs. search (part-some, arith))
     (λ c. record { fits = omega arith })
-    -- no character
+    -- not a character
     (λ c. ((omega arith, omega arith), search (pass-none, character-none, arith)))
     (λ c. search (character-within, needs))
     (λ c. ltb-true _ _ (and-r (eqb (c .before .before .before .character .result) 1) _ (c .before .if2 .taken)))
