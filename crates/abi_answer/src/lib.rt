@@ -1,4 +1,6 @@
 // The mode, as C gives it, and the answers of check and of the queries, as C gets them.
+#![tactic(auto)]
+
 ghost use Rattle.std.specs.Prelude.{◌≡◌, ◌≤◌, length};
 ghost use Rattle.reader_region.specs.Answers.{offset_answer};
 ghost use Rattle.reader_region.specs.Internal.{Peeked};
@@ -81,7 +83,7 @@ pub fn answer_body(answer: BodyResult, out: &mut [u64; 2]) -> u32
 // ---- one value
 
 // What `read` returns for a value, besides its kind: its number, and how many bytes or items follow.
-#[derive(Drop)]
+#[derive(Clone, Copy)]
 struct Row {
     number: u64,
     count: u64,

@@ -1,4 +1,6 @@
 // What a call answers in C: an error's number, 0 for none, and words in an array of the caller. Crate twine exports the calls.
+#![tactic(auto)]
+
 ghost use Rattle.std.specs.Prelude.{◌≡◌};
 ghost use Rattle.error.specs.Error as errors;
 ghost use Rattle.abi_error.specs.Reply.{name_c, reply, error_c};

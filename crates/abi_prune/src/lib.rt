@@ -1,4 +1,6 @@
 // The answer of prune, as C gets it.
+#![tactic(auto)]
+
 ghost use Rattle.std.specs.Prelude.{◌≡◌};
 ghost use Rattle.abi_error.specs.Reply.{reply};
 ghost use Rattle.prune.specs.Answers.{prune_answer};

@@ -1,4 +1,6 @@
 // The writer's state as C has it, five words in the caller's memory, and what a call answers.
+#![tactic(auto)]
+
 ghost use Rattle.std.specs.Prelude.{◌≡◌};
 ghost use Rattle.prelude.specs.Pick.{pick};
 ghost use Rattle.abi_error.specs.Reply.{reply};

@@ -1,4 +1,6 @@
 // Check (document 01, "Check and depths").
+#![tactic(auto)]
+
 ghost use Rattle.std.specs.Prelude.{◌≡◌, ◌≤◌, ◌<◌, ◌^◌, length};
 ghost use Rattle.prelude.specs.Answer.{ok, bind};
 ghost use Rattle.prelude.specs.Search.{Rising};
@@ -11,7 +13,7 @@ use error::{Error, ErrorKind};
 use leb128::Mode;
 
 // The answer of `check`.
-#[derive(Drop)]
+#[derive(Clone, Copy)]
 pub enum CheckResult {
     // How many values the file has, and the offset of its entry.
     Ok { count: usize, entry: usize },

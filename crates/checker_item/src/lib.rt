@@ -1,4 +1,6 @@
 // An item, read at an offset of a region.
+#![tactic(auto)]
+
 ghost use Rattle.std.specs.Prelude.{◌≡◌, true};
 ghost use Rattle.scan.specs.Answers.{answer_of, scan_at};
 

@@ -1,4 +1,6 @@
 // The starts of a region's values, listed in a table (document 01, "Check and depths").
+#![tactic(auto)]
+
 ghost use Rattle.std.specs.Prelude.{◌≡◌, [], ◌*◌, ◌≤◌, ◌<◌, length, get_or};
 ghost use Rattle.error.specs.Error.{LIMIT};
 ghost use Rattle.table.specs.Blocks.{BLOCK};
@@ -10,7 +12,7 @@ use error::{Error, ErrorKind};
 use leb128::Mode;
 
 // How many values a region has.
-#[derive(Drop)]
+#[derive(Clone, Copy)]
 pub enum ListResult {
     Ok(usize),
     Err(Error),

@@ -1,4 +1,6 @@
 // One value, checked (document 01, "Check and depths"): its token, its text and its target, and its items.
+#![tactic(auto)]
+
 ghost use Rattle.std.specs.Prelude.{◌≡◌, not, ◌&&◌, ◌≤◌, ◌<◌, ◌^◌, eqb, leb, length};
 ghost use Rattle.prelude.specs.Search.{Rising};
 ghost use Rattle.error.specs.Error.{LIMIT};
@@ -13,7 +15,7 @@ use leb128::Mode;
 use scan::{Head, ScanResult};
 
 // The offset just after a value.
-#[derive(Drop)]
+#[derive(Clone, Copy)]
 pub enum ValueResult {
     Ok(usize),
     Err(Error),

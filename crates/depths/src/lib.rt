@@ -1,4 +1,6 @@
 // Depths (document 01, "Check and depths").
+#![tactic(auto)]
+
 ghost use Rattle.std.specs.Prelude.{◌≡◌, ◌*◌, ◌≤◌, length, take};
 ghost use Rattle.error.specs.Error.{LIMIT};
 ghost use Rattle.table.specs.Blocks.{BLOCK, Below};

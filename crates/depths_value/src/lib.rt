@@ -1,4 +1,6 @@
 // The depth of one value (document 01, "Check and depths"), from the depths of the values before it.
+#![tactic(auto)]
+
 ghost use Rattle.std.specs.Prelude.{◌≡◌, suc, ◌≤◌, ◌<◌, ◌^◌, max, length, take, get_or};
 ghost use Rattle.prelude.specs.Search.{Rising};
 ghost use Rattle.error.specs.Error.{LIMIT};

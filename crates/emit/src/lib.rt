@@ -1,5 +1,7 @@
 // One token written: how many bytes it takes, and its bytes, put into a borrowed tail. The token is not checked: one that
 // its kind does not allow is written as it is, and may not read back. `args` matters only for a kind with a second number.
+#![tactic(auto)]
+
 ghost use Rattle.std.specs.Prelude.{◌≡◌, [], ◌+◌, ◌-◌, ◌≤◌, ◌<◌, min, leb, length};
 ghost use Rattle.prelude.specs.Bytes.{stored, Put, PutAt};
 ghost use Rattle.kind.specs.Kind.{rule};

@@ -1,4 +1,6 @@
 // The errors of document 01 ("Numbers of refusal") and of document 02 (W-201): their numbers and their names.
+#![tactic(auto)]
+
 ghost use Rattle.std.specs.Prelude.{◌≡◌, get_or, []};
 ghost use Rattle.error.specs.Error.{number_of, name_of, names, padded};
 
@@ -6,7 +8,7 @@ ghost use Rattle.error.specs.Error.{number_of, name_of, names, padded};
 pub const LIMIT: usize = 16777216;
 
 // What went wrong. The variants are in the order of their numbers, from 1.
-#[derive(Drop)]
+#[derive(Clone, Copy)]
 pub enum ErrorKind {
     // The file has no bytes.
     Empty,
@@ -52,14 +54,14 @@ pub enum ErrorKind {
 
 // What went wrong, and where: the offset that the papers call its place. The writer's errors have no place, and are
 // given by their kind alone.
-#[derive(Drop)]
+#[derive(Clone, Copy)]
 pub struct Error {
     pub kind: ErrorKind,
     pub place: usize,
 }
 
 // A name in the papers' spelling: the first `len` bytes of `text`, followed by zeros, at least one, as C wants it.
-#[derive(Drop)]
+#[derive(Clone, Copy)]
 pub struct ErrorName {
     pub text: [u8; 11],
     pub len: usize,

@@ -1,10 +1,12 @@
 // The kind table (document 01, "Row of a file"): one constant table of sixteen entries, by the high nibble of a header.
+#![tactic(auto)]
+
 ghost use Rattle.std.specs.Prelude.{◌≡◌};
 ghost use Rattle.kind.specs.Kind.{rule, immediate};
 ghost use Rattle.kind.specs.Internal.{unpack, bound};
 
 // What a kind may hold.
-#[derive(Drop)]
+#[derive(Clone, Copy)]
 pub struct Rule {
     // How many low nibbles are in use, from 0: none for a reserved kind, 16 if low 15 means that a number follows.
     pub lows: u8,

@@ -1,4 +1,6 @@
 // LEB128 numbers of up to 64 bits (document 01, "Row of a file"), written in the shortest form, and read in that form only or in any.
+#![tactic(auto)]
+
 ghost use Rattle.std.specs.Prelude.{◌≡◌, ◌+◌, ◌*◌, ◌≤◌, ◌<◌, ◌^◌, length};
 ghost use Rattle.prelude.specs.Answer.{measured};
 ghost use Rattle.prelude.specs.Bytes.{store, stored, Put};
@@ -9,7 +11,7 @@ ghost use Rattle.leb128.specs.Internal.{last, tenth, raised, value_of};
 use error::ErrorKind;
 
 // Which numbers are read (document 02, W-203); one choice a call.
-#[derive(Drop)]
+#[derive(Clone, Copy)]
 pub enum Mode {
     // Those in their shortest form; others are OVERLONG.
     Strict,
@@ -18,7 +20,7 @@ pub enum Mode {
 }
 
 // The answer of `get`.
-#[derive(Drop)]
+#[derive(Clone, Copy)]
 pub enum GetResult {
     // The number, and how many bytes are left after it.
     Ok { value: u64, left: usize },

@@ -1,4 +1,6 @@
 // Numbers as little-endian bytes: the bits of floats (document 01, "Row of a file", the body of kind 3), and words of texts (W-205).
+#![tactic(auto)]
+
 ghost use Rattle.std.specs.Prelude.{◌≡◌, [], ◌∷◌, ◌^◌, ◌≤◌, ◌<◌, length, take};
 ghost use Rattle.prelude.specs.Bytes.{Bytes};
 ghost use Rattle.little_endian.specs.LittleEndian.{little, from_little, load};

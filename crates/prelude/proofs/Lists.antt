@@ -23,6 +23,7 @@ pub get_d_past : (xs : List ℕ) (i j : ℕ) → i ≡ j → length xs ≤ i →
 get_d_past xs i j e h = sym (get_or-eq_default xs 0 {n = j} (omega arith))
 
 pub each_mem : {A : Type 0} (P : A → Type 0) {x : A} (xs : List A) → Each P xs → Memᴰ x xs → P x
+each_mem {A = A} P [] e m = elim m [ ]
 each_mem P (y ∷ xs) e (Memᴰ.head p) = subst P (sym p) e.0
 each_mem P (y ∷ xs) e (Memᴰ.tail m) = each_mem P xs e.1 m
 

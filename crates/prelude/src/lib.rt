@@ -1,1 +1,2 @@
 // Definitions and laws that every crate above shares. No function.
+#![tactic(auto)]

@@ -1,4 +1,6 @@
 // Prune: the values that a file's entry reaches, as a new file (document 02, W-204).
+#![tactic(auto)]
+
 ghost use Rattle.std.specs.Prelude.{◌≡◌, ◌-◌, ◌*◌, ◌≤◌, ◌<◌, length, take, get_or, replicate};
 ghost use Rattle.table.specs.Blocks.{BLOCK, Counted, Below};
 ghost use Rattle.error.specs.Error.{LIMIT};
@@ -17,7 +19,7 @@ use leb128::Mode;
 use writer::{WriteAnswer, WriteResult, Writer};
 
 // The answer of `prune`.
-#[derive(Drop)]
+#[derive(Clone, Copy)]
 pub enum PruneResult {
     // The length of the new file, how many values it has, and the offset of its entry.
     Ok {
@@ -32,7 +34,7 @@ pub enum PruneResult {
 }
 
 // The new file's number of its entry, and what the last call returned.
-#[derive(Drop)]
+#[derive(Clone, Copy)]
 struct Written {
     result: WriteResult,
     number: usize,

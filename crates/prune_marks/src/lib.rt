@@ -1,5 +1,7 @@
 // A table of starts that keeps a mark and a number with each: a word is 256 times a start, twice a digit below 128, and
 // 1 if it is marked. The digits of four words keep how many words are marked up to them and with them.
+#![tactic(auto)]
+
 ghost use Rattle.std.specs.Prelude.{◌≡◌, true, false, [], ◌∷◌, suc, ◌+◌, ◌*◌, ◌%◌, ◌≤◌, ◌<◌, ◌^◌, leb, length, take, get_or, set, replicate};
 ghost use Rattle.prelude.specs.Pick.{pick};
 ghost use Rattle.prelude.specs.Search.{rank, Rising};

@@ -1,4 +1,6 @@
 // The tokens of a value, as scans find them; and the offset that a token names.
+#![tactic(auto)]
+
 ghost use Rattle.std.specs.Prelude.{◌≡◌, ◌-◌, ◌<◌};
 ghost use Rattle.error.specs.Error.{LIMIT};
 

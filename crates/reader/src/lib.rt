@@ -1,5 +1,7 @@
 // The queries at an offset, on unchecked files (document 01, "Questions at an offset"), each in a mode, and each proved in its
 // own crate.
+#![tactic(auto)]
+
 pub use leb128::Mode;
 pub use reader_body::{BodyResult, body, body_place};
 pub use reader_follow::{FollowResult, follow};

@@ -1,4 +1,6 @@
 // The body that a value at an offset of any file is or leads to (document 01, "Questions at an offset").
+#![tactic(auto)]
+
 ghost use Rattle.std.specs.Prelude.{◌≡◌, ◌≤◌};
 ghost use Rattle.reader_body.specs.Body.{body_place_on, body_place_of, body_of, Placed};
 ghost use Rattle.reader_body.specs.Answers.{body_answer};
@@ -9,7 +11,7 @@ use reader_follow::FollowHeadResult;
 use scan::Head;
 
 // The answer of `body_place`.
-#[derive(Drop)]
+#[derive(Clone, Copy)]
 pub enum BodyResult {
     // The first offset of the body, and its length.
     Ok { first: usize, len: usize },

@@ -1,4 +1,6 @@
 // Pointers followed from an offset of any file (document 01, "Questions at an offset").
+#![tactic(auto)]
+
 ghost use Rattle.std.specs.Prelude.{◌≡◌};
 ghost use Rattle.reader_follow.specs.Follow.{position, follow_from, follow_head_of, follow_of};
 ghost use Rattle.reader_follow.specs.Answers.{follow_head_answer, follow_answer};
@@ -9,7 +11,7 @@ use reader_region::OffsetResult;
 use scan::{Head, ScanResult};
 
 // The answer of `follow`.
-#[derive(Drop)]
+#[derive(Clone, Copy)]
 pub enum FollowResult {
     // The offset of the value that is not a pointer, and the pointers met.
     Ok { at: usize, hops: usize },
@@ -17,7 +19,7 @@ pub enum FollowResult {
 }
 
 // The value that following reached, with its head.
-#[derive(Drop)]
+#[derive(Clone, Copy)]
 pub enum FollowHeadResult {
     Ok { at: usize, hops: usize, head: Head },
     Err(Error),

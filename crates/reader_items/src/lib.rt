@@ -1,4 +1,6 @@
 // The end of a value, and its items, at an offset of any file (document 01, "Questions at an offset").
+#![tactic(auto)]
+
 ghost use Rattle.std.specs.Prelude.{◌≡◌};
 ghost use Rattle.reader_region.specs.Answers.{offset_answer};
 ghost use Rattle.reader_items.specs.Items.{skip_items, skip_of, starts_in, item_on, item_of};

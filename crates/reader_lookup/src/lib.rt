@@ -1,4 +1,6 @@
 // The value that a map at an offset of any file has for a key (document 01, "Questions at an offset").
+#![tactic(auto)]
+
 ghost use Rattle.std.specs.Prelude.{◌≡◌, ◌≤◌, length};
 ghost use Rattle.reader_region.specs.Answers.{offset_answer};
 ghost use Rattle.reader_lookup.specs.Lookup.{same, is_key, pairs, lookup_on, lookup_of};
@@ -11,7 +13,7 @@ use reader_region::OffsetResult;
 use scan::{Head, ScanResult};
 
 // One pair of a map: the offset of the next one, or the answer.
-#[derive(Drop)]
+#[derive(Clone, Copy)]
 enum PairResult {
     Next(usize),
     Stop(OffsetResult),

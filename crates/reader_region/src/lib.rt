@@ -1,5 +1,7 @@
 // What every query begins with: the region of an unchecked file, and the token at an offset of it (document 01,
 // "Questions at an offset").
+#![tactic(auto)]
+
 ghost use Rattle.std.specs.Prelude.{◌≡◌, ◌-◌, length, take};
 ghost use Rattle.prelude.specs.Pick.{pick};
 ghost use Rattle.prelude.specs.Answer.{ok, error};
@@ -13,7 +15,7 @@ use leb128::Mode;
 use scan::{Head, ScanResult};
 
 // An offset, or how long the region is: the answer of `region_len`, and of the queries `skip`, `item` and `lookup`.
-#[derive(Drop)]
+#[derive(Clone, Copy)]
 pub enum OffsetResult {
     Ok(usize),
     Err(Error),

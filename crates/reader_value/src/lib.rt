@@ -1,4 +1,6 @@
 // What the value at an offset of any file is (document 01, "Questions at an offset").
+#![tactic(auto)]
+
 ghost use Rattle.std.specs.Prelude.{◌≡◌, ◌≤◌, ◌<◌, ◌^◌, pos, negsuc, length};
 ghost use Rattle.reader_region.specs.Internal.{Peeked};
 ghost use Rattle.reader_value.specs.Value.{scalar, float, value_on, read_of};
@@ -10,7 +12,7 @@ use leb128::Mode;
 use scan::{Head, ScanResult};
 
 // One value. Items and text bytes are not looked at.
-#[derive(Drop)]
+#[derive(Clone, Copy)]
 pub enum Value {
     False,
     True,
@@ -67,7 +69,7 @@ pub enum Value {
 }
 
 // The answer of `read`.
-#[derive(Drop)]
+#[derive(Clone, Copy)]
 pub enum ReadResult {
     Ok(Value),
     Err(Error),

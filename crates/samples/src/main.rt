@@ -21,6 +21,8 @@
 // WORDS are decimal, a larger one counts as 32; ROOM and the N of z count as 1024 at most.
 // An error is printed as its name and place, for a CALL as its name. The answer to any other query or CALL is `?`. A line that
 // begins with # is printed as it is.
+#![tactic(auto)]
+
 mod calls;
 mod parts;
 mod print;
@@ -38,7 +40,7 @@ use scan::ScanResult;
 use words::{find_byte, find_last_word, first_word, parse_hex, parse_number, skip_word};
 
 // What a line asks.
-#[derive(Drop)]
+#[derive(Clone, Copy)]
 enum Query {
     Tokens,
     Read,

@@ -1,4 +1,6 @@
 // One token, read at an offset of a region.
+#![tactic(auto)]
+
 ghost use Rattle.std.specs.Prelude.{◌≡◌};
 ghost use Rattle.scan.specs.Answers.{answer_of, scan_at};
 
@@ -6,7 +8,7 @@ use error::{Error, ErrorKind};
 use leb128::{GetResult, Mode};
 
 // A token by its offsets in a region.
-#[derive(Drop)]
+#[derive(Clone, Copy)]
 pub struct Head {
     pub kind: u8,
     // The number of the header.
@@ -20,7 +22,7 @@ pub struct Head {
 }
 
 // The answer of `scan`.
-#[derive(Drop)]
+#[derive(Clone, Copy)]
 pub enum ScanResult {
     Ok(Head),
     Err(Error),

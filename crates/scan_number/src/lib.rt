@@ -1,4 +1,6 @@
 // The number n of a header, whether there is room for what it counts, and the error if there is not.
+#![tactic(auto)]
+
 ghost use Rattle.std.specs.Prelude.{◌≡◌, ◌+◌, ◌*◌, ◌≤◌, ◌<◌, ◌^◌, leb};
 ghost use Rattle.error.specs.Error.{fault_of};
 ghost use Rattle.leb128.specs.Answers as numbers;

@@ -1,5 +1,7 @@
 // A table of words: filled with zeros, as are bytes; and its words counted by blocks, so that a search (crate
 // table_search) has little to look at.
+#![tactic(auto)]
+
 ghost use Rattle.std.specs.Prelude.{◌≡◌, ◌+◌, ◌*◌, ◌≤◌, ◌<◌, ◌^◌, length, take, replicate};
 ghost use Rattle.prelude.specs.Search.{Rising};
 ghost use Rattle.table.specs.Blocks.{BLOCK, Counted, Below};

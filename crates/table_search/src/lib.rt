@@ -1,4 +1,6 @@
 // A search in a rising table of words, which are counted by blocks, so that it has little to look at.
+#![tactic(auto)]
+
 ghost use Rattle.std.specs.Prelude.{◌≡◌, ◌+◌, ◌≤◌, ◌<◌, ltb, length};
 ghost use Rattle.prelude.specs.Pick.{pick};
 ghost use Rattle.prelude.specs.Search.{among, rank, Rising};

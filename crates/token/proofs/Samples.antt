@@ -7,7 +7,7 @@ use lib.ListN.{replicate}
 use Rattle.prelude.specs.Answer.{Res, got, bad, guard, then, or_error, ◌>>◌, ◌>>=◌}
 use Rattle.error.specs.Error.{Fault, fault, TRUNC, RESERVED, OVERLONG, RANGE, NESTED, LONG_BODY, LONG_LIST}
 use Rattle.leb128.specs.Leb.{get, put}
-use Rattle.leb128.specs.declared.Mode.TheVariants.{Strict, Tolerant}
+use Rattle.leb128.specs.declared.Mode.TheVariants.{Strict}
 use Rattle.kind.specs.Kind.{rule}
 use Rattle.token.specs.Token.{Token, token, put_if, emit}
 use Rattle.token.specs.Scan.{get_if, number, body, scan_kind, scan}

@@ -1,6 +1,8 @@
 // The library for C; bindings/c/twine.h is its header. A slice is a pointer and a length in C, an array is a pointer. A
 // call returns an error's number, 0 for none; what else it reports is in an array of the caller. A mode is a number: 1 is
 // tolerant, any other strict. A comment on a function names the Rattle function that it calls.
+#![tactic(auto)]
+
 ghost use Rattle.std.specs.Prelude.{◌≡◌, length};
 ghost use Rattle.reader_items.specs.Items.{skip_of, item_of};
 ghost use Rattle.reader_follow.specs.Follow.{follow_of};

@@ -1,6 +1,8 @@
 // Checks a plan file of at most 16,384 bytes from standard input, and prints one line: `ok COUNT ENTRY`, or an error's
 // `NAME PLACE`. A longer input is `TOO_LONG 0`. For an input that can't be read there is no line, but a message on
 // standard error.
+#![tactic(auto)]
+
 ghost use Rattle.std.specs.Prelude.{◌≡◌, length};
 ghost use Rattle.leb128.specs.declared.Mode.TheVariants.{Strict};
 ghost use Rattle.checker.specs.Check.{checked, check_of};

@@ -1,4 +1,6 @@
 // Whether bytes are text (document 01, "Row of a file", and W-202): UTF-8 by RFC 3629.
+#![tactic(auto)]
+
 ghost use Rattle.std.specs.Prelude.{◌≡◌, false, ◌+◌, ◌≤◌, ◌<◌, eqb, leb, length, drop};
 ghost use Rattle.prelude.specs.Pick.{pick};
 ghost use Rattle.utf8.specs.Text.{forms, lead, is_text};
@@ -6,7 +8,7 @@ ghost use Rattle.utf8.specs.Internal.{due_of, allowed};
 
 // The bytes due of a character: how many, 4 or more if no character begins with the first byte, and, if some are due, the range of
 // the next of them; those after it are from 80 to BF.
-#[derive(Drop)]
+#[derive(Clone, Copy)]
 struct Due {
     left: u8,
     low: u8,

@@ -1,4 +1,6 @@
 // Plain bytes, those below 80, eight at a time (document 02, W-205).
+#![tactic(auto)]
+
 ghost use Rattle.std.specs.Prelude.{◌≡◌, ◌↔◌, true, ◌+◌, ◌*◌, ◌-◌, ◌/◌, ◌^◌, ◌≤◌, length, take, drop};
 ghost use Rattle.little_endian.specs.LittleEndian.{load};
 ghost use Rattle.utf8_plain.specs.Plain.{Plain, plain_front, are_plain};

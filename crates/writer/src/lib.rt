@@ -1,4 +1,6 @@
 // The writer's calls (document 01, "Writer").
+#![tactic(auto)]
+
 ghost use Rattle.std.specs.Prelude.{◌≡◌, [], ◌+◌, ◌-◌, ◌<◌, ◌^◌, length};
 ghost use Rattle.prelude.specs.Pick.{pick};
 ghost use Rattle.kind.specs.Kind.{rule};
@@ -13,33 +15,33 @@ use kind::Rule;
 use writer_refusal::{CallFlags, State};
 
 // A writer of a file. Each call takes it and returns the next one; output and table are lent to each call.
-#[derive(Drop)]
+#[derive(Clone, Copy)]
 pub struct Writer {
     pub state: State,
 }
 
-#[derive(Drop)]
+#[derive(Clone, Copy)]
 pub enum Scalar {
     False,
     True,
     Null,
 }
 
-#[derive(Drop)]
+#[derive(Clone, Copy)]
 pub enum WriteAnswer {
     Ok,
     Err(ErrorKind),
 }
 
 // The next writer, which is the same if the call was refused, and the answer.
-#[derive(Drop)]
+#[derive(Clone, Copy)]
 pub struct WriteResult {
     pub writer: Writer,
     pub answer: WriteAnswer,
 }
 
 // What `fit` finds about a token before it is written or refused.
-#[derive(Drop)]
+#[derive(Clone, Copy)]
 struct Fit {
     // Whether it is accepted, or why it is refused.
     answer: WriteAnswer,

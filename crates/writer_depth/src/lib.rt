@@ -1,4 +1,6 @@
 // Depths that are kept while a file is written (document 02, W-206): the first listed word that is an offset, and how deep a value is.
+#![tactic(auto)]
+
 ghost use Rattle.std.specs.Prelude.{◌≡◌, false, ◌+◌, ◌≤◌, ◌<◌, max, eqb, length, take, get_or, set};
 ghost use Rattle.prelude.specs.Pick.{pick};
 ghost use Rattle.writer_depth.specs.Depth.{index_of, reach_with, depth_of};

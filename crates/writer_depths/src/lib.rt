@@ -1,4 +1,6 @@
 // The writer's calls (document 01, "DepthWriter"), with the depths of the finished values kept (document 02, W-206).
+#![tactic(auto)]
+
 ghost use Rattle.std.specs.Prelude.{◌≡◌};
 ghost use Rattle.writer_refusal.specs.Refusal.{is_ok};
 ghost use Rattle.writer.specs.Call.{Call};
@@ -13,7 +15,7 @@ use writer_refusal::State;
 
 // A writer of a file. Each call takes it and returns the next one; output, table of starts and table of depths are lent to each call. The table of depths
 // may not be shorter than the table of starts; its first words, as many as starts are listed, are the depths of the finished values.
-#[derive(Drop)]
+#[derive(Clone, Copy)]
 pub struct DepthWriter {
     pub state: State,
     // The greatest depth of a finished value; 0 if there is none.
@@ -23,7 +25,7 @@ pub struct DepthWriter {
 }
 
 // The next writer, which is the same if the call was refused, and the answer.
-#[derive(Drop)]
+#[derive(Clone, Copy)]
 pub struct DepthWriteResult {
     pub writer: DepthWriter,
     pub answer: WriteAnswer,

@@ -1,4 +1,6 @@
 // The listed words, the first of a starts table (document 01, "Writer"): whether a word is among them, and how one more is listed.
+#![tactic(auto)]
+
 ghost use Rattle.std.specs.Prelude.{◌≡◌, ◌&&◌, ◌+◌, ◌≤◌, ◌<◌, ◌^◌, eqb, ltb, length, take, set};
 ghost use Rattle.prelude.specs.Pick.{pick};
 ghost use Rattle.prelude.specs.Search.{among};

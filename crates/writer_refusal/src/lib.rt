@@ -1,4 +1,6 @@
 // A writer's state, and why a call is refused (document 01, "Writer").
+#![tactic(auto)]
+
 ghost use Rattle.std.specs.Prelude.{◌≡◌, true, false, ◌+◌, ◌≤◌, ◌<◌, ltb, leb};
 ghost use Rattle.prelude.specs.Answer.{error};
 ghost use Rattle.error.specs.Error.{number_of};
@@ -9,7 +11,7 @@ use error::ErrorKind;
 use kind::Rule;
 
 // A writer's state.
-#[derive(Drop)]
+#[derive(Clone, Copy)]
 pub struct State {
     // The bytes written.
     pub written: usize,
@@ -23,7 +25,7 @@ pub struct State {
 }
 
 // What a call needs from the state, and what is wrong with its argument; each flag may be a reason to refuse it.
-#[derive(Drop)]
+#[derive(Clone, Copy)]
 pub struct CallFlags {
     // It may not come while items are pending: an opening, or a close.
     pub alone: bool,

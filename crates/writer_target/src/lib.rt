@@ -1,4 +1,6 @@
 // The offset that a token names, and its distance (document 01, "Writer").
+#![tactic(auto)]
+
 ghost use Rattle.std.specs.Prelude.{◌≡◌, ◌-◌, leb, get_or};
 ghost use Rattle.prelude.specs.Pick.{pick};
 

@@ -1,0 +1,13 @@
+-- `table_search::narrow` meets its contract.
+use native.Mathlib.Omega.{arith}
+use lib.ListN.{length}
+use borrow.Author.Rules.{rules}
+use Rattle.prelude.specs.Search.{rank}
+use Rattle.table_search.proofs.Quarters.{Between, between_of, quartered}
+use Rattle.table_search.proofs.narrow.Given as goal
+
+abbrev pub invariant-loop-size : goal.invariant-loop-size
+invariant-loop-size l = Between (rank l.x l.t) (length l.t) l.lo l.size
+
+abbrev pub decreases-loop-size : goal.decreases-loop-size
+decreases-loop-size l = l.size

@@ -1,0 +1,19 @@
+-- `writer_listing::guess` meets its contract: the words left are within the table, and at least one.
+use Prim.Native.Nat.{ℕ, ◌+◌, ◌-◌, ◌*◌, ◌/◌, ◌≤◌}
+use native.Mathlib.Omega.{arith}
+use native.Mathlib.Nat.{mul-le-mul}
+use lib.ListN.{length}
+use borrow.Author.Rules.{rules}
+use Rattle.writer_listing.proofs.guess.Given as goal
+
+abbrev pub invariant-loop-size : goal.invariant-loop-size
+invariant-loop-size l = (l.lo + l.size ≤ length l.t) × (1 ≤ l.size)
+
+abbrev pub decreases-loop-size : goal.decreases-loop-size
+decreases-loop-size l = l.size
+
+abbrev pub invariant-loop-size-2 : goal.invariant-loop-size-2
+invariant-loop-size-2 l = (l.lo + l.size ≤ length l.t) × (1 ≤ l.size)
+
+abbrev pub decreases-loop-size-2 : goal.decreases-loop-size-2
+decreases-loop-size-2 l = l.size

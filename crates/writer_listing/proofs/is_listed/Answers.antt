@@ -1,0 +1,22 @@
+-- `writer_listing::is_listed` meets its contract.
+use mathlib.Core.Path.{sym}
+use native.Mathlib.Omega.{arith}
+use lib.Seq.{length-take-le}
+use borrow.Author.Rules.{rules}
+use borrow.Author.Tests.{lt-ltb, le-ltb}
+use Rattle.writer_listing.proofs.is_listed.Goals as goal
+
+pub returns-then-written-gt-LIMIT : goal.returns-then-written-gt-LIMIT
+returns-then-written-gt-LIMIT c = λ w h. absurd (omega arith)
+
+pub returns-then-starts-count : goal.returns-then-starts-count
+returns-then-starts-count c = λ w h. absurd (omega arith)
+
+pub returns-then-written-at : goal.returns-then-written-at
+returns-then-written-at c = λ w h. rw (le-ltb _ _ c.if-written-at.true)
+
+pub slice_bounds-is_among-end : goal.slice_bounds-is_among-end
+slice_bounds-is_among-end c = sym (length-take-le _ _ (omega arith))
+
+pub returns : goal.returns
+returns c = λ w h. rw (lt-ltb _ _ c.if-written-at.false) c.is_among.ensures
