@@ -3,14 +3,12 @@ use mathlib.Core.Path.{◌≡◌}
 use mathlib.Core.Bool.{Bool, true, false, ◌&&◌}
 use Prim.Native.Nat.{ℕ}
 use lib.Dec.{eqb, ltb, leb}
-use borrow.Author.Rules.{rules}
 use Rattle.prelude.specs.Answer.{error}
 use Rattle.error.specs.Error.{BAD_STATE, CLOSED, OWED, BAD_TEXT, BAD_TARGET, FULL, NO_ROOM}
 use Rattle.writer_refusal.specs.Refusal.{bad_state, refusal_of}
 use Rattle.writer_refusal.specs.declared.State.{State}
 use Rattle.writer_refusal.specs.declared.CallFlags.{CallFlags}
-use Rattle.writer_refusal.proofs.refusal.Statement.{statement}
-use Rattle.writer_refusal.proofs.refusal.Tie as tie
+use Rattle.writer_refusal.proofs.refusal.Goals as goal
 
 -- each reason, by the tests that the code made before it
 module _ (q : CallFlags) (s : State) (n m : ℕ) (b : Bool) (is : b ≡ bad_state s n m) where
@@ -49,15 +47,23 @@ module _ (q : CallFlags) (s : State) (n m : ℕ) (b : Bool) (is : b ≡ bad_stat
 
 ruleset ways = (refusal_bad, refusal_closed, refusal_pending, refusal_text, refusal_target, refusal_full, refusal_room)
 
-pub refusal_spec : {M : Type 1} → statement M
-refusal_spec =
-    tie.close
-    (tie.spec
-    (λ c κs. search rules)
-    (λ c. search ways)
-    (λ c. search ways)
-    (λ c. search ways)
-    (λ c. search ways)
-    (λ c. search ways)
-    (λ c. search ways)
-    (λ c. search ways))
+pub returns-then-is_bad_state : goal.returns-then-is_bad_state
+returns-then-is_bad_state c = search ways
+
+pub returns-then-state : goal.returns-then-state
+returns-then-state c = search ways
+
+pub returns-then-request-state : goal.returns-then-request-state
+returns-then-request-state c = search ways
+
+pub returns-then-request : goal.returns-then-request
+returns-then-request c = search ways
+
+pub returns-then-request-2 : goal.returns-then-request-2
+returns-then-request-2 c = search ways
+
+pub returns-then-request-state-2 : goal.returns-then-request-state-2
+returns-then-request-state-2 c = search ways
+
+pub returns : goal.returns
+returns c = search ways

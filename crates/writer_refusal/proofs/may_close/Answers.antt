@@ -3,15 +3,13 @@ use mathlib.Core.Path.{◌≡◌, refl}
 use mathlib.Core.Bool.{Bool, true, false, not, ◌&&◌, ◌||◌}
 use Prim.Native.Nat.{ℕ}
 use lib.Dec.{ltb, leb}
-use borrow.Author.Rules.{rules}
 use Rattle.prelude.specs.Pick.{pick}
 use Rattle.prelude.specs.Answer.{ok, error}
 use Rattle.error.specs.Error.{BAD_STATE, CLOSED, OWED, BAD_TEXT, BAD_TARGET, NO_ROOM}
 use Rattle.writer_refusal.specs.Refusal.{limit, bad_state, is_ok, refusal_of}
 use Rattle.writer_refusal.specs.declared.State.{State}
 use Rattle.writer_refusal.specs.declared.CallFlags.{CallFlags}
-use Rattle.writer_refusal.proofs.may_close.Statement.{statement}
-use Rattle.writer_refusal.proofs.may_close.Tie as tie
+use Rattle.writer_refusal.proofs.may_close.Goals as goal
 
 may_close : (q : CallFlags) (s : State) (n m : ℕ) (b : Bool) (end : ℕ) → b ≡ bad_state s n m → end ≡ limit n → q.adds ≡ false
     → not b && not s.closed && not (q.alone && ltb 0 s.pending) && not (q.nontext || q.unlisted) && not (leb end s.written)
@@ -32,5 +30,5 @@ may_close q s n m b end is at e =
     table false false false false false true = refl
     table false false false false false false = refl
 
-pub may_close_spec : {M : Type 1} → statement M
-may_close_spec = tie.close (tie.spec (λ c κs. search rules) (λ c κs. search rules) (λ c. search may_close))
+pub returns : goal.returns
+returns c = search may_close

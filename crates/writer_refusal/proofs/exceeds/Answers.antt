@@ -5,8 +5,7 @@ use native.Mathlib.Omega.{arith}
 use lib.Dec.{ltb}
 use borrow.Author.Tests.{lt-ltb, le-ltb}
 use Rattle.prelude.proofs.Tests.{split}
-use Rattle.writer_refusal.proofs.exceeds.Statement.{statement}
-use Rattle.writer_refusal.proofs.exceeds.Tie as tie
+use Rattle.writer_refusal.proofs.exceeds.Goals as goal
 
 -- whether a sum is too large, by a difference
 ltb_sub : (a b c : ℕ) → b ≤ a → ltb (a - b) c ≡ ltb a (b + c)
@@ -15,9 +14,8 @@ ltb_sub a b c h =
     (λ l. rw (lt-ltb (a - b) c l, lt-ltb a (b + c) (omega arith)))
     (λ l. rw (le-ltb (a - b) c l, le-ltb a (b + c) (omega arith)))
 
-pub exceeds_spec : {M : Type 1} → statement M
-exceeds_spec =
-    tie.close
-    (tie.spec
-    (λ c. let a = c.before.args in sym (lt-ltb a.room (a.size + a.left) (omega arith)))
-    (λ c. ltb_sub _ _ _ c.if1.false))
+pub returns-then-room-size : goal.returns-then-room-size
+returns-then-room-size c = let a = c.args in sym (lt-ltb a.room (a.size + a.left) (omega arith))
+
+pub returns : goal.returns
+returns c = ltb_sub _ _ _ c.if-room-size.false

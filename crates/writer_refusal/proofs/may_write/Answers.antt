@@ -5,15 +5,13 @@ use mathlib.Core.Bool.{Bool, true, false, not, ◌&&◌, ◌||◌}
 use Prim.Native.Nat.{ℕ, ◌+◌, ◌≤◌, ◌<◌}
 use native.Mathlib.Omega.{arith}
 use lib.Dec.{eqb, ltb, leb}
-use borrow.Author.Rules.{rules}
 use borrow.Author.Tests.{ltb-true, ltb-false, leb-false, not-true, lt-ltb, le-ltb, lt-leb}
 use Rattle.prelude.proofs.Tests.{split, and_l, and_r, and_false, or_false, and_none}
 use Rattle.writer_refusal.specs.Refusal.{room, is_ok, refusal_of}
 use Rattle.writer_refusal.specs.declared.State.{State}
 use Rattle.writer_refusal.specs.declared.CallFlags.{CallFlags}
 use Rattle.writer_refusal.proofs.Refusals.{sound, not_bad, Granted, ok_of_is_ok, refusal_inv, refusal_ok, word_free}
-use Rattle.writer_refusal.proofs.may_write.Statement.{statement}
-use Rattle.writer_refusal.proofs.may_write.Tie as tie
+use Rattle.writer_refusal.proofs.may_write.Goals as goal
 
 and_true : {X : Type 0} (a b : Bool) → a && b ≡ true → (a ≡ true → b ≡ true → X) → X
 and_true a b e k = k (and_l a b e) (and_r a b e)
@@ -80,5 +78,5 @@ module _ (q : CallFlags) (s : State) (n m size left : ℕ) (short : Bool) (is : 
       (λ e. rw (refusal_ok q short s n m (granted e)))
       (λ e. passes (refusal_inv q short s n m (ok_of_is_ok _ e))))
 
-pub may_write_spec : {M : Type 1} → statement M
-may_write_spec = tie.close (tie.spec (λ c κs. search rules) (λ c. search may_write))
+pub returns : goal.returns
+returns c = search may_write
