@@ -1,10 +1,7 @@
 -- `table_search::count_16` meets its contract. The invariant: the words counted and those still to count add up to the rank.
 use mathlib.Core.Path.{◌≡◌}
 use Prim.Native.Nat.{◌+◌, ◌-◌}
-use native.Mathlib.Omega.{arith}
-use borrow.Author.Rules.{rules}
 use Rattle.prelude.specs.Search.{rank}
-use Rattle.table_search.proofs.Quarters.{count_on}
 use Rattle.table_search.proofs.count_16.Given as goal
 
 abbrev pub invariant-loop-i : goal.invariant-loop-i

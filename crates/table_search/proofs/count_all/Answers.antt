@@ -1,10 +1,5 @@
 -- `table_search::count_all` meets its contract. The invariant: the words counted and those still to count add up to the rank.
-use mathlib.Core.Path.{◌≡◌}
-use Prim.Native.Nat.{◌+◌, ◌-◌}
-use lib.ListN.{length}
 use native.Mathlib.Omega.{arith}
-use borrow.Author.Rules.{rules}
-use Rattle.prelude.specs.Search.{rank}
 use Rattle.prelude.proofs.Searches.{rank_le}
 use Rattle.table_search.proofs.Quarters.{count_on}
 use Rattle.table_search.proofs.count_all.Goals as goal

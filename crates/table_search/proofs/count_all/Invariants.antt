@@ -2,11 +2,7 @@
 use mathlib.Core.Path.{◌≡◌}
 use Prim.Native.Nat.{◌+◌, ◌-◌}
 use lib.ListN.{length}
-use native.Mathlib.Omega.{arith}
-use borrow.Author.Rules.{rules}
 use Rattle.prelude.specs.Search.{rank}
-use Rattle.prelude.proofs.Searches.{rank_le}
-use Rattle.table_search.proofs.Quarters.{count_on}
 use Rattle.table_search.proofs.count_all.Given as goal
 
 abbrev pub invariant-loop-i : goal.invariant-loop-i

@@ -1,9 +1,7 @@
 -- `table_search::narrow` meets its contract.
-use native.Mathlib.Omega.{arith}
 use lib.ListN.{length}
-use borrow.Author.Rules.{rules}
 use Rattle.prelude.specs.Search.{rank}
-use Rattle.table_search.proofs.Quarters.{Between, between_of, quartered}
+use Rattle.table_search.proofs.Quarters.{Between}
 use Rattle.table_search.proofs.narrow.Given as goal
 
 abbrev pub invariant-loop-size : goal.invariant-loop-size

@@ -1,5 +1,4 @@
 -- `utf8_plain::plain_before` meets its contract: by the digits 0 below the lowest bit, of the word that is read.
-use borrow.Author.Rules.{rules}
 use Rattle.utf8_plain.proofs.Laws.{zeros_lt, front_at}
 use Rattle.utf8_plain.proofs.plain_before.Goals as goal
 
@@ -7,4 +6,4 @@ pub overflow_cast-result : goal.overflow_cast-result
 overflow_cast-result c = record { fits = zeros_lt _ _ }
 
 pub returns : goal.returns
-returns c = front_at _ _ _ c.requires c.load8-high_bits.ensures.1
+returns c = front_at _ _ _ c.requires c.load8-high_bits.ensures.bytes

@@ -1,9 +1,6 @@
 -- `writer_listing::guess` meets its contract: the words left are within the table, and at least one.
-use Prim.Native.Nat.{ℕ, ◌+◌, ◌-◌, ◌*◌, ◌/◌, ◌≤◌}
-use native.Mathlib.Omega.{arith}
-use native.Mathlib.Nat.{mul-le-mul}
+use Prim.Native.Nat.{◌+◌, ◌≤◌}
 use lib.ListN.{length}
-use borrow.Author.Rules.{rules}
 use Rattle.writer_listing.proofs.guess.Given as goal
 
 abbrev pub invariant-loop-size : goal.invariant-loop-size

@@ -1,7 +1,6 @@
 -- `writer_listing::is_among` meets its contract.
 use mathlib.Core.Path.{sym}
 use native.Mathlib.Omega.{arith}
-use borrow.Author.Rules.{rules}
 use Rattle.prelude.proofs.Searches.{among_at, among_none}
 use Rattle.writer_listing.proofs.is_among.Goals as goal
 

@@ -1,9 +1,6 @@
 -- `writer_listing::is_among_each` meets its contract. The invariant: x is none of the words before k.
 use mathlib.Core.Path.{◌≡◌, sym}
-use Prim.Native.Nat.{ℕ, ◌-◌, ◌<◌}
 use native.Mathlib.Omega.{arith}
-use lib.ListN.{length, get_or}
-use borrow.Author.Rules.{rules}
 use Rattle.prelude.proofs.Tests.{split}
 use Rattle.prelude.proofs.Searches.{among_at, among_none}
 use Rattle.writer_listing.proofs.is_among_each.Goals as goal

@@ -7,7 +7,6 @@ use native.Mathlib.Omega.{arith}
 use lib.Dec.{ltb}
 use lib.ListN.{length, take, get_or}
 use lib.Seq.{get_or-take, length-take-le}
-use borrow.Author.Rules.{rules}
 use Rattle.prelude.specs.Search.{among}
 use Rattle.prelude.proofs.Searches.{among_at}
 use Rattle.writer_listing.proofs.is_listed_near.Goals as goal

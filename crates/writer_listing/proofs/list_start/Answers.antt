@@ -1,6 +1,5 @@
 -- `writer_listing::list_start` meets its contract.
 use mathlib.Core.Path.{refl}
-use borrow.Author.Rules.{rules}
 use borrow.Author.Tests.{eq-eqb, ne_eqb}
 use Rattle.writer_listing.proofs.list_start.Goals as goal
 

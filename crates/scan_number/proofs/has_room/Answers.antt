@@ -5,14 +5,12 @@ use Prim.Native.Nat.{ℕ, ◌+◌, ◌-◌, ◌*◌, ◌^◌, ◌≤◌, ◌<◌
 use native.Mathlib.Nat.{add-mul, mul-le-mul_left, mul-le-mul_right, zero-mul}
 use native.Mathlib.Omega.{arith}
 use lib.Dec.{leb, ltb}
-use borrow.Author.Rules.{rules}
 use borrow.Author.Tests.{lt-leb, ltb-true}
 use Rattle.prelude.proofs.Tests.{facts, and_l, and_r, and_false}
 use Rattle.kind.specs.Kind.{size}
 use Rattle.kind.specs.declared.Rule.{Rule}
 use Rattle.kind.specs.Internal.{Row}
-use Rattle.scan_number.proofs.has_room.Statement.{statement}
-use Rattle.scan_number.proofs.has_room.Tie as tie
+use Rattle.scan_number.proofs.has_room.Goals as goal
 
 module _ (r : Rule) (n left : ℕ) where
   abbrev unit : ℕ
@@ -46,17 +44,18 @@ module _ (r : Rule) (n left : ℕ) where
 abbrev factor : Rule → ℕ
 factor r = r.scale + r.each
 
-no_wrap : (c : tie.Else1) → let a = c.before.before.args in a.rule.fixed + factor a.rule * a.n < 2 ^ 64
-no_wrap c =
-    let b = c.before.before in
-    need_lt b.args.rule _ _ (factor b.args.rule) (omega arith) b.requires.0 b.requires.1 b.requires.2 c.if1.false
+pub returns-then-unit-left : goal.returns-then-unit-left
+returns-then-unit-left c = room_count c.args.rule _ _ c.if-unit-left.true
 
-pub has_room_spec : {M : Type 1} → statement M
-has_room_spec =
-    tie.close
-    (tie.spec
-    (λ c. search rules)
-    (λ c. room_count c.before.before.args.rule _ _ c.if1.true)
-    (λ c. omega (arith, no_wrap c))
-    (λ c. omega (arith, no_wrap c.before))
-    (λ c. room_need c.before.before.before.args.rule _ _))
+pub overflow_mul-result : goal.overflow_mul-result
+overflow_mul-result c =
+    let no_wrap : let a = c.args in a.rule.fixed + factor a.rule * a.n < 2 ^ 64 = need_lt c.args.rule _ _ (factor c.args.rule) (omega arith) c.requires.0 c.requires.1 c.requires.2 c.if-unit-left.false in
+    omega (arith, no_wrap)
+
+pub overflow_add-result : goal.overflow_add-result
+overflow_add-result c =
+    let no_wrap : let a = c.args in a.rule.fixed + factor a.rule * a.n < 2 ^ 64 = need_lt c.args.rule _ _ (factor c.args.rule) (omega arith) c.requires.0 c.requires.1 c.requires.2 c.if-unit-left.false in
+    omega (arith, no_wrap)
+
+pub returns : goal.returns
+returns c = room_need c.args.rule _ _

@@ -9,8 +9,7 @@ use borrow.Author.Tests.{lt-ltb, le-ltb}
 use Rattle.prelude.specs.Bytes.{stored, Put}
 use Rattle.prelude.proofs.Parts.{store_none, store_put}
 use Rattle.token.specs.Token.{Token, emit, emit_into}
-use Rattle.emit.proofs.put.Statement.{statement}
-use Rattle.emit.proofs.put.Tie as tie
+use Rattle.emit.proofs.put.Goals as goal
 
 -- a token of a kind, whose bytes are k
 module _ (t : Token) (d : List ℕ) (k : ℕ) (kind : t.kind < 16) (sized : k ≡ length (emit t)) where
@@ -22,15 +21,30 @@ module _ (t : Token) (d : List ℕ) (k : ℕ) (kind : t.kind < 16) (sized : k �
   unfolding emit_into
   emit_into_put e r h put = rw (lt-ltb t.kind 16 kind) (store_put (emit t) d e r (omega arith) put)
 
-pub put_spec : {M : Type 1} → statement M
+pub returns-then-kind-ge16 : goal.returns-then-kind-ge16
 unfolding emit_into
-put_spec =
-    tie.close
-    (tie.spec
-    (λ c. rw (le-ltb _ _ c.if1.true))
-    (λ c κs. search rules)
-    (λ c. search emit_into_none)
-    (λ c κs. search rules)
-    (λ c κs. (omega arith, rw c.before.rule-of.ensures refl, omega arith))
-    (λ c. search rules)
-    (λ c. search emit_into_put))
+returns-then-kind-ge16 c = rw (le-ltb _ _ c.if-kind-ge16.true)
+
+pub size-requires : goal.size-requires
+unfolding emit_into
+size-requires c = search rules
+
+pub returns-then-rest-size : goal.returns-then-rest-size
+unfolding emit_into
+returns-then-rest-size c = search emit_into_none
+
+pub rule_of-rule-requires : goal.rule_of-rule-requires
+unfolding emit_into
+rule_of-rule-requires c = search rules
+
+pub put_within-requires : goal.put_within-requires
+unfolding emit_into
+put_within-requires c = (omega arith, rw c.rule_of-rule.ensures refl, omega arith)
+
+pub shape_of-rest : goal.shape_of-rest
+unfolding emit_into
+shape_of-rest c = search rules
+
+pub returns : goal.returns
+unfolding emit_into
+returns c = search emit_into_put

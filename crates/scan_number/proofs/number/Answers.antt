@@ -5,7 +5,6 @@ use Prim.Native.Nat.{ℕ, ◌+◌, ◌-◌, ◌≤◌, ◌<◌}
 use native.Mathlib.Nat.{add-zero}
 use native.Mathlib.Omega.{arith}
 use lib.ListN.{length}
-use borrow.Author.Rules.{rules}
 use borrow.Author.Tests.{le-leb, lt-leb}
 use Rattle.prelude.specs.Answer.{ok, error, measured}
 use Rattle.error.specs.Error.{RANGE, number_of}
@@ -17,8 +16,7 @@ use Rattle.leb128.specs.declared.GetResult.TheVariants.{Ok, Err}
 use Rattle.leb128.specs.declared.Mode.{Mode}
 use Rattle.token.specs.Scan.{get_if}
 use Rattle.scan_number.specs.Internal.{in_range, numbered}
-use Rattle.scan_number.proofs.number.Statement.{statement}
-use Rattle.scan_number.proofs.number.Tie as tie
+use Rattle.scan_number.proofs.number.Goals as goal
 
 module _ (mode : Mode) (low most : ℕ) (s : List ℕ) where
   numbered_low : low < 15 → low ≤ most → ok (low, length s) ≡ numbered mode low most s
@@ -42,17 +40,14 @@ module _ (mode : Mode) (low most : ℕ) (s : List ℕ) where
       → g ≡ Err f → error (number_of f) ≡ numbered mode low most s
   numbered_error h l g {f} e is = numbered_by h l g (Err f) e is
 
-pub number_spec : {M : Type 1} → statement M
-number_spec =
-    tie.close
-    (tie.spec
-    (λ c. search rules)
-    (λ c. search (numbered_low, arith))
-    (λ c κs. search rules)
-    (λ c. search rules)
-    (λ c. search rules)
-    (λ c. search (numbered_over, arith))
-    (λ c. search rules)
-    (λ c. search rules)
-    (λ c. search (numbered_in, arith))
-    (λ c. search (numbered_error, arith)))
+pub returns-then-low : goal.returns-then-low
+returns-then-low c = search (numbered_low, arith)
+
+pub returns-then-most-value : goal.returns-then-most-value
+returns-then-most-value c = search (numbered_over, arith)
+
+pub returns-else-most-value : goal.returns-else-most-value
+returns-else-most-value c = search (numbered_in, arith)
+
+pub returns-in-Err : goal.returns-in-Err
+returns-in-Err c = search (numbered_error, arith)

@@ -1,0 +1,27 @@
+-- `emit::put_within` meets its contract: the body after the header and its numbers.
+use mathlib.Core.Path.{◌≡◌}
+use mathlib.Core.List.{List, [], ◌++◌, append_assoc, append-nil}
+use Prim.Native.Nat.{ℕ, ◌+◌, ◌≤◌}
+use native.Mathlib.Omega.{arith}
+use lib.ListN.{length, length-append}
+use borrow.Author.Rules.{rules}
+use Rattle.prelude.proofs.Parts.{put_same, put_append}
+use Rattle.token.specs.Token.{token, emit}
+use Rattle.emit.proofs.put_within.Goals as goal
+
+emit_append : (k n a : ℕ) (b : List ℕ) → emit (token k n a b) ≡ emit (token k n a []) ++ b
+unfolding emit
+emit_append k n a b = simp (append_assoc, append-nil)
+
+pub put_head-head-requires : goal.put_head-head-requires
+put_head-head-requires c =
+    let room : length (emit (token c.args.kind c.args.n c.args.args [])) + length c.args.body.now ≤ length c.args.out.now = rw (emit_append, length-append) at c.requires.2 in
+    (c.requires.0, c.requires.1, omega (arith, room))
+
+pub put_body-requires : goal.put_body-requires
+put_body-requires c =
+    let room : length (emit (token c.args.kind c.args.n c.args.args [])) + length c.args.body.now ≤ length c.args.out.now = rw (emit_append, length-append) at c.requires.2 in
+    omega (arith, c.put_head-head.ensures.size, room, put_same _ c.args.out.now _ _ c.put_head-head.ensures)
+
+pub returns : goal.returns
+returns c = rw emit_append (search put_append)

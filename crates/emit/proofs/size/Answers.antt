@@ -1,0 +1,7 @@
+-- `emit::size` meets its contract.
+use borrow.Author.Rules.{rules}
+use Rattle.token.proofs.Laws.{length_emit}
+use Rattle.emit.proofs.size.Goals as goal
+
+pub returns : goal.returns
+returns c = rw (length_emit, c.size_by.ensures, c.rule_of.ensures)
