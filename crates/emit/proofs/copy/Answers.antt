@@ -1,10 +1,9 @@
 -- `emit::copy` meets its contract. The invariant: what is still to be stored from i on makes the whole of it.
-use mathlib.Core.Path.{◌≡◌, refl}
-use Prim.Native.Nat.{◌-◌, ◌≤◌}
+use mathlib.Core.Path.{refl}
 use native.Mathlib.Numerals.{add-one}
 use native.Mathlib.Omega.{arith}
-use lib.ListN.{length, drop, length-set, drop_of_length-le}
-use lib.Seq.{sets, drop-cons}
+use lib.ListN.{length-set, drop_of_length-le}
+use lib.Seq.{drop-cons}
 use Rattle.emit.proofs.copy.Goals as goal
 
 pub loop-i-init : goal.loop-i-init

@@ -1,10 +1,8 @@
 -- `emit::copy` meets its contract. The invariant: what is still to be stored from i on makes the whole of it.
-use mathlib.Core.Path.{◌≡◌, refl}
+use mathlib.Core.Path.{◌≡◌}
 use Prim.Native.Nat.{◌-◌, ◌≤◌}
-use native.Mathlib.Numerals.{add-one}
-use native.Mathlib.Omega.{arith}
-use lib.ListN.{length, drop, length-set, drop_of_length-le}
-use lib.Seq.{sets, drop-cons}
+use lib.ListN.{length, drop}
+use lib.Seq.{sets}
 use Rattle.emit.proofs.copy.Given as goal
 
 abbrev pub invariant-loop-i : goal.invariant-loop-i

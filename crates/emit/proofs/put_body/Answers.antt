@@ -1,6 +1,5 @@
 -- `emit::put_body` meets its contract: the body is copied to the front of the tail.
 use native.Mathlib.Omega.{arith}
-use borrow.Author.Rules.{rules}
 use Rattle.prelude.proofs.Parts.{put_at_part}
 use Rattle.emit.proofs.put_body.Goals as goal
 

@@ -4,7 +4,6 @@ use mathlib.Core.List.{List, [], ◌++◌, append_assoc, append-nil}
 use Prim.Native.Nat.{ℕ, ◌+◌, ◌≤◌}
 use native.Mathlib.Omega.{arith}
 use lib.ListN.{length, length-append}
-use borrow.Author.Rules.{rules}
 use Rattle.prelude.proofs.Parts.{put_same, put_append}
 use Rattle.token.specs.Token.{token, emit}
 use Rattle.emit.proofs.put_within.Goals as goal

@@ -1,5 +1,4 @@
 -- `emit::size` meets its contract.
-use borrow.Author.Rules.{rules}
 use Rattle.token.proofs.Laws.{length_emit}
 use Rattle.emit.proofs.size.Goals as goal
 

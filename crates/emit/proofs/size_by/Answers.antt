@@ -1,5 +1,4 @@
 -- `emit::size_by` meets its contract.
-use borrow.Author.Rules.{rules}
 use Rattle.emit.proofs.size_by.Goals as goal
 
 pub returns : goal.returns
