@@ -1,0 +1,13 @@
+-- `prune_marks::pack` meets its contract.
+use Prim.Native.Nat.{◌*◌, ◌-◌}
+use native.Mathlib.Omega.{arith}
+use lib.ListN.{length}
+use borrow.Author.Rules.{rules}
+use Rattle.prune_marks.proofs.Words.{Changed, changed_none, unchanged, changed_on, changed_all, packed_starts, packed_marks}
+use Rattle.prune_marks.proofs.pack.Given as goal
+
+abbrev pub invariant-loop-i : goal.invariant-loop-i
+invariant-loop-i l = Changed (λ w. w * 256) l.initial.t l.t l.i
+
+abbrev pub decreases-loop-i : goal.decreases-loop-i
+decreases-loop-i l = length l.initial.t - l.i
