@@ -5,7 +5,7 @@ use Rattle.prelude.proofs.Parts.{part_from}
 use Rattle.reader_value.proofs.float_of.Goals as goal
 
 pub returns-then-h-eq0 : goal.returns-then-h-eq0
-returns-then-h-eq0 c = rw (eq-eqb _ _ c.if-h-eq0.true, c.load4.ensures.0, part_from)
+returns-then-h-eq0 c = rw (eq-eqb _ _ c.if-h-eq0.true, c.load4.ensures.value, part_from)
 
 pub returns : goal.returns
-returns c = rw (ne_eqb _ _ c.if-h-eq0.false, c.load8.ensures.0, part_from)
+returns c = rw (ne_eqb _ _ c.if-h-eq0.false, c.load8.ensures.value, part_from)

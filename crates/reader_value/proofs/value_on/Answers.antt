@@ -122,7 +122,7 @@ unfolding rule
 returns-in_default c =
     let other : ⊥ = let k = c.args.h.kind in
     let u = c.requires.used in
-    let n = c.in_default.rest in
+    let n = c.in_default in ?
     let m = n.0.0.0.0.0 in
     let l = m.0.0.0.0.0 in
     let four = past_four k 0 (omega arith) l.0.0.0.1 l.0.0.1 l.0.1 l.1 in
