@@ -1,5 +1,4 @@
 -- `reader_value::float_of` meets its contract.
-use borrow.Author.Rules.{rules}
 use borrow.Author.Tests.{eq-eqb, ne_eqb}
 use Rattle.prelude.proofs.Parts.{part_from}
 use Rattle.reader_value.proofs.float_of.Goals as goal

@@ -1,7 +1,6 @@
 -- `reader_value::negative` meets its contract.
 use mathlib.Core.Path.{ap}
 use lib.IntN.{negsuc}
-use borrow.Author.Rules.{rules}
 use mir.Syntax.{w64}
 use mir.ValLaws.{to_z-of_z}
 use Rattle.prelude.proofs.Signs.{complement}

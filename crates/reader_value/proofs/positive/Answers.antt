@@ -1,7 +1,6 @@
 -- `reader_value::positive` meets its contract.
 use mathlib.Core.Path.{ap}
 use lib.IntN.{pos}
-use borrow.Author.Rules.{rules}
 use mir.Syntax.{w64}
 use mir.ValLaws.{to_z-of_z}
 use Rattle.reader_value.specs.declared.Value.TheVariants.{Integer}

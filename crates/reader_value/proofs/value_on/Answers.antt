@@ -6,7 +6,7 @@ use lib.Dec.{lit<}
 use borrow.Author.Rules.{rules}
 use Rattle.kind.specs.Kind.{rule}
 use Rattle.kind.proofs.Laws.{used_past}
-use Rattle.reader_value.proofs.Laws.{value_kind, peeked_lt, used_ne, past_four}
+use Rattle.reader_value.proofs.Laws.{value_kind, peeked_lt, used_ne}
 use Rattle.reader_value.proofs.value_on.Goals as goal
 
 pub scalar_of-requires : goal.scalar_of-requires
@@ -120,13 +120,6 @@ returns-in-15 c = value_kind _ _ _ 15 c.in-15.is
 pub returns-in_default : goal.returns-in_default
 unfolding rule
 returns-in_default c =
-    let other : ⊥ = let k = c.args.h.kind in
+    let k = c.args.h.kind in
     let u = c.requires.used in
-    let n = c.in_default in ?
-    let m = n.0.0.0.0.0 in
-    let l = m.0.0.0.0.0 in
-    let four = past_four k 0 (omega arith) l.0.0.0.1 l.0.0.1 l.0.1 l.1 in
-    let eight = past_four k 4 four m.0.0.0.0.1 m.0.0.0.1 m.0.0.1 m.0.1 in
-    let twelve = past_four k 8 eight m.1 (used_ne 9 k refl u) n.0.0.0.0.1 n.0.0.0.1 in
-    used_past k u (past_four k 12 twelve n.0.0.1 (used_ne 13 k refl u) n.0.1 n.1) in
-    absurd (other)
+    absurd (used_past k u (omega (arith, used_ne 9 k refl u, used_ne 13 k refl u)))
