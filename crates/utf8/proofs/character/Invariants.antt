@@ -1,13 +1,9 @@
 -- `utf8::character` meets its contract. The invariant: the bytes from i on, if they fill what is due and then are a text, give the answer.
 use mathlib.Core.Path.{◌≡◌}
 use Prim.Native.Nat.{◌<◌, ◌≤◌}
-use native.Mathlib.Omega.{arith}
 use lib.ListN.{length, drop}
-use borrow.Author.Rules.{rules}
-use borrow.Author.Tests.{not-true, not-false}
 use Rattle.utf8.specs.Text.{text_from, is_text}
 use Rattle.utf8.specs.Internal.{due_of}
-use Rattle.utf8.proofs.Steps.{text_first, text_never, text_bad, text_next, text_end, two_bad, two_next, allowed_lt}
 use Rattle.utf8.proofs.character.Given as goal
 
 abbrev pub invariant-loop-due : goal.invariant-loop-due

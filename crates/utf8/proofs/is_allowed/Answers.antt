@@ -1,6 +1,5 @@
 -- `utf8::is_allowed` meets its contract: past the end, and by the range.
 use native.Mathlib.Omega.{arith}
-use borrow.Author.Rules.{rules}
 use Rattle.utf8.proofs.Steps.{allowed_past, allowed_in}
 use Rattle.utf8.proofs.is_allowed.Goals as goal
 

@@ -1,12 +1,8 @@
 -- `utf8::is_long_text` meets its contract. The invariant: whether the bytes from i on are a text is the answer.
-use mathlib.Core.Path.{◌≡◌, ◌∙◌}
+use mathlib.Core.Path.{◌≡◌}
 use Prim.Native.Nat.{◌-◌, ◌≤◌}
-use native.Mathlib.Omega.{arith}
 use lib.ListN.{length, drop}
-use borrow.Author.Rules.{rules}
-use Rattle.utf8_plain.proofs.Laws.{skip_plain}
 use Rattle.utf8.specs.Text.{is_text}
-use Rattle.utf8.proofs.Steps.{pass_bad, pass_next, text_after_plain, plain_next, plain_last}
 use Rattle.utf8.proofs.is_long_text.Given as goal
 
 abbrev pub invariant-loop-i : goal.invariant-loop-i

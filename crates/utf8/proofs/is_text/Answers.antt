@@ -1,5 +1,4 @@
 -- `utf8::is_text` meets its contract: by its length.
-use borrow.Author.Rules.{rules}
 use Rattle.utf8.proofs.Steps.{plain_all}
 use Rattle.utf8.proofs.is_text.Goals as goal
 
@@ -7,7 +6,7 @@ pub returns-then-s-ge8 : goal.returns-then-s-ge8
 returns-then-s-ge8 c = c.is_long_text.ensures
 
 pub returns-then-is_short_plain : goal.returns-then-is_short_plain
-returns-then-is_short_plain c = plain_all _ (c.is_short_plain.ensures.1.0 c.if-is_short_plain.true)
+returns-then-is_short_plain c = plain_all _ (c.is_short_plain.ensures.plain.0 c.if-is_short_plain.true)
 
 pub returns : goal.returns
 returns c = c.is_text_from.ensures

@@ -1,10 +1,6 @@
 -- `utf8::is_text_from` meets its contract. The invariant: whether the bytes from i on are a text is the answer.
-use mathlib.Core.Path.{◌≡◌}
-use Prim.Native.Nat.{◌-◌, ◌≤◌}
 use native.Mathlib.Omega.{arith}
-use lib.ListN.{length, drop}
 use borrow.Author.Rules.{rules}
-use Rattle.utf8.specs.Text.{is_text}
 use Rattle.utf8.proofs.Steps.{part_some, character_within, character_none, character_next, text_all}
 use Rattle.utf8.proofs.is_text_from.Goals as goal
 

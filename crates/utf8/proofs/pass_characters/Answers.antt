@@ -1,13 +1,9 @@
 -- `utf8::pass_characters` meets its contract. The invariant: whether the bytes from i on are a text is the answer.
-use mathlib.Core.Path.{◌≡◌}
-use Prim.Native.Nat.{◌-◌, ◌≤◌}
 use native.Mathlib.Omega.{arith}
 use lib.Dec.{eqb}
-use lib.ListN.{length, drop}
 use borrow.Author.Rules.{rules}
 use borrow.Author.Tests.{ltb-true}
 use Rattle.prelude.proofs.Tests.{and_r}
-use Rattle.utf8.specs.Text.{is_text}
 use Rattle.utf8.proofs.Steps.{part_some, character_within, character_none, character_next, pass_none, pass_all, front_within, front_next}
 use Rattle.utf8.proofs.pass_characters.Goals as goal
 
@@ -30,7 +26,7 @@ overflow_add-result c = record { fits = omega arith }
 
 -- not a character
 pub returns-then-size-eq0 : goal.returns-then-size-eq0
-returns-then-size-eq0 c = ((omega arith, omega arith), search (pass_none, character_none, arith))
+returns-then-size-eq0 c = record { within = (omega arith, omega arith); rest = search (pass_none, character_none, arith) }
 
 pub overflow_add-i-in-loop-i : goal.overflow_add-i-in-loop-i
 overflow_add-i-in-loop-i c = search (character_within, rules)
@@ -40,7 +36,7 @@ bounds-s-i c = ltb-true _ _ (and_r (eqb c.character-size.result 1) _ c.if-size-i
 
 -- a second plain byte
 pub returns-then-s-i-lt128 : goal.returns-then-s-i-lt128
-returns-then-s-i-lt128 c = ((omega arith, search (character_within, arith)), search (pass_all, character_within, character_next, arith))
+returns-then-s-i-lt128 c = record { within = (omega arith, search (character_within, arith)); rest = search (pass_all, character_within, character_next, arith) }
 
 pub loop-i-smaller-else-s-i-lt128 : goal.loop-i-smaller-else-s-i-lt128
 loop-i-smaller-else-s-i-lt128 c = search (character_within, rules)
@@ -56,4 +52,4 @@ loop-i-preserved c = search (character_within, character_next, arith)
 
 -- the end
 pub returns : goal.returns
-returns c = ((omega arith, omega arith), search (pass_all, arith))
+returns c = record { within = (omega arith, omega arith); rest = search (pass_all, arith) }

@@ -1,14 +1,8 @@
 -- `utf8::pass_characters` meets its contract. The invariant: whether the bytes from i on are a text is the answer.
 use mathlib.Core.Path.{◌≡◌}
 use Prim.Native.Nat.{◌-◌, ◌≤◌}
-use native.Mathlib.Omega.{arith}
-use lib.Dec.{eqb}
 use lib.ListN.{length, drop}
-use borrow.Author.Rules.{rules}
-use borrow.Author.Tests.{ltb-true}
-use Rattle.prelude.proofs.Tests.{and_r}
 use Rattle.utf8.specs.Text.{is_text}
-use Rattle.utf8.proofs.Steps.{part_some, character_within, character_none, character_next, pass_none, pass_all, front_within, front_next}
 use Rattle.utf8.proofs.pass_characters.Given as goal
 
 abbrev pub invariant-loop-i : goal.invariant-loop-i
