@@ -5,11 +5,9 @@ use Prim.Native.Nat.{ℕ, suc, ◌+◌, ◌/◌, ◌≤◌, ◌<◌}
 use native.Mathlib.Numerals.{add-one}
 use native.Mathlib.Omega.{arith}
 use lib.ListN.{length, get_or, length-map, get_or-eq_default}
-use borrow.Author.Rules.{rules}
 use Rattle.prelude.proofs.Lists.{get_d_in}
 use Rattle.prune_marks.specs.Marks.{starts_in}
-use Rattle.prune_marks.proofs.end_of.Statement.{statement}
-use Rattle.prune_marks.proofs.end_of.Tie as tie
+use Rattle.prune_marks.proofs.end_of.Goals as goal
 
 module _ (t : List ℕ) (i len : ℕ) where
   next : (r : ℕ) → i + 1 < length t → r ≡ get_or (starts_in t) (i + 1) 0 → r ≡ get_or (starts_in t) (suc i) len
@@ -18,5 +16,8 @@ module _ (t : List ℕ) (i len : ℕ) where
   last : length t ≤ i + 1 → len ≡ get_or (starts_in t) (suc i) len
   last h = sym (get_or-eq_default (starts_in t) len (omega (arith, length-map t (λ w. w / 256))))
 
-pub end_of_spec : {M : Type 1} → statement M
-end_of_spec = tie.close (tie.spec (λ c. search rules) (λ c κs. search rules) (λ c. search (next, arith)) (λ c. search (last, arith)))
+pub returns-then-next-t : goal.returns-then-next-t
+returns-then-next-t c = search (next, arith)
+
+pub returns : goal.returns
+returns c = search (last, arith)
