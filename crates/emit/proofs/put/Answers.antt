@@ -4,7 +4,6 @@ use mathlib.Core.List.{List}
 use Prim.Native.Nat.{ℕ, ◌≤◌, ◌<◌}
 use native.Mathlib.Omega.{arith}
 use lib.ListN.{length}
-use borrow.Author.Rules.{rules}
 use borrow.Author.Tests.{lt-ltb, le-ltb}
 use Rattle.prelude.specs.Bytes.{stored, Put}
 use Rattle.prelude.proofs.Parts.{store_none, store_put}
@@ -25,26 +24,11 @@ pub returns-then-kind-ge16 : goal.returns-then-kind-ge16
 unfolding emit_into
 returns-then-kind-ge16 c = rw (le-ltb _ _ c.if-kind-ge16.true)
 
-pub size-requires : goal.size-requires
-unfolding emit_into
-size-requires c = search rules
-
 pub returns-then-rest-size : goal.returns-then-rest-size
-unfolding emit_into
 returns-then-rest-size c = search emit_into_none
 
-pub rule_of-rule-requires : goal.rule_of-rule-requires
-unfolding emit_into
-rule_of-rule-requires c = search rules
-
 pub put_within-requires : goal.put_within-requires
-unfolding emit_into
 put_within-requires c = (omega arith, rw c.rule_of-rule.ensures refl, omega arith)
 
-pub shape_of-rest : goal.shape_of-rest
-unfolding emit_into
-shape_of-rest c = search rules
-
 pub returns : goal.returns
-unfolding emit_into
 returns c = search emit_into_put

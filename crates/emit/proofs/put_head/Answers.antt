@@ -20,30 +20,31 @@ headed k n a x d d₁ d₂ r₁ r₂ low one two =
     (put_append _ (put_if (rule k).args a) d d₁ d₂ _ _
     (put_append ((k * 16 + x) ∷ []) (put_if (leb 15 n) (n - 15)) d (set d 0 (k * 16 + x)) d₁ 1 _ (record { size = refl; bytes = refl }) one) two)
 
+room : (k n a : ℕ) (d : List ℕ) → length (emit (token k n a [])) ≤ length d
+    → 1 + length (put_if (leb 15 n) (n - 15)) + length (put_if (rule k).args a) + 0 ≤ length d
+room k n a d h = rw length_emit at h
+
 pub bounds-out-0 : goal.bounds-out-0
-bounds-out-0 c =
-    let room : 1 + length ((put_if (leb 15 c.args.n) (c.args.n - 15))) + length ((put_if (rule c.args.kind).args c.args.args)) + 0 ≤ length c.args.out.now = rw length_emit at c.requires.2 in
-    omega (arith, room)
+bounds-out-0 c = omega (arith, room _ _ _ _ c.requires.2)
 
 pub put_if-number-requires : goal.put_if-number-requires
-put_if-number-requires c =
-    let room : 1 + length ((put_if (leb 15 c.args.n) (c.args.n - 15))) + length ((put_if (rule c.args.kind).args c.args.args)) + 0 ≤ length c.args.out.now = rw length_emit at c.requires.2 in
-    rw (length-set, c.above_15-more.ensures) (omega (arith, room))
+put_if-number-requires c = rw (length-set, c.above_15-more.ensures) (omega (arith, room _ _ _ _ c.requires.2))
 
 pub put_if-requires : goal.put_if-requires
 put_if-requires c =
-    let room : 1 + length ((put_if (leb 15 c.args.n) (c.args.n - 15))) + length ((put_if (rule c.args.kind).args c.args.args)) + 0 ≤ length c.args.out.now = rw length_emit at c.requires.2 in
-    let one : PutAt ((put_if (leb 15 c.args.n) (c.args.n - 15))) ((set c.args.out.now 0 (c.args.kind * 16 + c.nibble.result))) 1 c.put_if-number.new.out c.put_if-number.result = rw c.above_15-more.ensures at c.put_if-number.ensures in
-    let same : length c.put_if-number.new.out ≡ length c.args.out.now = put_at_same _ ((set c.args.out.now 0 (c.args.kind * 16 + c.nibble.result))) _ _ _ (one) ∙ simp length-set in
-    rw c.requires.1 (omega (arith, room, (one).after, same))
+    let out = c.args.out.now in
+    let one : PutAt (put_if (leb 15 c.args.n) (c.args.n - 15)) (set out 0 (c.args.kind * 16 + c.nibble.result)) 1 c.put_if-number.new.out
+    c.put_if-number.result = rw c.above_15-more.ensures at c.put_if-number.ensures in
+    let same : length c.put_if-number.new.out ≡ length out = put_at_same _ _ _ _ _ one ∙ simp length-set in
+    rw c.requires.1 (omega (arith, room _ _ _ _ c.requires.2, one.after, same))
 
 pub shape_of-out : goal.shape_of-out
 shape_of-out c =
     put_same _ c.args.out.now _ _
-    (headed c.args.kind c.args.n c.args.args c.nibble.result c.args.out.now c.put_if-number.new.out c.put_if.new.out c.put_if-number.result c.put_if.result
-    c.nibble.ensures.0 (rw c.above_15-more.ensures at c.put_if-number.ensures) (rw c.requires.1 at c.put_if.ensures))
+    (headed c.args.kind c.args.n c.args.args _ _ _ _ _ _ c.nibble.ensures.0
+    (rw c.above_15-more.ensures at c.put_if-number.ensures) (rw c.requires.1 at c.put_if.ensures))
 
 pub returns : goal.returns
 returns c =
-    headed c.args.kind c.args.n c.args.args c.nibble.result c.args.out.now c.put_if-number.new.out c.put_if.new.out c.put_if-number.result c.put_if.result
-    c.nibble.ensures.0 (rw c.above_15-more.ensures at c.put_if-number.ensures) (rw c.requires.1 at c.put_if.ensures)
+    headed c.args.kind c.args.n c.args.args _ _ _ _ _ _ c.nibble.ensures.0
+    (rw c.above_15-more.ensures at c.put_if-number.ensures) (rw c.requires.1 at c.put_if.ensures)

@@ -5,7 +5,6 @@ use Prim.Native.Nat.{ℕ, ◌+◌, ◌≤◌}
 use native.Mathlib.Nat.{add-zero}
 use native.Mathlib.Omega.{arith}
 use lib.ListN.{length}
-use borrow.Author.Rules.{rules}
 use Rattle.prelude.proofs.Parts.{length_part, put_at_part}
 use Rattle.leb128.specs.Leb.{put}
 use Rattle.token.specs.Token.{put_if}
@@ -15,29 +14,11 @@ put_if_room : (w : Bool) (n at m : ℕ) → at + length (put_if w n) ≤ m → w
 unfolding put_if
 put_if_room w n at m h e = rw e at h
 
-pub slice_bounds-put_within-count : goal.slice_bounds-put_within-count
-unfolding put_if
-slice_bounds-put_within-count c = search rules
-
-pub slice_bounds-put_within-start : goal.slice_bounds-put_within-start
-unfolding put_if
-slice_bounds-put_within-start c = search rules
-
-pub slice_bounds-put_within-end : goal.slice_bounds-put_within-end
-unfolding put_if
-slice_bounds-put_within-end c = search rules
-
 pub put_within-requires : goal.put_within-requires
-unfolding put_if
 put_within-requires c = rw length_part (omega (arith, put_if_room _ _ _ _ c.requires c.if-wanted.true))
 
 pub overflow_add-result : goal.overflow_add-result
-unfolding put_if
 overflow_add-result c = omega (arith, c.put_within.ensures.size, put_if_room _ _ _ _ c.requires c.if-wanted.true)
-
-pub shape_of-out-then-wanted : goal.shape_of-out-then-wanted
-unfolding put_if
-shape_of-out-then-wanted c = search rules
 
 pub returns-then-wanted : goal.returns-then-wanted
 unfolding put_if

@@ -12,15 +12,15 @@ emit_append : (k n a : ℕ) (b : List ℕ) → emit (token k n a b) ≡ emit (to
 unfolding emit
 emit_append k n a b = simp (append_assoc, append-nil)
 
+room : (k n a : ℕ) (b d : List ℕ) → length (emit (token k n a b)) ≤ length d → length (emit (token k n a [])) + length b ≤ length d
+room k n a b d h = rw (emit_append, length-append) at h
+
 pub put_head-head-requires : goal.put_head-head-requires
-put_head-head-requires c =
-    let room : length (emit (token c.args.kind c.args.n c.args.args [])) + length c.args.body.now ≤ length c.args.out.now = rw (emit_append, length-append) at c.requires.2 in
-    (c.requires.0, c.requires.1, omega (arith, room))
+put_head-head-requires c = (c.requires.0, c.requires.1, omega (arith, room _ _ _ _ _ c.requires.2))
 
 pub put_body-requires : goal.put_body-requires
 put_body-requires c =
-    let room : length (emit (token c.args.kind c.args.n c.args.args [])) + length c.args.body.now ≤ length c.args.out.now = rw (emit_append, length-append) at c.requires.2 in
-    omega (arith, c.put_head-head.ensures.size, room, put_same _ c.args.out.now _ _ c.put_head-head.ensures)
+    omega (arith, c.put_head-head.ensures.size, room _ _ _ _ _ c.requires.2, put_same _ c.args.out.now _ _ c.put_head-head.ensures)
 
 pub returns : goal.returns
 returns c = rw emit_append (search put_append)

@@ -1,14 +1,9 @@
 -- `emit::size_if` meets its contract.
 use mathlib.Core.Path.{refl}
 use native.Mathlib.Omega.{arith}
-use borrow.Author.Rules.{rules}
 use Rattle.leb128.proofs.Sizes.{length_put_le}
 use Rattle.token.specs.Token.{put_if}
 use Rattle.emit.proofs.size_if.Goals as goal
-
-pub size-requires : goal.size-requires
-unfolding put_if
-size-requires c = search rules
 
 pub returns-then-wanted : goal.returns-then-wanted
 unfolding put_if

@@ -6,8 +6,6 @@ use Rattle.prelude.proofs.Parts.{part_from}
 use Rattle.leb128.proofs.Steps.{get_nil, get_tenth, get_step, get_small}
 use Rattle.leb128.proofs.+get_from.Goals as goal
 
--- k, the second parameter
-
 pub returns-then-s-eq0 : goal.returns-then-s-eq0
 returns-then-s-eq0 t c = search (rules, get_nil)
 

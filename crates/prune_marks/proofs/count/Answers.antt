@@ -1,10 +1,6 @@
 -- `prune_marks::count` meets its contract.
 use mathlib.Core.Path.{◌≡◌}
-use Prim.Native.Nat.{◌+◌, ◌-◌, ◌≤◌}
 use native.Mathlib.Omega.{arith}
-use lib.ListN.{take}
-use borrow.Author.Rules.{rules}
-use Rattle.prune_marks.specs.Marks.{marks_in, kept}
 use Rattle.prune_marks.proofs.Numbering.{kept_on}
 use Rattle.prune_marks.proofs.count.Goals as goal
 

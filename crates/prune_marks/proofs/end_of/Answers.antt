@@ -5,7 +5,6 @@ use Prim.Native.Nat.{ℕ, suc, ◌+◌, ◌/◌, ◌≤◌, ◌<◌}
 use native.Mathlib.Numerals.{add-one}
 use native.Mathlib.Omega.{arith}
 use lib.ListN.{length, get_or, length-map, get_or-eq_default}
-use borrow.Author.Rules.{rules}
 use Rattle.prelude.proofs.Lists.{get_d_in}
 use Rattle.prune_marks.specs.Marks.{starts_in}
 use Rattle.prune_marks.proofs.end_of.Goals as goal

@@ -1,5 +1,4 @@
 -- `prune_marks::guess` is safe.
-use borrow.Author.Rules.{rules}
 use Rattle.prune_marks.proofs.Words.{guess_fits}
 use Rattle.prune_marks.proofs.guess.Goals as goal
 

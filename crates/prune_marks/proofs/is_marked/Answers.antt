@@ -1,6 +1,5 @@
 -- `prune_marks::is_marked` meets its contract.
 use mathlib.Core.Path.{sym}
-use borrow.Author.Rules.{rules}
 use Rattle.prune_marks.proofs.Words.{mark_at}
 use Rattle.prune_marks.proofs.is_marked.Goals as goal
 

@@ -1,5 +1,4 @@
 -- `prune_marks::mark_from` meets its contract.
-use borrow.Author.Rules.{rules}
 use Rattle.prune_marks.proofs.Numbering.{mark_le, mark_fits}
 use Rattle.prune_marks.proofs.mark_from.Goals as goal
 
@@ -7,4 +6,4 @@ pub overflow_mul-result : goal.overflow_mul-result
 overflow_mul-result c = search mark_fits
 
 pub returns : goal.returns
-returns c = (rw c.at_least_lem.ensures.0, search mark_le)
+returns c = (rw c.at_least.ensures.0, search mark_le)

@@ -1,5 +1,4 @@
 -- `prune_marks::marks_from` meets its contract.
-use borrow.Author.Rules.{rules}
 use Rattle.prune_marks.proofs.Numbering.{four_marks}
 use Rattle.prune_marks.proofs.marks_from.Goals as goal
 

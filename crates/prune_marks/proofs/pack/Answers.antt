@@ -1,13 +1,7 @@
 -- `prune_marks::pack` meets its contract.
-use Prim.Native.Nat.{◌*◌, ◌-◌}
 use native.Mathlib.Omega.{arith}
-use lib.ListN.{length}
-use borrow.Author.Rules.{rules}
-use Rattle.prune_marks.proofs.Words.{Changed, changed_none, unchanged, changed_on, changed_all, packed_starts, packed_marks}
+use Rattle.prune_marks.proofs.Words.{unchanged, changed_on, changed_all, packed_starts, packed_marks}
 use Rattle.prune_marks.proofs.pack.Goals as goal
-
-pub loop-i-init : goal.loop-i-init
-loop-i-init c = changed_none _ _
 
 pub overflow_mul-t : goal.overflow_mul-t
 overflow_mul-t c =
@@ -15,14 +9,8 @@ overflow_mul-t c =
     let e = l.invariant.long in
     omega (arith, unchanged _ _ _ _ l.invariant, c.requires l.i (omega arith))
 
-pub loop-i-smaller : goal.loop-i-smaller
-loop-i-smaller c = let e = c.loop-i.invariant.long in omega arith
-
 pub loop-i-preserved : goal.loop-i-preserved
 loop-i-preserved c = changed_on _ _ _ _ c.loop-i.invariant (omega arith)
-
-pub shape_of-t : goal.shape_of-t
-shape_of-t c = c.loop-i.invariant.long
 
 pub returns : goal.returns
 returns c = let e = changed_all _ _ _ _ c.loop-i.invariant (omega arith) in (rw e (packed_starts _), rw e (packed_marks c.args.t.now))

@@ -1,9 +1,7 @@
 -- `prune_marks::pack` meets its contract.
 use Prim.Native.Nat.{◌*◌, ◌-◌}
-use native.Mathlib.Omega.{arith}
 use lib.ListN.{length}
-use borrow.Author.Rules.{rules}
-use Rattle.prune_marks.proofs.Words.{Changed, changed_none, unchanged, changed_on, changed_all, packed_starts, packed_marks}
+use Rattle.prune_marks.proofs.Words.{Changed}
 use Rattle.prune_marks.proofs.pack.Given as goal
 
 abbrev pub invariant-loop-i : goal.invariant-loop-i

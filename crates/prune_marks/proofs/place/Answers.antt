@@ -1,27 +1,17 @@
 -- `prune_marks::place` meets its contract.
-use mathlib.Core.Path.{◌≡◌}
-use Prim.Native.Nat.{◌-◌, ◌*◌, ◌/◌, ◌%◌, ◌≤◌}
+use Prim.Native.Nat.{◌*◌, ◌/◌, ◌%◌}
 use native.Mathlib.Omega.{arith}
-use lib.ListN.{take}
-use borrow.Author.Rules.{rules}
-use Rattle.prune_marks.specs.Marks.{marks_in, kept}
 use Rattle.prune_marks.proofs.Numbering.{place_in}
 use Rattle.prune_marks.proofs.place.Goals as goal
 
 pub overflow_sub-result : goal.overflow_sub-result
 overflow_sub-result c =
-    let within : let n = c.number_at.result in
-    let x = c.marks_from.result in
-    (x ≤ n) × (n - x ≡ kept (take c.args.i (marks_in c.args.t.now))) = let i = c.args.i in
-    place_in c.args.t.now (i / 4 * 4) (omega arith) c.requires.1 (i / 4) (i % 4) _ _ i (omega arith) (omega arith) (omega arith)
-    c.number_at.ensures.0 c.marks_from.ensures in
-    (within).0
+    let i = c.args.i in
+    (place_in c.args.t.now (i / 4 * 4) (omega arith) c.requires.1 (i / 4) (i % 4) _ _ i (omega arith) (omega arith) (omega arith)
+    c.number_at.ensures.0 c.marks_from.ensures).0
 
 pub returns : goal.returns
 returns c =
-    let within : let n = c.number_at.result in
-    let x = c.marks_from.result in
-    (x ≤ n) × (n - x ≡ kept (take c.args.i (marks_in c.args.t.now))) = let i = c.args.i in
-    place_in c.args.t.now (i / 4 * 4) (omega arith) c.requires.1 (i / 4) (i % 4) _ _ i (omega arith) (omega arith) (omega arith)
-    c.number_at.ensures.0 c.marks_from.ensures in
-    (within).1
+    let i = c.args.i in
+    (place_in c.args.t.now (i / 4 * 4) (omega arith) c.requires.1 (i / 4) (i % 4) _ _ i (omega arith) (omega arith) (omega arith)
+    c.number_at.ensures.0 c.marks_from.ensures).1

@@ -1,7 +1,6 @@
 -- `prune_marks::place_at_end` meets its contract.
 use Prim.Native.Nat.{◌/◌}
 use native.Mathlib.Omega.{arith}
-use borrow.Author.Rules.{rules}
 use Rattle.prune_marks.specs.Marks.{marks_in}
 use Rattle.prune_marks.proofs.Numbering.{kept_none, place_is}
 use Rattle.prune_marks.proofs.place_at_end.Goals as goal

@@ -1,5 +1,4 @@
 -- `prune_marks::set_four` meets its contract.
-use borrow.Author.Rules.{rules}
 use Rattle.prune_marks.proofs.Numbering.{digits_on}
 use Rattle.prune_marks.proofs.set_four.Goals as goal
 

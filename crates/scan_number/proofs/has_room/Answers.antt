@@ -49,13 +49,13 @@ returns-then-unit-left c = room_count c.args.rule _ _ c.if-unit-left.true
 
 pub overflow_mul-result : goal.overflow_mul-result
 overflow_mul-result c =
-    let no_wrap : let a = c.args in a.rule.fixed + factor a.rule * a.n < 2 ^ 64 = need_lt c.args.rule _ _ (factor c.args.rule) (omega arith) c.requires.0 c.requires.1 c.requires.2 c.if-unit-left.false in
-    omega (arith, no_wrap)
+    let h = c.requires in
+    omega (arith, need_lt c.args.rule _ _ (factor c.args.rule) (omega arith) h.0 h.1 h.2 c.if-unit-left.false)
 
 pub overflow_add-result : goal.overflow_add-result
 overflow_add-result c =
-    let no_wrap : let a = c.args in a.rule.fixed + factor a.rule * a.n < 2 ^ 64 = need_lt c.args.rule _ _ (factor c.args.rule) (omega arith) c.requires.0 c.requires.1 c.requires.2 c.if-unit-left.false in
-    omega (arith, no_wrap)
+    let h = c.requires in
+    omega (arith, need_lt c.args.rule _ _ (factor c.args.rule) (omega arith) h.0 h.1 h.2 c.if-unit-left.false)
 
 pub returns : goal.returns
 returns c = room_need c.args.rule _ _

@@ -1,13 +1,8 @@
 -- `table_search::high` meets its contract.
-use Prim.Native.Nat.{◌+◌, ◌/◌}
-use native.Mathlib.Omega.{arith}
 use borrow.Author.Rules.{rules}
 use Rattle.prelude.proofs.Searches.{rank_le}
 use Rattle.table.proofs.Blocks.{high_block, block_fits}
 use Rattle.table_search.proofs.high.Goals as goal
-
-pub overflow_cast-result : goal.overflow_cast-result
-overflow_cast-result c = omega (arith, c.shared_slice_known-1.given (c.args.x / 4096 + 1))
 
 pub returns-then-b-blocks : goal.returns-then-b-blocks
 returns-then-b-blocks c = (search (high_block, rules), search (block_fits, rules))

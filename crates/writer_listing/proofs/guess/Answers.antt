@@ -9,10 +9,14 @@ quarters_le : (q a b c : ℕ) → a ≤ 1 → b ≤ 1 → c ≤ 1 → q * (a + b
 quarters_le q a b c h i j = omega (arith, mul-le-mul {n₁ = q} {m₁ = a + b + c} {n₂ = q} {m₂ = 3} (omega arith) (omega arith))
 
 pub overflow_mul-lo : goal.overflow_mul-lo
-overflow_mul-lo c = omega (arith, quarters_le (c.loop-size.size / 4) _ _ _ c.until.ensures c.until-in-loop-size.ensures c.until-in-loop-size-2.ensures)
+overflow_mul-lo c =
+    omega (arith, quarters_le (c.loop-size.size / 4) _ _ _ c.until.ensures c.until-in-loop-size.ensures c.until-in-loop-size-2.ensures)
 
 pub overflow_add-lo-in-loop-size-5 : goal.overflow_add-lo-in-loop-size-5
-overflow_add-lo-in-loop-size-5 c = omega (arith, quarters_le (c.loop-size.size / 4) _ _ _ c.until.ensures c.until-in-loop-size.ensures c.until-in-loop-size-2.ensures)
+overflow_add-lo-in-loop-size-5 c =
+    omega (arith, quarters_le (c.loop-size.size / 4) _ _ _ c.until.ensures c.until-in-loop-size.ensures c.until-in-loop-size-2.ensures)
 
 pub loop-size-preserved : goal.loop-size-preserved
-loop-size-preserved c = (omega (arith, quarters_le (c.loop-size.size / 4) _ _ _ c.until.ensures c.until-in-loop-size.ensures c.until-in-loop-size-2.ensures), omega arith)
+loop-size-preserved c =
+    let most = quarters_le (c.loop-size.size / 4) _ _ _ c.until.ensures c.until-in-loop-size.ensures c.until-in-loop-size-2.ensures in
+    (omega arith, omega arith)

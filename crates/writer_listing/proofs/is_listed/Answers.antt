@@ -5,12 +5,6 @@ use lib.Seq.{length-take-le}
 use borrow.Author.Tests.{lt-ltb, le-ltb}
 use Rattle.writer_listing.proofs.is_listed.Goals as goal
 
-pub returns-then-written-gt-LIMIT : goal.returns-then-written-gt-LIMIT
-returns-then-written-gt-LIMIT c = λ w h. absurd (omega arith)
-
-pub returns-then-starts-count : goal.returns-then-starts-count
-returns-then-starts-count c = λ w h. absurd (omega arith)
-
 pub returns-then-written-at : goal.returns-then-written-at
 returns-then-written-at c = λ w h. rw (le-ltb _ _ c.if-written-at.true)
 

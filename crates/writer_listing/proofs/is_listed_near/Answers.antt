@@ -16,11 +16,5 @@ found : (w x n i : ℕ) (t : List ℕ) → i < n → n ≤ length t → get_or t
 found w x n i t h k e =
     rw (among_at x (take n t) i (omega (arith, length-take-le n t k)) (get_or-take n t i 0 h ∙ e), and_comm (ltb x w) true)
 
-pub returns-then-starts-count : goal.returns-then-starts-count
-returns-then-starts-count c = λ w h. absurd (omega arith)
-
-pub overflow_cast-starts : goal.overflow_cast-starts
-overflow_cast-starts c = omega (arith, c.shared_slice_known-then-near-count-1.given c.args.near)
-
 pub returns-then-starts-near : goal.returns-then-starts-near
 returns-then-starts-near c = λ w h. found _ _ _ _ _ c.if-near-count.true h c.if-starts-near.true

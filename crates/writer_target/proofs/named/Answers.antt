@@ -1,12 +1,8 @@
 -- `writer_target::named` meets its contract.
 use native.Mathlib.Omega.{arith}
-use mir.Facts.{Fits-widen}
 use borrow.Author.Tests.{le-leb, lt-leb}
 use Rattle.prelude.proofs.Lists.{get_d_past}
 use Rattle.writer_target.proofs.named.Goals as goal
-
-pub overflow_cast-result : goal.overflow_cast-result
-overflow_cast-result c = Fits-widen tt (c.shared_slice_known-1.given _)
 
 pub returns-then-number-starts : goal.returns-then-number-starts
 returns-then-number-starts c = rw (le-leb 14 _ c.if-kind-ge-KIND_REFERENCE.true)
