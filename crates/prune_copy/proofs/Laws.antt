@@ -28,7 +28,7 @@ use Rattle.scan.specs.declared.ScanResult.TheVariants.{Ok, Err}
 use Rattle.scan.proofs.Places.{scan_within}
 use Rattle.writer_refusal.specs.declared.State.{State}
 use Rattle.writer.specs.Step.{Result, result, put_moved}
-use Rattle.writer.specs.Answers.{answer_of, wrote}
+use Rattle.writer.specs.Answers.{wrote}
 use Rattle.writer.specs.declared.WriteAnswer.TheVariants as answers
 use Rattle.writer.specs.declared.WriteResult.{WriteResult}
 use Rattle.prune_tokens.specs.Tokens.{heads, heads_of}

@@ -8,7 +8,7 @@ ghost use Rattle.prelude.specs.Search.{rank};
 ghost use Rattle.error.specs.Error.{LIMIT};
 ghost use Rattle.kind.specs.Kind.{rule};
 ghost use Rattle.table.specs.Blocks.{Below};
-ghost use Rattle.writer.specs.Step.{result, put_moved};
+ghost use Rattle.writer.specs.Step.{result as outcome, put_moved};
 ghost use Rattle.writer.specs.Answers.{wrote};
 ghost use Rattle.prune_tokens.specs.Tokens.{heads, heads_of};
 ghost use Rattle.prune_marks.specs.Marks.{starts_in, marks_in, kept};
@@ -22,7 +22,7 @@ use writer::{WriteAnswer, WriteResult, Writer};
 // The number that the target of the token with head h at `at` gets; 0 if it has none.
 fn new_number(t: &[u32], blocks: &[u32], at: usize, h: Head) -> usize
     requires { (Ready t.now blocks.now) × (at < LIMIT) }
-    ensures* { λ r. ⌜ r ≡ pick (leb 14 h.kind) (kept (take (rank (at - h.n - 1) (starts_in t.now)) (marks_in t.now))) 0 ⌝ }
+    ensures { result ≡ pick (leb 14 h.kind) (kept (take (rank (at - h.n - 1) (starts_in t.now)) (marks_in t.now))) 0 }
 {
     if kind::KIND_REFERENCE <= h.kind {
         let i = prune_marks::find(t, blocks, prune_tokens::target(at, h.n));
@@ -34,7 +34,7 @@ fn new_number(t: &[u32], blocks: &[u32], at: usize, h: Head) -> usize
 // The argument count of a token with head h; 0 if its kind has none.
 fn argument_count(h: Head) -> u64
     requires { h.kind < 16 }
-    ensures* { λ r. ⌜ r ≡ pick (rule h.kind).args h.items 0 ⌝ }
+    ensures { result ≡ pick (rule h.kind).args h.items 0 }
 {
     let rule = kind::rule_of(h.kind);
     if rule.args {
@@ -55,8 +55,8 @@ fn copy_token(
     new: &mut [u32],
 ) -> WriteResult
     requires { (Ready t.now blocks.now) × (at < LIMIT) × (HeadIn region.now h) }
-    ensures* { λ r. ⌜ wrote r out.new new.new ≡ put_moved (token_of region.now h)
-        (kept (take (rank (at - h.n - 1) (starts_in t.now)) (marks_in t.now))) writer.state out.old new.old ⌝ }
+    ensures { wrote result out.new new.new ≡ put_moved (token_of region.now h)
+        (kept (take (rank (at - h.n - 1) (starts_in t.now)) (marks_in t.now))) writer.state out.old new.old }
 {
     let number = new_number(t, blocks, at, h);
     let args = argument_count(h);
@@ -77,8 +77,8 @@ fn copy_tokens(
     new: &mut [u32],
 ) -> WriteResult
     requires { (Ready t.now blocks.now) × (start ≤ length region.now) × (length region.now < LIMIT) }
-    ensures* { λ r. ⌜ wrote r out.new new.new ≡ copy_tokens region.now (starts_in t.now) (marks_in t.now)
-        (heads region.now end start) writer.state out.old new.old ⌝ }
+    ensures { wrote result out.new new.new ≡ copy_tokens region.now (starts_in t.now) (marks_in t.now)
+        (heads region.now end start) writer.state out.old new.old }
 {
     let mut at = start;
     let mut next = writer;
@@ -122,10 +122,10 @@ fn copy_value(
     new: &mut [u32],
 ) -> WriteResult
     requires { (i < length t.now) × (Ready t.now blocks.now) × (Below (length region.now) (starts_in t.now)) × (length region.now < LIMIT) }
-    ensures* { λ r. ⌜ wrote r out.new new.new ≡ pick (get_or (marks_in t.now) i false)
+    ensures { wrote result out.new new.new ≡ pick (get_or (marks_in t.now) i false)
         (copy_tokens region.now (starts_in t.now) (marks_in t.now)
         (heads_of region.now (starts_in t.now) i) writer.state out.old new.old)
-        (result (ok tt) writer.state out.old new.old) ⌝ }
+        (outcome (ok tt) writer.state out.old new.old) }
 {
     if prune_marks::is_marked(t, i) {
         let start = prune_marks::start_of(t, i);
@@ -150,8 +150,8 @@ pub fn copy_values(
     new: &mut [u32],
 ) -> WriteResult
     requires { (n ≤ length t.now) × (Ready t.now blocks.now) × (Below (length region.now) (starts_in t.now)) × (length region.now < LIMIT) }
-    ensures* { λ r. ⌜ wrote r out.new new.new ≡ copy_values region.now (starts_in t.now) (marks_in t.now)
-        n 0 writer.state out.old new.old ⌝ }
+    ensures { wrote result out.new new.new ≡ copy_values region.now (starts_in t.now) (marks_in t.now)
+        n 0 writer.state out.old new.old }
 {
     let mut i: usize = 0;
     let mut next = writer;

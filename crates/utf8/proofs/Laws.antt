@@ -38,6 +38,7 @@ rising_forms = search rules
 lead_form : (n b : ℕ) (r : Range) (f : List Range) (fs : List (List Range)) → Rising n fs → Memᴰ (r ∷ f) fs → r.lo ≤ b → b ≤ r.hi
     → (n ≤ b) × (lead fs b ≡ some f)
 unfolding lead
+lead_form n b r f [] e k lo hi = elim k [ ]
 lead_form n b r f ([] ∷ fs) e k lo hi = absurd e
 lead_form n b r f ((q ∷ g) ∷ fs) e (Memᴰ.head p) lo hi =
     let same : r ≡ q = cc in

@@ -83,6 +83,7 @@ module _ (lo hi : ℕ) where
 
 pub text_first : (s : List ℕ) (d : Due) → 0 < length s → due_of d ≡ lead forms (get_or s 0 0) → text_from (due_of d) (drop 1 s) ≡ is_text s
 unfolding text_from next
+text_first [] d p e = elim p [ ]
 text_first (b ∷ s) d p e = rw e
 
 pub text_never : (s : List ℕ) (d : Due) → 0 < length s → due_of d ≡ lead forms (get_or s 0 0) → 3 < d.left → false ≡ is_text s

@@ -5,7 +5,7 @@
 -- gives a code point fewer octets (`shortest`).
 use mathlib.Core.Path.{◌≡◌, refl, sym, ap, subst, ◌∙◌}
 use mathlib.Core.Logic.{◌↔◌}
-use mathlib.Core.Bool.{true, false, ◌&&◌, ◌||◌, not, false≢true}
+use mathlib.Core.Bool.{true, ◌&&◌, ◌||◌, not, false≢true}
 use mathlib.Core.List.{List, [], ◌∷◌, ◌++◌, map, Memᴰ}
 use mathlib.Core.Option.{Option, some, none, bind, bind-eq-some_iff, none-ne-some, some-injective}
 use Prim.Native.Nat.{ℕ, zero, suc, ◌+◌, ◌-◌, ◌*◌, ◌/◌, ◌%◌, ◌^◌, ◌≤◌, ◌<◌}
@@ -37,7 +37,8 @@ unfolding decode_from following
 decode_following r c zero s = decode_zero r (c / 64 ^ zero) s ∙ ap (λ (n : ℕ). keep r n (decode s)) (div-one c)
 decode_following r c (suc k) s =
     let bits : c / 64 ^ suc k * 64 + (0x80 + (c / 64 ^ k) % 64 - 0x80) ≡ c / 64 ^ k = rw (div_pow c k) (omega arith) in
-    rw (within_yes continuation (0x80 + (c / 64 ^ k) % 64) (omega arith) (omega arith), bits) (decode_following r c k s)
+    rw (within_yes continuation (0x80 + (c / 64 ^ k) % 64) (omega arith) (omega arith))
+    (ap (λ (v : ℕ). decode_from r v k (following k c ++ s)) bits ∙ decode_following r c k s)
 
 -- ---- the rows
 
@@ -49,6 +50,7 @@ module _ (part : Row → Range) where
 
   row_of_is : (n x : ℕ) {r : Row} (rs : List Row) → Rising n rs → Memᴰ r rs → (part r).lo ≤ x → x ≤ (part r).hi → (n ≤ x) × (row_of part rs x ≡ some r)
   unfolding row_of
+  row_of_is n x [] e m lo hi = elim m [ ]
   row_of_is n x (q ∷ rs) e (Memᴰ.head p) lo hi =
       let above : (part q).lo ≤ x = rw p at lo in
       (omega arith, rw (within_yes (part q) x above (rw p at hi)) (ap some (sym p)))

@@ -24,6 +24,7 @@ impl Due {
 }
 
 // What is due after b, the first byte of a character.
+#[tactic(auto, using(crate::proofs::Steps::rows), unfolding(crate::specs::Internal::due_of))]
 fn lead(b: u8) -> Due
     ensures { due_of result ≡ lead forms b }
 {
@@ -73,7 +74,7 @@ fn is_allowed(s: &[u8], i: usize, due: Due) -> bool
 fn character(s: &[u8]) -> usize
     requires { 0 < length s.now }
     ensures within { result ≤ length s.now }
-    ensures s_value { pick (eqb result 0) false (is_text (drop result s.now)) ≡ is_text s.now }
+    ensures rest { pick (eqb result 0) false (is_text (drop result s.now)) ≡ is_text s.now }
 {
     let mut due = lead(s[0]);
     // most letters beyond ASCII have two bytes, and are passed faster without the loop
@@ -105,7 +106,7 @@ fn character(s: &[u8]) -> usize
 fn pass_characters(s: &[u8], from: usize) -> usize
     requires { from + 8 ≤ length s.now }
     ensures within { (from < result) × (result ≤ length s.now + 1) }
-    ensures false_value { pick (leb result (length s.now)) (is_text (drop result s.now)) false ≡ is_text (drop from s.now) }
+    ensures rest { pick (leb result (length s.now)) (is_text (drop result s.now)) false ≡ is_text (drop from s.now) }
 {
     let mut i = from + utf8_plain::plain_before(s, from);
     while i < s.len() {

@@ -77,4 +77,4 @@ pub puts_moved : (k n a : ℕ) (b : List ℕ) (i x m : ℕ) (s : State) (out tab
 unfolding put_moved moved_to
 puts_moved k n a b i x m s out table r named number e = rw (number, named) at e
 
-pub ruleset may-advance = (start_word, free, end_word)
+pub ruleset may_advance = (start_word, free, end_word)

@@ -1,0 +1,40 @@
+-- `checker::entry_at` meets its contract.
+use mathlib.Core.Path.{sym, ◌∙◌}
+use borrow.Author.Rules.{rules}
+use borrow.Author.Tests.{lt-ltb, le-ltb}
+use Rattle.prelude.specs.Answer.{bind}
+use Rattle.table.proofs.Blocks.{counted_none}
+use Rattle.checker.specs.Check.{entry_at}
+use Rattle.checker.proofs.entry_at.Goals as goal
+
+pub overflow_sub-entry : goal.overflow_sub-entry
+unfolding entry_at bind
+overflow_sub-entry c = search rules
+
+pub overflow_sub-entry-then-delta-p : goal.overflow_sub-entry-then-delta-p
+unfolding entry_at bind
+overflow_sub-entry-then-delta-p c = search rules
+
+pub slice_bounds-is_among-end : goal.slice_bounds-is_among-end
+unfolding entry_at bind
+slice_bounds-is_among-end c = search rules
+
+pub overflow_cast-entry : goal.overflow_cast-entry
+unfolding entry_at bind
+overflow_cast-entry c = search rules
+
+pub is_among-requires : goal.is_among-requires
+unfolding entry_at bind
+is_among-requires c = (search rules, counted_none _)
+
+pub returns-then-is_among : goal.returns-then-is_among
+unfolding entry_at bind
+returns-then-is_among c = rw (lt-ltb _ _ c.if-delta-p.true, sym c.is_among.ensures ∙ c.if-is_among.true)
+
+pub returns-else-is_among : goal.returns-else-is_among
+unfolding entry_at bind
+returns-else-is_among c = rw (lt-ltb _ _ c.if-delta-p.true, sym c.is_among.ensures ∙ c.if-is_among.false)
+
+pub returns-else-delta-p : goal.returns-else-delta-p
+unfolding entry_at bind
+returns-else-delta-p c = rw (le-ltb _ _ c.if-delta-p.false)

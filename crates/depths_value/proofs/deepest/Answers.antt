@@ -1,0 +1,22 @@
+-- `depths_value::deepest` meets its contract.
+use mathlib.Core.Path.{refl}
+use borrow.Author.Rules.{rules}
+use native.Mathlib.Omega.{arith}
+use Rattle.scan.proofs.Places.{token_less, token_inside}
+use Rattle.depths_value.proofs.Laws.{deepest_end, deepest_error, deepest_token}
+use Rattle.depths_value.proofs.deepest.Goals as goal
+
+pub loop-at-init : goal.loop-at-init
+loop-at-init c = (search rules, refl)
+
+pub loop-at-smaller : goal.loop-at-smaller
+loop-at-smaller c = search (token_less, arith)
+
+pub loop-at-preserved : goal.loop-at-preserved
+loop-at-preserved c = (search (token_inside, arith), search deepest_token)
+
+pub returns-in-Err : goal.returns-in-Err
+returns-in-Err c = search deepest_error
+
+pub returns : goal.returns
+returns c = search deepest_end

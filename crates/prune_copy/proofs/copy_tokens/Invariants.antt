@@ -1,0 +1,17 @@
+-- `prune_copy::copy_tokens` meets its contract. The invariant: the tokens that remain give the result of all.
+use mathlib.Core.Path.{◌≡◌}
+use Prim.Native.Nat.{◌-◌, ◌≤◌}
+use lib.ListN.{length}
+use Rattle.prune_tokens.specs.Tokens.{heads}
+use Rattle.prune_marks.specs.Marks.{starts_in, marks_in}
+use Rattle.prune_copy.specs.Copy.{copy_tokens}
+use Rattle.prune_copy.proofs.copy_tokens.Given as goal
+
+abbrev pub invariant-loop-at : goal.invariant-loop-at
+invariant-loop-at l =
+    (l.at ≤ length l.region) × (length l.out ≡ length l.initial.out) × (length l.new ≡ length l.initial.new)
+    × (copy_tokens l.region (starts_in l.t) (marks_in l.t) (heads l.region l.end l.at) l.next.state l.out l.new
+    ≡ copy_tokens l.region (starts_in l.t) (marks_in l.t) (heads l.region l.end l.start) l.initial.next.state l.initial.out l.initial.new)
+
+abbrev pub decreases-loop-at : goal.decreases-loop-at
+decreases-loop-at l = length l.region - l.at
