@@ -1,7 +1,7 @@
 /*
  * twine.h: a reader and a writer of plan files in the Twine wire format.
  *
- * Link with libtwine.a, which `rt staticlib twine` writes to target/staticlib/ (x86-64 Linux). Nothing is
+ * Link with libtwine.a, which bindings/c/archive writes to crates/twine/out/ (x86-64 Linux). Nothing is
  * allocated, printed or kept between calls.
  *
  * A file is values back to back, the region, and one last byte, which names the value at which a reader starts,

@@ -1,4 +1,4 @@
-//! Links libtwine.a, from the directory that TWINE_LIB_DIR names or else from target/staticlib of the repository that the package is in.
+//! Links libtwine.a, from the directory that TWINE_LIB_DIR names or else from crates/twine/out of the repository that the package is in.
 //! `differential` and `bench` are built by this file too.
 
 use std::env;
@@ -12,13 +12,13 @@ fn main() {
         Some(named) => here.join(named),
         None => {
             let repository = here.ancestors().find(|above| above.join("crates.txt").is_file());
-            repository.unwrap_or(&here).join("target/staticlib")
+            repository.unwrap_or(&here).join("crates/twine/out")
         }
     };
     let archive = dir.join("libtwine.a");
     if !archive.is_file() {
         println!(
-            "cargo::error=there is no {}; run: rt staticlib twine (in the repository's root), or name its directory in TWINE_LIB_DIR",
+            "cargo::error=there is no {}; run: bindings/c/archive (in the repository's root), or name its directory in TWINE_LIB_DIR",
             archive.display()
         );
         return;

@@ -15,7 +15,7 @@ use Rattle.leb128.specs.declared.Mode.{Mode}
 use Rattle.values.specs.Values.{Value, region, starts, Values}
 use Rattle.values.proofs.Laws.{length_starts}
 use Rattle.checker_value.specs.Walk.{between, starts_from}
-use Rattle.checker.specs.Check.{check_in, Checked, checked, filled, listed, check_of}
+use Rattle.checker.specs.Check.{check_in, Checked, checked, filled, check_of}
 use Rattle.guarantees.specs.Accepts.{Accepted}
 use Rattle.guarantees.proofs.Files.{bytes_whole, found_ok, answer_ok}
 use Rattle.guarantees.proofs.WalkTokens.{taken_next}

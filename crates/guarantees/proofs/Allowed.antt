@@ -27,7 +27,7 @@ use Rattle.values.proofs.Members.{each_imp}
 use Rattle.writer.specs.Call.{Call}
 use Rattle.writer.specs.Given.{Given}
 use Rattle.guarantees_writer.specs.Model.{Part, request_of, ModelValue, form_of, forms_of, value_at, values_at, end_of}
-use Rattle.guarantees_writer.specs.Model.{Model, model, empty_model, pending_in, Request, adds, ends}
+use Rattle.guarantees_writer.specs.Model.{Model, empty_model, pending_in, Request, adds, ends}
 use Rattle.guarantees_writer.specs.History.{model_run}
 use Rattle.guarantees_writer.proofs.Models.{pending_form, length_forms, region_snoc, starts_snoc, start_lt, end_le}
 use Rattle.guarantees.proofs.Invariant.{Fit, GoodValue, Finished, ModelInvariant, Clear, added_by, invariant_run}

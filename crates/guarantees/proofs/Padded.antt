@@ -1,5 +1,5 @@
 -- A file that is well formed in the tolerant mode is well formed in the strict one, with the same values and entry; or the strict check says OVERLONG.
-use mathlib.Core.Path.{◌≡◌, sym, ap, ◌∙◌, subst}
+use mathlib.Core.Path.{sym, ap, ◌∙◌, subst}
 use mathlib.Core.Logic.{◌⊎◌, inl, inr}
 use Prim.Native.Nat.{ℕ}
 use mathlib.Core.List.{List}

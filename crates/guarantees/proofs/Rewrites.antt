@@ -5,9 +5,9 @@
 -- values are taken, and the close; a program can make the calls (`calls_given`); the model yields the file
 -- (`model_rewrites`).
 use mathlib.Core.Path.{◌≡◌, refl, sym, ap, ◌∙◌, subst}
-use mathlib.Core.Bool.{Bool, true, false, not, ◌&&◌, and_false}
+use mathlib.Core.Bool.{Bool, true, false, not, ◌&&◌, and-false}
 use mathlib.Core.List.{List, [], ◌∷◌, ◌++◌, append-nil}
-use Prim.Native.Nat.{ℕ, ◌+◌, ◌-◌, ◌≤◌, ◌<◌, min}
+use Prim.Native.Nat.{ℕ, ◌+◌, ◌≤◌, ◌<◌, min}
 use native.Mathlib.Nat.{zero-add}
 use native.Mathlib.Omega.{arith}
 use lib.Dec.{eqb, ltb, leb}
@@ -180,7 +180,7 @@ module _ (n m : ℕ) where
       let count : pending_in (model_value p []) ≡ length v.items = pending_part q t ∙ sym f.count in
       leads_cons n m (call_of q t) (calls_at (q + length (emit t)) v.items) (adds p) (model done between) _
       (request_call q t f.head.allowed (bytes_body t (bytes_front (emit t) (bytes v.items) b)))
-      (answered n m (model done between) q t (ap length (bytes_between done) ∙ at) f.head a.0 refl (and_false (not (immediate (rule t.kind))))
+      (answered n m (model done between) q t (ap length (bytes_between done) ∙ at) f.head a.0 refl (and-false (not (immediate (rule t.kind))))
       (lt-leb m (length done) word) (omega (arith, items_room v.items)))
       (takes_items done (model_value p []) (q + length (emit t)) v.items next count f.items a.1 (bytes_after (emit t) (bytes v.items) b)
       (omega arith))
@@ -194,7 +194,7 @@ module _ (n m : ℕ) where
       let w = model_value_of q v in
       let own = bytes (tokens v) in
       let long = length-append own (region vs) in
-      let first = takes_value done q v at f.0 (rw start a.0) (bytes_front own (region vs) b) (omega arith) (omega arith) in
+      let first = takes_value done q v at f.0 (subst (λ l. HasTargets l q (tokens v)) (sym start) a.0) (bytes_front own (region vs) b) (omega arith) (omega arith) in
       let more = takes_values (done ++ (w ∷ [])) (q + length own) (listed ++ (q ∷ [])) vs (end_one done q listed v at f.0 a.0)
       (starts_one done q listed v at f.0 a.0 start) f.1 a.1 (bytes_after own (region vs) b) (omega arith)
       (omega (arith, length-append done (w ∷ []))) in

@@ -2,10 +2,10 @@
 --
 -- In order: its body; the value on its head is what the pages say (`value_on_token`); it is looked at (`peek_emit`),
 -- and so are items one after the other (`walk_emit`).
-use mathlib.Core.Path.{◌≡◌, refl, sym}
+use mathlib.Core.Path.{◌≡◌, refl, sym, subst}
 use mathlib.Core.Bool.{Bool, true, false}
 use mathlib.Core.List.{List, [], ◌∷◌, ◌++◌, append_assoc}
-use Prim.Native.Nat.{ℕ, ◌+◌, ◌-◌, ◌*◌, ◌≤◌, ◌<◌}
+use Prim.Native.Nat.{ℕ, suc, ◌+◌, ◌-◌, ◌*◌, ◌≤◌, ◌<◌}
 use native.Mathlib.Nat.{add-zero}
 use native.Mathlib.Omega.{arith}
 use lib.Dec.{eqb}
@@ -110,5 +110,6 @@ walk_emit mode done p (t ∷ ts) us s i targeted =
     let more = walk_emit mode done (p ++ emit t) ts us s i.1 (rw long targeted.1) in
     let sum : length p + (length (emit t) + length (bytes ts)) ≡ length p + length (emit t) + length (bytes ts) = omega arith in
     let peeked = peek_emit true p t (bytes (ts ++ us) ++ s) (fits_item t i.0 _) (λ k. (targeted.0 k).0) in
-    rw (append_assoc (emit t) (bytes (ts ++ us)) s, ← peeked, length-append (emit t) (bytes ts), sum)
-    (rw (long, append_assoc p (emit t) (bytes (ts ++ us) ++ s)) at more)
+    let whole : bytes ((t ∷ ts) ++ us) ++ s ≡ emit t ++ (bytes (ts ++ us) ++ s) = append_assoc (emit t) (bytes (ts ++ us)) s in
+    subst (λ b. skip_items mode (p ++ b) (suc (length ts)) (length p) ≡ ok (length p + length (bytes (t ∷ ts)))) (sym whole)
+    (rw (← peeked, length-append (emit t) (bytes ts), sum) (rw (long, append_assoc p (emit t) (bytes (ts ++ us) ++ s)) at more))

@@ -11,7 +11,6 @@ use Rattle.writer.specs.Call.{Call, scalar, integer, float32, float64, text, byt
 use Rattle.writer.specs.Call.{open_variant_n, close}
 use Rattle.writer.specs.declared.Scalar.TheVariants.{False, True, Null}
 use Rattle.reader_value.specs.declared.Value.{Value}
-use Rattle.reader_value.specs.declared.Value.TheVariants as Value
 
 abbrev pub first : ℕ → ℕ → ℕ → ℕ → ℕ
 first q k n a = q + length (emit (token k n a []))

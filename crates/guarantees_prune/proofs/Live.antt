@@ -2,7 +2,7 @@
 --
 -- In order: value number i: the targets of its tokens, and their numbers (`targeted`, `number_lt`); tokens that hold the same have the same targets
 -- (`same_targets`); so a value that is kept leads where it led (`leads_kept`), and a path of the old values is one of the new.
-use mathlib.Core.Path.{◌≡◌, refl, sym, ap, ◌∙◌}
+use mathlib.Core.Path.{◌≡◌, refl, sym, ap, ◌∙◌, subst}
 use mathlib.Core.Bool.{true, false≢true, or_comm}
 use mathlib.Core.List.{List, [], ◌∷◌, ◌++◌, append-nil, map}
 use Prim.Native.Nat.{ℕ, zero, suc, ◌+◌, ◌<◌}
@@ -42,9 +42,10 @@ has_targets_at : (done : List ℕ) (at : ℕ) (vs : List Value) (i : ℕ) → i 
     → HasTargets (done ++ take i (starts at vs)) (get_or (starts at vs) i 0) (tokens_of vs i)
 unfolding starts
 has_targets_at done at [] i h b = absurd (omega arith)
-has_targets_at done at (v ∷ vs) zero h b = rw append-nil b.0
+has_targets_at done at (v ∷ vs) zero h b = subst (λ l. HasTargets l at (tokens v)) (sym (append-nil done)) b.0
 has_targets_at done at (v ∷ vs) (suc i) h b =
-    rw (← append_snoc) (has_targets_at (done ++ (at ∷ [])) (at + length (bytes (tokens v))) vs i (omega arith) b.1)
+    subst (λ l. HasTargets l (get_or (starts at (v ∷ vs)) (suc i) 0) (tokens_of (v ∷ vs) (suc i))) (append_snoc done at (take i (starts (at + length (bytes (tokens v))) vs)))
+    (has_targets_at (done ++ (at ∷ [])) (at + length (bytes (tokens v))) vs i (omega arith) b.1)
 
 -- the targets of its tokens are starts of values before it
 pub targeted : {mode : Mode} (vs : List Value) → Values mode vs → (i : ℕ) → i < length vs

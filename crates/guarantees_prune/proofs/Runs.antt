@@ -82,6 +82,7 @@ first_by (later h) now after = after refl h
 pub until_error : (cs : List Call) (w : State) (out table : List ℕ) (f : ℕ) → FirstError f (runs cs w out table).answers
     → (run_until cs w out table).answer ≡ error f
 unfolding run_until runs
+until_error [] w out table f h = elim h [ ]
 until_error (c ∷ cs) w out table f h =
     let r = step c w out table in
     first_by h (λ e. rw e e) (λ e more. rw e (until_error cs r.writer r.out r.table f more))

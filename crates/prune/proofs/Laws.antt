@@ -24,7 +24,7 @@ use Rattle.checker.specs.Answers.{check_answer}
 use Rattle.checker.proofs.Found.{Found, accepted as check-accepted, refused as check-refused}
 use Rattle.writer_refusal.specs.Refusal.{Verdict}
 use Rattle.writer_refusal.specs.declared.State.{State}
-use Rattle.writer.specs.Step.{fresh, close_at, Result, result}
+use Rattle.writer.specs.Step.{fresh, close_at, Result}
 use Rattle.writer.specs.Answers.{wrote}
 use Rattle.writer.specs.declared.WriteAnswer.TheVariants as answers
 use Rattle.writer.specs.declared.WriteResult.{WriteResult}

@@ -165,6 +165,10 @@ module _ (t : List ℕ) (i : ℕ) (inside : i + 4 ≤ length t) where
   four_marks (suc (suc (suc zero))) a b c d h ea eb ec ed = omega (arith, on 3 (omega arith))
   four_marks (suc (suc (suc (suc r)))) a b c d h ea eb ec ed = absurd (omega arith)
 
+  -- what four words keep is no less than their marks from number i + r on
+  pub place_fits : NumberedTo (length t) t → (g r n x : ℕ) → i ≡ 4 * g → n ≡ four t i → up_to (i + r) + x ≡ up_to (i + 4) → x ≤ n
+  place_fits numbered g r n x at_g is e = let all : n ≡ up_to (i + 4) = is ∙ rw at_g (numbered g (omega arith)) in omega arith
+
   -- what four words keep, less their marks from number i + r on
   pub place_in : NumberedTo (length t) t → (g r n x j : ℕ) → i ≡ 4 * g → r < 4 → j ≡ i + r → n ≡ four t i → up_to (i + r) + x ≡ up_to (i + 4)
       → (x ≤ n) × (n - x ≡ up_to j)

@@ -13,18 +13,19 @@
 // Its numbers are decimal; one too large for its argument counts as the largest, a Z too small as the least. With @ROOM,WORDS after it a
 // CALL gets no more than those bytes and words.
 use super::parts::{JUNK_BYTE, JUNK_WORD, first_bytes, first_words, lend_bytes, lend_words};
-use super::print::{print_bytes, print_check, print_table, print_text, print_write};
+use super::print::{print_bytes, print_check, print_table, print_write};
 use super::words::{
     cut_after, cut_before, find_byte, parse_hex, parse_integer, parse_number, parse_number32,
 };
 use leb128::Mode;
+use std::io;
 use writer::{Scalar, WriteResult, Writer};
 
 // Prints the answer of a call; returns the next state.
-fn call_done(r: WriteResult) -> Writer {
+fn call_done(rt: &impl Print, r: WriteResult) -> io::Result<Writer> {
     let answer = r.answer;
-    print_write(answer);
-    r.writer
+    print_write(rt, answer)?;
+    Ok(r.writer)
 }
 
 // ---- one call
@@ -58,77 +59,102 @@ fn call_zeros(w: Writer, n: usize, out: &mut [u8], starts: &mut [u32]) -> WriteR
 }
 
 // Makes the call of a letter and its arguments s; returns the next state.
-fn call_letter(w: Writer, letter: u8, s: &[u8], out: &mut [u8], starts: &mut [u32]) -> Writer {
+fn call_letter(
+    rt: &impl Print,
+    w: Writer,
+    letter: u8,
+    s: &[u8],
+    out: &mut [u8],
+    starts: &mut [u32],
+) -> io::Result<Writer> {
     match letter {
-        b'f' | b't' | b'n' => call_done(w.scalar(scalar_of(letter), out, starts)),
-        b'i' => call_done(w.integer(parse_integer(s), out, starts)),
-        b's' => call_done(w.float32(parse_number32(s), out, starts)),
-        b'd' => call_done(w.float64(parse_number(s) as u64, out, starts)),
-        _ => call_body_or_target(w, letter, s, out, starts),
+        b'f' | b't' | b'n' => call_done(rt, w.scalar(scalar_of(letter), out, starts)),
+        b'i' => call_done(rt, w.integer(parse_integer(s), out, starts)),
+        b's' => call_done(rt, w.float32(parse_number32(s), out, starts)),
+        b'd' => call_done(rt, w.float64(parse_number(s) as u64, out, starts)),
+        _ => call_body_or_target(rt, w, letter, s, out, starts),
     }
 }
 
 fn call_body_or_target(
+    rt: &impl Print,
     w: Writer,
     letter: u8,
     s: &[u8],
     out: &mut [u8],
     starts: &mut [u32],
-) -> Writer {
+) -> io::Result<Writer> {
     match letter {
-        b'"' => call_done(call_text(w, s, out, starts)),
-        b'#' => call_done(call_bytes(w, s, out, starts)),
-        b'z' => call_done(call_zeros(w, parse_number(s), out, starts)),
-        b'v' => call_done(w.variant(parse_number32(s), out, starts)),
-        b'r' => call_done(w.reference(parse_number(s), out, starts)),
-        b'p' => call_done(w.pointer(parse_number(s), out, starts)),
-        _ => call_open_or_close(w, letter, s, out, starts),
+        b'"' => call_done(rt, call_text(w, s, out, starts)),
+        b'#' => call_done(rt, call_bytes(w, s, out, starts)),
+        b'z' => call_done(rt, call_zeros(w, parse_number(s), out, starts)),
+        b'v' => call_done(rt, w.variant(parse_number32(s), out, starts)),
+        b'r' => call_done(rt, w.reference(parse_number(s), out, starts)),
+        b'p' => call_done(rt, w.pointer(parse_number(s), out, starts)),
+        _ => call_open_or_close(rt, w, letter, s, out, starts),
     }
 }
 
 fn call_open_or_close(
+    rt: &impl Print,
     w: Writer,
     letter: u8,
     s: &[u8],
     out: &mut [u8],
     starts: &mut [u32],
-) -> Writer {
+) -> io::Result<Writer> {
     match letter {
-        b'a' => call_done(w.open_array(parse_number(s) as u64, out, starts)),
-        b'm' => call_done(w.open_map(parse_number(s) as u64, out, starts)),
-        b'g' => call_done(w.open_tag(parse_number(s) as u64, out, starts)),
-        b'o' => call_done(w.open_variant1(parse_number32(s), out, starts)),
-        b'x' => call_done(w.open_variant_n(
-            parse_number32(cut_before(s, b',')),
-            parse_number(cut_after(s, b',')) as u64,
-            out,
-            starts,
-        )),
-        b'c' => call_done(w.close(parse_number(s), out, starts)),
+        b'a' => call_done(rt, w.open_array(parse_number(s) as u64, out, starts)),
+        b'm' => call_done(rt, w.open_map(parse_number(s) as u64, out, starts)),
+        b'g' => call_done(rt, w.open_tag(parse_number(s) as u64, out, starts)),
+        b'o' => call_done(rt, w.open_variant1(parse_number32(s), out, starts)),
+        b'x' => call_done(
+            rt,
+            w.open_variant_n(
+                parse_number32(cut_before(s, b',')),
+                parse_number(cut_after(s, b',')) as u64,
+                out,
+                starts,
+            ),
+        ),
+        b'c' => call_done(rt, w.close(parse_number(s), out, starts)),
         _ => {
-            print_text(b" ?");
-            w
+            print!(rt; " ?")?;
+            Ok(w)
         }
     }
 }
 
 // Makes the call that a word spells; returns the next state.
-fn call_word(w: Writer, s: &[u8], out: &mut [u8], starts: &mut [u32]) -> Writer {
+fn call_word(
+    rt: &impl Print,
+    w: Writer,
+    s: &[u8],
+    out: &mut [u8],
+    starts: &mut [u32],
+) -> io::Result<Writer> {
     if s.len() == 0 {
-        return w;
+        return Ok(w);
     }
-    call_letter(w, s[0], &s[1..], out, starts)
+    call_letter(rt, w, s[0], &s[1..], out, starts)
 }
 
 // The same; if the word has an @, with no more of the output and the table than it says.
-fn call_lent(w: Writer, s: &[u8], out: &mut [u8], starts: &mut [u32]) -> Writer {
+fn call_lent(
+    rt: &impl Print,
+    w: Writer,
+    s: &[u8],
+    out: &mut [u8],
+    starts: &mut [u32],
+) -> io::Result<Writer> {
     let lent = cut_after(s, b'@');
     if lent.len() == 0 {
-        return call_word(w, s, out, starts);
+        return call_word(rt, w, s, out, starts);
     }
     let room = parse_number(cut_before(lent, b','));
     let words = parse_number(cut_after(lent, b','));
     call_word(
+        rt,
         w,
         cut_before(s, b'@'),
         lend_bytes(out, room),
@@ -139,15 +165,15 @@ fn call_lent(w: Writer, s: &[u8], out: &mut [u8], starts: &mut [u32]) -> Writer 
 // ---- all calls of a line
 
 // Makes the calls that the words of s spell; returns the last state.
-fn call_each(s: &[u8], out: &mut [u8], starts: &mut [u32]) -> Writer {
+fn call_each(rt: &impl Print, s: &[u8], out: &mut [u8], starts: &mut [u32]) -> io::Result<Writer> {
     let mut w = Writer::new();
     let mut at: usize = 0;
     while at < s.len() {
         let end = find_byte(s, at, b' ');
-        w = call_lent(w, &s[at..end], out, starts);
+        w = call_lent(rt, w, &s[at..end], out, starts)?;
         at = end + 1;
     }
-    w
+    Ok(w)
 }
 
 // Whether no byte from at on has changed.
@@ -174,36 +200,42 @@ fn is_junk_words(part: &[u32], at: usize) -> bool {
     true
 }
 
-fn check_closed(file: &[u8]) {
+fn check_closed(rt: &impl Print, file: &[u8]) -> io::Result<()> {
     let mut starts = [JUNK_WORD; 32];
-    print_check(checker::check(file, &mut starts, Mode::Strict));
+    print_check(rt, checker::check(file, &mut starts, Mode::Strict))
 }
 
 // What the calls have written and listed.
-fn print_written(w: Writer, out: &[u8], starts: &[u32]) {
+fn print_written(rt: &impl Print, w: Writer, out: &[u8], starts: &[u32]) -> io::Result<()> {
     let state = w.state;
-    print_text(b" =");
-    print_bytes(first_bytes(out, state.written));
-    print_text(b" /");
-    print_table(first_words(starts, state.count));
+    print!(rt; " =")?;
+    print_bytes(rt, first_bytes(out, state.written))?;
+    print!(rt; " /")?;
+    print_table(rt, first_words(starts, state.count))?;
     let kept = is_junk_bytes(out, state.written) & is_junk_words(starts, state.count);
     if !kept {
-        print_text(b" !");
+        print!(rt; " !")?;
     }
     if state.closed {
-        print_text(b" /");
-        check_closed(first_bytes(out, state.written));
+        print!(rt; " /")?;
+        check_closed(rt, first_bytes(out, state.written))?;
     }
+    Ok(())
 }
 
-fn call_all(s: &[u8], out: &mut [u8], starts: &mut [u32]) {
-    let w = call_each(s, out, starts);
-    print_written(w, out, starts);
+fn call_all(rt: &impl Print, s: &[u8], out: &mut [u8], starts: &mut [u32]) -> io::Result<()> {
+    let w = call_each(rt, s, out, starts)?;
+    print_written(rt, w, out, starts)
 }
 
 // With an output of `room` bytes and a table of n words.
-pub(crate) fn call_all_in(room: usize, n: usize, s: &[u8]) {
+pub(crate) fn call_all_in(rt: &impl Print, room: usize, n: usize, s: &[u8]) -> io::Result<()> {
     let mut out = [JUNK_BYTE; 1024];
     let mut starts = [JUNK_WORD; 32];
-    call_all(s, lend_bytes(&mut out, room), lend_words(&mut starts, n));
+    call_all(
+        rt,
+        s,
+        lend_bytes(&mut out, room),
+        lend_words(&mut starts, n),
+    )
 }

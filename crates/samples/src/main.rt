@@ -23,6 +23,8 @@
 // begins with # is printed as it is.
 #![tactic(auto)]
 
+ghost use Rattle.std.specs.Io.{ReadsAtMost};
+
 mod calls;
 mod parts;
 mod print;
@@ -30,13 +32,14 @@ mod words;
 
 use calls::call_all_in;
 use leb128::Mode;
-use libc::STDIN_FILENO;
 use parts::{JUNK_WORD, lend_words};
 use print::{
     print_body_place, print_bytes, print_check, print_error, print_follow, print_head,
-    print_offset, print_read, print_table, print_text,
+    print_offset, print_read, print_table,
 };
 use scan::ScanResult;
+use std::io;
+use std::io::{Input, Read};
 use words::{find_byte, find_last_word, first_word, parse_hex, parse_number, skip_word};
 
 // What a line asks.
@@ -57,37 +60,19 @@ enum Query {
 
 // The query of a name.
 fn query_of(name: &[u8]) -> Query {
-    if check::same(name, b"tokens") {
-        return Query::Tokens;
+    match name {
+        b"tokens" => Query::Tokens,
+        b"read" => Query::Read,
+        b"skip" => Query::Skip,
+        b"item" => Query::Item,
+        b"follow" => Query::Follow,
+        b"lookup" => Query::Lookup,
+        b"body" => Query::Body,
+        b"check" => Query::Check,
+        b"depths" => Query::Depths,
+        b"write" => Query::Write,
+        _ => Query::Unknown,
     }
-    if check::same(name, b"read") {
-        return Query::Read;
-    }
-    if check::same(name, b"skip") {
-        return Query::Skip;
-    }
-    if check::same(name, b"item") {
-        return Query::Item;
-    }
-    if check::same(name, b"follow") {
-        return Query::Follow;
-    }
-    if check::same(name, b"lookup") {
-        return Query::Lookup;
-    }
-    if check::same(name, b"body") {
-        return Query::Body;
-    }
-    if check::same(name, b"check") {
-        return Query::Check;
-    }
-    if check::same(name, b"depths") {
-        return Query::Depths;
-    }
-    if check::same(name, b"write") {
-        return Query::Write;
-    }
-    Query::Unknown
 }
 
 // ---- the queries
@@ -100,115 +85,138 @@ fn pending_after(pending: u64, items: u64) -> u64 {
     pending - 1
 }
 
-fn answer_tokens(region: &[u8]) {
+fn answer_tokens(rt: &impl Print, region: &[u8]) -> io::Result<()> {
     let mut at: usize = 0;
     let mut pending: u64 = 0;
     while (at < region.len()) | (0 < pending) {
         match scan::scan(region, at, 0 < pending, Mode::Strict) {
             ScanResult::Ok(h) => {
-                print_head(at, h);
+                print_head(rt, at, h)?;
                 pending = pending_after(pending, h.items);
                 at = h.end;
             }
-            ScanResult::Err(e) => {
-                print_error(e);
-                return;
-            }
+            ScanResult::Err(e) => return print_error(rt, e),
         }
     }
-    print_text(b" end");
+    print!(rt; " end")
 }
 
 // A lookup of the key that s spells in hex.
-fn answer_lookup(file: &[u8], at: usize, s: &[u8]) {
+fn answer_lookup(rt: &impl Print, file: &[u8], at: usize, s: &[u8]) -> io::Result<()> {
     let mut space = [0u8; 16384];
     let n = parse_hex(s, &mut space);
-    print_offset(reader::lookup(file, at, &space[..n], Mode::Strict));
+    print_offset(rt, reader::lookup(file, at, &space[..n], Mode::Strict))
 }
 
-fn answer_body(file: &[u8], at: usize) {
-    print_body_place(reader::body_place(file, at, Mode::Strict));
-    print_bytes(reader::body(file, at, Mode::Strict));
+fn answer_body(rt: &impl Print, file: &[u8], at: usize) -> io::Result<()> {
+    print_body_place(rt, reader::body_place(file, at, Mode::Strict))?;
+    print_bytes(rt, reader::body(file, at, Mode::Strict))
 }
 
-fn answer_check(file: &[u8], starts: &mut [u32]) {
-    print_check(checker::check(file, starts, Mode::Strict));
-    print_text(b":");
-    print_table(starts);
+fn answer_check(rt: &impl Print, file: &[u8], starts: &mut [u32]) -> io::Result<()> {
+    print_check(rt, checker::check(file, starts, Mode::Strict))?;
+    print!(rt; ":")?;
+    print_table(rt, starts)
 }
 
 // With a table of n words.
-fn answer_check_in(file: &[u8], n: usize) {
+fn answer_check_in(rt: &impl Print, file: &[u8], n: usize) -> io::Result<()> {
     let mut starts = [JUNK_WORD; 32];
-    answer_check(file, lend_words(&mut starts, n));
+    answer_check(rt, file, lend_words(&mut starts, n))
 }
 
-fn answer_depths(file: &[u8], starts: &mut [u32], second: &mut [u32]) {
-    print_check(depths::depths(file, starts, second, Mode::Strict));
-    print_text(b":");
-    print_table(starts);
-    print_text(b" /");
-    print_table(second);
+fn answer_depths(
+    rt: &impl Print,
+    file: &[u8],
+    starts: &mut [u32],
+    second: &mut [u32],
+) -> io::Result<()> {
+    print_check(rt, depths::depths(file, starts, second, Mode::Strict))?;
+    print!(rt; ":")?;
+    print_table(rt, starts)?;
+    print!(rt; " /")?;
+    print_table(rt, second)
 }
 
 // With tables of n and of m words.
-fn answer_depths_in(file: &[u8], n: usize, m: usize) {
+fn answer_depths_in(rt: &impl Print, file: &[u8], n: usize, m: usize) -> io::Result<()> {
     let mut starts = [JUNK_WORD; 32];
     let mut second = [JUNK_WORD; 32];
-    answer_depths(file, lend_words(&mut starts, n), lend_words(&mut second, m));
+    answer_depths(
+        rt,
+        file,
+        lend_words(&mut starts, n),
+        lend_words(&mut second, m),
+    )
 }
 
 // Prints the answer to a query with these arguments.
-fn answer_query(q: Query, args: &[u8], file: &[u8]) {
+fn answer_query(rt: &impl Print, q: Query, args: &[u8], file: &[u8]) -> io::Result<()> {
     let n = parse_number(args);
     let rest = skip_word(args);
     match q {
-        Query::Tokens => answer_tokens(file),
-        Query::Read => print_read(reader::read(file, n, Mode::Strict)),
-        Query::Skip => print_offset(reader::skip(file, n, Mode::Strict)),
-        Query::Item => print_offset(reader::item(file, n, parse_number(rest), Mode::Strict)),
-        Query::Follow => print_follow(reader::follow(file, n, Mode::Strict)),
-        Query::Lookup => answer_lookup(file, n, first_word(rest)),
-        Query::Body => answer_body(file, n),
-        Query::Check => answer_check_in(file, n),
-        Query::Depths => answer_depths_in(file, n, parse_number(rest)),
-        Query::Write => call_all_in(n, parse_number(rest), skip_word(rest)),
-        Query::Unknown => print_text(b" ?"),
+        Query::Tokens => answer_tokens(rt, file),
+        Query::Read => print_read(rt, reader::read(file, n, Mode::Strict)),
+        Query::Skip => print_offset(rt, reader::skip(file, n, Mode::Strict)),
+        Query::Item => print_offset(rt, reader::item(file, n, parse_number(rest), Mode::Strict)),
+        Query::Follow => print_follow(rt, reader::follow(file, n, Mode::Strict)),
+        Query::Lookup => answer_lookup(rt, file, n, first_word(rest)),
+        Query::Body => answer_body(rt, file, n),
+        Query::Check => answer_check_in(rt, file, n),
+        Query::Depths => answer_depths_in(rt, file, n, parse_number(rest)),
+        Query::Write => call_all_in(rt, n, parse_number(rest), skip_word(rest)),
+        Query::Unknown => print!(rt; " ?"),
     }
 }
 
 // ---- the lines
 
 // Prints the answer to a line, whose last word is the file.
-fn answer_line(line: &[u8]) {
+fn answer_line(rt: &impl Print, line: &[u8]) -> io::Result<()> {
     let mut space = [0u8; 16384];
     let start = find_last_word(line);
     let n = parse_hex(&line[start..], &mut space);
-    print_text(b":");
-    answer_query(query_of(first_word(line)), skip_word(line), &space[..n]);
+    print!(rt; ":")?;
+    answer_query(rt, query_of(first_word(line)), skip_word(line), &space[..n])
 }
 
-fn run_line(line: &[u8]) {
-    print_text(line);
+fn run_line(rt: &impl Print, line: &[u8]) -> io::Result<()> {
+    rt.write_all(line)?;
     if 0 < line.len() {
         if line[0] != b'#' {
-            answer_line(line);
+            answer_line(rt, line)?;
         }
     }
-    print_text(b"\n");
+    println!(rt)
 }
 
-fn run_lines(s: &[u8]) {
+fn run_lines(rt: &impl Print, s: &[u8]) -> io::Result<()> {
     let mut at: usize = 0;
     while at < s.len() {
         let end = find_byte(s, at, b'\n');
-        run_line(&s[at..end]);
+        run_line(rt, &s[at..end])?;
         at = end + 1;
     }
+    Ok(())
 }
 
-fn main() {
-    let mut input = io::large_buffer();
-    let n = io::read_full(STDIN_FILENO, &mut input);
-    run_lines(&input[..n]);
+// Reads until the buffer is full, the input ends or a read fails; returns how many bytes the buffer begins with.
+fn read_full(input: &mut impl Read, buffer: &mut [u8]) -> io::Result<usize>
+    ensures { ReadsAtMost result buffer.new }
+{
+    let mut done = 0;
+    while done < buffer.len() {
+        let n = input.read(&mut buffer[done..])?;
+        if n == 0 {
+            break;
+        }
+        done += n;
+    }
+    Ok(done)
+}
+
+fn main(rt: HostRuntime) -> io::Result<()> {
+    let mut input = [0u8; 65536];
+    let n = read_full(&mut rt.reader(), &mut input)?;
+    run_lines(&rt, &input[..n])
 }

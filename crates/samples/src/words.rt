@@ -1,6 +1,6 @@
 // The words of a line, and the numbers and bytes that they spell.
 ghost use Rattle.std.specs.Prelude.{◌≤◌, ◌<◌, ◌^◌, length};
-ghost use Rattle.io.specs.Counts.{IsPrefixLen};
+ghost use Rattle.std.specs.Counts.{IsPrefixLen};
 
 // ---- parts of a line
 

@@ -4,6 +4,7 @@
 #![tactic(auto)]
 
 ghost use Rattle.std.specs.Prelude.{◌≡◌, length};
+ghost use Rattle.std.specs.Io.{ReadsAtMost};
 ghost use Rattle.leb128.specs.declared.Mode.TheVariants.{Strict};
 ghost use Rattle.checker.specs.Check.{checked, check_of};
 ghost use Rattle.checker.specs.Answers.{check_answer};
@@ -11,42 +12,39 @@ ghost use Rattle.checker.specs.Answers.{check_answer};
 use checker::CheckResult;
 use error::{Error, ErrorKind};
 use leb128::Mode;
-use libc::{STDERR_FILENO, STDIN_FILENO, STDOUT_FILENO};
+use std::io;
+use std::io::{Input, Read};
 
-fn write(s: &[u8]) {
-    io::write_all(STDOUT_FILENO, s);
-}
-
-fn decimal(n: u64) {
-    write(b" ");
-    io::print_decimal(STDOUT_FILENO, n);
-}
-
-fn refusal(e: Error) {
+fn refusal(rt: &impl Print, e: Error) -> io::Result<()> {
     let kind = e.kind;
+    let place = e.place;
     let name = error::name(kind);
     let text = name.text;
     let len = name.len;
-    write(&text[..len]);
-    decimal(e.place as u64);
+    rt.write_all(&text[..len])?;
+    println!(rt; " {place}")
 }
 
-fn answer(r: CheckResult) {
+fn answer(rt: &impl Print, r: CheckResult) -> io::Result<()> {
     match r {
-        CheckResult::Ok { count, entry } => {
-            write(b"ok");
-            decimal(count as u64);
-            decimal(entry as u64);
-        }
-        CheckResult::Err(e) => refusal(e),
+        CheckResult::Ok { count, entry } => println!(rt; "ok {count} {entry}"),
+        CheckResult::Err(e) => refusal(rt, e),
     }
-    write(b"\n");
 }
 
-// Whether the input is at its end. `io::read_full` stops there, and also if a read fails.
-fn is_ended() -> bool {
-    let mut byte = [0u8; 1];
-    libc::read(STDIN_FILENO, &mut byte) == 0
+// Reads until the buffer is full, the input ends or a read fails; returns how many bytes the buffer begins with.
+fn read_full(input: &mut impl Read, buffer: &mut [u8]) -> io::Result<usize>
+    ensures { ReadsAtMost result buffer.new }
+{
+    let mut done = 0;
+    while done < buffer.len() {
+        let n = input.read(&mut buffer[done..])?;
+        if n == 0 {
+            break;
+        }
+        done += n;
+    }
+    Ok(done)
 }
 
 // Checks a plan file in the strict mode (document 02, W-203).
@@ -56,24 +54,22 @@ fn check(file: &[u8], starts: &mut [u32]) -> CheckResult
     checker::check(file, starts, Mode::Strict)
 }
 
-fn main() {
+fn main(rt: HostRuntime) -> io::Result<()> {
     let mut buffer = [0u8; 16385];
-    let n = io::read_full(STDIN_FILENO, &mut buffer);
+    let n = match read_full(&mut rt.reader(), &mut buffer) {
+        Ok(n) => n,
+        Err(_) => return eprintln!(rt; "twine_check: standard input can't be read"),
+    };
     if 16384 < n {
-        answer(CheckResult::Err(Error {
-            kind: ErrorKind::TooLong,
-            place: 0,
-        }));
-        return;
-    }
-    if !is_ended() {
-        io::write_all(
-            STDERR_FILENO,
-            b"twine_check: standard input can't be read\n",
+        return answer(
+            &rt,
+            CheckResult::Err(Error {
+                kind: ErrorKind::TooLong,
+                place: 0,
+            }),
         );
-        return;
     }
     // a value has at least one byte, so these words are never too few
     let mut starts = [0u32; 16384];
-    answer(check(&buffer[..n], &mut starts));
+    answer(&rt, check(&buffer[..n], &mut starts))
 }

@@ -24,6 +24,7 @@ impl Due {
 }
 
 // What is due after b, the first byte of a character.
+#[tactic(auto, using(crate::proofs::Steps::rows), unfolding(crate::specs::Internal::due_of))]
 fn lead(b: u8) -> Due
     ensures { due_of result ≡ lead forms b }
 {

@@ -6,7 +6,7 @@ use native.Mathlib.Omega.{arith}
 use lib.Dec.{leb}
 use lib.ListN.{length, set, length-set}
 use Rattle.prelude.specs.Bytes.{Put, PutAt}
-use Rattle.prelude.proofs.Parts.{put_same, put_append, put_at_same}
+use Rattle.prelude.proofs.Parts.{put_append, put_at_same}
 use Rattle.kind.specs.Kind.{rule}
 use Rattle.token.specs.Token.{token, put_if, emit}
 use Rattle.token.proofs.Laws.{length_emit}
@@ -32,17 +32,13 @@ put_if-number-requires c = rw (length-set, c.above_15-more.ensures) (omega (arit
 
 pub put_if-requires : goal.put_if-requires
 put_if-requires c =
-    let out = c.args.out.now in
-    let one : PutAt (put_if (leb 15 c.args.n) (c.args.n - 15)) (set out 0 (c.args.kind * 16 + c.nibble.result)) 1 c.put_if-number.new.out
-    c.put_if-number.result = rw c.above_15-more.ensures at c.put_if-number.ensures in
-    let same : length c.put_if-number.new.out ≡ length out = put_at_same _ _ _ _ _ one ∙ simp length-set in
+    let a = c.args in
+    let one : PutAt (put_if (leb 15 a.n) (a.n - 15)) _ 1 _ _ = rw c.above_15-more.ensures at c.put_if-number.ensures in
+    let same : length c.put_if-number.new.out ≡ length a.out.now = put_at_same _ _ _ _ _ one ∙ simp length-set in
     rw c.requires.1 (omega (arith, room _ _ _ _ c.requires.2, one.after, same))
 
 pub shape_of-out : goal.shape_of-out
-shape_of-out c =
-    put_same _ c.args.out.now _ _
-    (headed c.args.kind c.args.n c.args.args _ _ _ _ _ _ c.nibble.ensures.0
-    (rw c.above_15-more.ensures at c.put_if-number.ensures) (rw c.requires.1 at c.put_if.ensures))
+shape_of-out c = put_at_same _ _ _ _ _ c.put_if.ensures ∙ put_at_same _ _ _ _ _ c.put_if-number.ensures ∙ simp length-set
 
 pub returns : goal.returns
 returns c =

@@ -8,8 +8,8 @@ use Rattle.leb128.proofs.put_within.Given as goal
 
 abbrev pub invariant-loop-m : goal.invariant-loop-m
 invariant-loop-m l =
-    (sets l.rest l.i (put (9 - l.i) l.m) ≡ sets l.initial.rest 0 (put 9 l.n)) × (l.i + length (put (9 - l.i) l.m) ≡ length (put 9 l.n)) × (length l.rest ≡ length l.initial.rest)
-    × (l.m < top (9 - l.i))
+    (sets l.rest l.i (put (9 - l.i) l.m) ≡ sets l.initial.rest 0 (put 9 l.n)) × (l.i + length (put (9 - l.i) l.m) ≡ length (put 9 l.n))
+    × (length l.rest ≡ length l.initial.rest) × (l.m < top (9 - l.i))
 
 abbrev pub decreases-loop-m : goal.decreases-loop-m
 decreases-loop-m l = l.m

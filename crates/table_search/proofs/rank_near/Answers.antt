@@ -1,7 +1,7 @@
 -- `table_search::rank_near` meets its contract.
+use native.Mathlib.Omega.{arith}
 use Rattle.table_search.proofs.Quarters.{rank_window}
 use Rattle.table_search.proofs.rank_near.Goals as goal
 
 pub count_16-requires : goal.count_16-requires
-count_16-requires c =
-    rank_window c.args.x c.args.t.now c.window-base.result c.requires c.window-base.ensures c.if-t-base.true c.if-x-t.true
+count_16-requires c = rank_window c.args.x c.args.t.now c.window-base.result c.requires c.window-base.ensures (omega arith) (omega arith)

@@ -24,9 +24,6 @@ loop-due-init c = (omega arith, omega arith, omega arith, search (text_first, ar
 pub returns-then-not-is_allowed : goal.returns-then-not-is_allowed
 returns-then-not-is_allowed c = record { within = omega arith; rest = search (text_bad, arith) }
 
-pub loop-due-smaller : goal.loop-due-smaller
-loop-due-smaller c = rw c.new-due.ensures (omega arith)
-
 pub loop-due-preserved : goal.loop-due-preserved
 loop-due-preserved c =
     let l = c.loop-due in

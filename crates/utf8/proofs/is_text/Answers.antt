@@ -2,11 +2,5 @@
 use Rattle.utf8.proofs.Steps.{plain_all}
 use Rattle.utf8.proofs.is_text.Goals as goal
 
-pub returns-then-s-ge8 : goal.returns-then-s-ge8
-returns-then-s-ge8 c = c.is_long_text.ensures
-
 pub returns-then-is_short_plain : goal.returns-then-is_short_plain
 returns-then-is_short_plain c = plain_all _ (c.is_short_plain.ensures.plain.0 c.if-is_short_plain.true)
-
-pub returns : goal.returns
-returns c = c.is_text_from.ensures

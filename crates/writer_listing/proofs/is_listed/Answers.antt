@@ -6,7 +6,7 @@ use borrow.Author.Tests.{lt-ltb, le-ltb}
 use Rattle.writer_listing.proofs.is_listed.Goals as goal
 
 pub returns-then-written-at : goal.returns-then-written-at
-returns-then-written-at c = λ w h. rw (le-ltb _ _ c.if-written-at.true)
+returns-then-written-at c = λ w h. rw (le-ltb c.args.at c.args.written (omega arith))
 
 pub slice_bounds-is_among-end : goal.slice_bounds-is_among-end
 slice_bounds-is_among-end c = sym (length-take-le _ _ (omega arith))

@@ -1,5 +1,5 @@
 -- `writer::Writer::fit` meets its contract.
-use mathlib.Core.Path.{refl, sym, ◌∙◌}
+use mathlib.Core.Path.{sym, ◌∙◌}
 use native.Mathlib.Omega.{arith}
 use Rattle.kind.proofs.Laws.{rule_row}
 use Rattle.writer_refusal.proofs.Refusals.{ok_of_is_ok, refusal_short}
@@ -10,9 +10,6 @@ pub left-left-requires : goal.left-left-requires
 left-left-requires c =
     let r = rule_row c.args.kind in
     rw c.requires.1 (r.single, omega (arith, r.unit))
-
-pub may_write-requires : goal.may_write-requires
-may_write-requires c = (rw c.token_flags-request.ensures refl, omega (arith, c.size_by-size.ensures))
 
 pub returns-then-may_write : goal.returns-then-may_write
 returns-then-may_write c =

@@ -1,0 +1,6 @@
+-- `twine::twine_write_reference` meets its contract.
+use Rattle.abi_writer.proofs.Calls.{step_called}
+use Rattle.twine.proofs.twine_write_reference.Goals as goal
+
+pub returns : goal.returns
+returns c = search step_called

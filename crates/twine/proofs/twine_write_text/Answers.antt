@@ -1,0 +1,6 @@
+-- `twine::twine_write_text` meets its contract.
+use Rattle.abi_writer.proofs.Calls.{step_called}
+use Rattle.twine.proofs.twine_write_text.Goals as goal
+
+pub returns : goal.returns
+returns c = search step_called

@@ -1,6 +1,0 @@
--- `writer::Writer::pointer` meets its contract.
-use Rattle.writer.proofs.Writes.{put_number}
-use Rattle.writer.proofs.Writer.pointer.Goals as goal
-
-pub returns : goal.returns
-returns c = search put_number
