@@ -27,7 +27,7 @@ use Rattle.little_endian.specs.LittleEndian.{from_little}
 use Rattle.utf8_plain.specs.Plain.{Plain, plain_front, are_plain}
 use Rattle.utf8_plain.proofs.Laws as plain
 use Rattle.utf8.specs.Text.{Text, is_text}
-use Rattle.utf8.specs.Utf8.{Encodable, Row, utf8Rows, octets, encode, utf8, FitsRow, Utf8, decode}
+use Rattle.utf8.specs.Utf8.{Encodable, Row, utf8_rows, octets, encode, utf8, FitsRow, Utf8, decode}
 use Rattle.utf8.proofs.Laws as text-laws
 use Rattle.utf8.proofs.Utf8 as utf8-laws
 use Rattle.kind.specs.Kind.{rule, size, counted}
@@ -391,7 +391,7 @@ decode_utf8 = utf8-laws.decode_utf8
 pub utf8_decode : (s cs : List ℕ) → decode s ≡ some cs → Each Encodable cs × (utf8 cs ≡ s)
 utf8_decode = utf8-laws.utf8_decode
 
-pub shortest : (c : ℕ) → Encodable c → {r : Row} → Memᴰ r utf8Rows → FitsRow r c → length (encode c) ≤ length (octets (some r) c)
+pub shortest : (c : ℕ) → Encodable c → {r : Row} → Memᴰ r utf8_rows → FitsRow r c → length (encode c) ≤ length (octets (some r) c)
 shortest = utf8-laws.shortest
 
 pub get_put : (mode : Mode) (k least n : ℕ) (rest : List ℕ) → least ≤ n → n < top k → get mode k least (put k n ++ rest) ≡ got n rest

@@ -19,7 +19,7 @@ use Rattle.prelude.specs.Each.{Each}
 use Rattle.prelude.proofs.Lists.{each_mem}
 use Rattle.prelude.proofs.Tests.{split, pick_elim, and_l, and_r, or_true}
 use Rattle.utf8.specs.Text.{Range, range, continuation, forms, within, Matches, end, byte, Text, empty, character, is_text}
-use Rattle.utf8.specs.Utf8.{surrogates, Encodable, Row, row, utf8Rows, row_of, following, octets, encode, utf8, FitsRow, Utf8, keep, decode_from, decode}
+use Rattle.utf8.specs.Utf8.{surrogates, Encodable, Row, row, utf8_rows, row_of, following, octets, encode, utf8, FitsRow, Utf8, keep, decode_from, decode}
 use Rattle.utf8.proofs.Laws.{within_yes, text_is_text, is_text_text}
 
 -- ---- the bits of a code point
@@ -71,28 +71,28 @@ module _ (part : Row → Range) where
       (λ w e₁. let h = row_of_in x r rs e₁ in (Memᴰ.tail h.0, h.1, h.2))
       e
 
-module _ {r : Row} (m : Memᴰ r utf8Rows) where
+module _ {r : Row} (m : Memᴰ r utf8_rows) where
   -- the row by the code point
   encode_row : (c : ℕ) → r.numbers.lo ≤ c → c ≤ r.numbers.hi → encode c ≡ octets (some r) c
   encode_row c l h =
-      let rising : Rising (λ q. q.numbers) 0 utf8Rows = search rules in
-      ap (λ (o : Option Row). octets o c) (row_of_is (λ q. q.numbers) 0 c utf8Rows rising m l h).1
+      let rising : Rising (λ q. q.numbers) 0 utf8_rows = search rules in
+      ap (λ (o : Option Row). octets o c) (row_of_is (λ q. q.numbers) 0 c utf8_rows rising m l h).1
 
   -- and by the first octet
-  first_row : (b : ℕ) → r.first.lo ≤ b → b ≤ r.first.hi → row_of (λ q. q.first) utf8Rows b ≡ some r
+  first_row : (b : ℕ) → r.first.lo ≤ b → b ≤ r.first.hi → row_of (λ q. q.first) utf8_rows b ≡ some r
   first_row b l h =
-      let rising : Rising (λ q. q.first) 0 utf8Rows = search rules in
-      (row_of_is (λ q. q.first) 0 b utf8Rows rising m l h).1
+      let rising : Rising (λ q. q.first) 0 utf8_rows = search rules in
+      (row_of_is (λ q. q.first) 0 b utf8_rows rising m l h).1
 
   numbers_last : r.numbers.hi ≤ 0x10FFFF
-  numbers_last = each_mem (λ q. q.numbers.hi ≤ 0x10FFFF) utf8Rows (search rules) m
+  numbers_last = each_mem (λ q. q.numbers.hi ≤ 0x10FFFF) utf8_rows (search rules) m
 
 -- ---- what is encoded is a text, and is decoded
 
 -- the row of a code point, and the form of its octets
 record Placed (c : ℕ) : Type 0 where
   r : Row
-  in_rows : Memᴰ r utf8Rows
+  in_rows : Memᴰ r utf8_rows
   from : r.numbers.lo ≤ c
   to : c ≤ r.numbers.hi
   fits : FitsRow r c
@@ -106,7 +106,7 @@ mem x (y ∷ xs) zero h = Memᴰ.head refl
 mem x (y ∷ xs) (suc n) h = Memᴰ.tail (mem x xs n (omega arith))
 
 abbrev row_at : ℕ → Row
-row_at n = get_or utf8Rows n (row (range 0 0) (range 0 0) 0)
+row_at n = get_or utf8_rows n (row (range 0 0) (range 0 0) 0)
 
 -- `Matches`, as a product of comparisons
 abbrev Fill : List Range → List ℕ → Type 0
@@ -131,7 +131,7 @@ by : (c n k : ℕ) → By c n k → Placed c
 by c n k h =
     record {
       r = _;
-      in_rows = mem _ utf8Rows n h.0;
+      in_rows = mem _ utf8_rows n h.0;
       from = h.2;
       to = h.3;
       fits = h.4;
@@ -217,9 +217,9 @@ begun : (b : ℕ) (s cs : List ℕ) → ((q : Row) (v k : ℕ) → decode_from q
     → Each Encodable cs × (utf8 cs ≡ b ∷ s)
 unfolding utf8
 begun b s cs ih e =
-    let t = (bind-eq-some_iff (row_of (λ r. r.first) utf8Rows b) (λ r. decode_from r (b - r.first.lo) r.more s)).0 e in
+    let t = (bind-eq-some_iff (row_of (λ r. r.first) utf8_rows b) (λ r. decode_from r (b - r.first.lo) r.more s)).0 e in
     let q = t.0 in
-    let m = row_of_in (λ r. r.first) b q utf8Rows t.1 in
+    let m = row_of_in (λ r. r.first) b q utf8_rows t.1 in
     let d = ih q (b - q.first.lo) q.more t.2 in
     let lead : q.first.lo + d.c / 64 ^ q.more ≡ b = rw d.bits (omega (arith, m.1)) in
     let encodable : Encodable d.c = (omega (arith, d.to, numbers_last m.0), d.surrogate) in
@@ -314,7 +314,7 @@ text_decode (character k end t) = absurd (of_row k)
 text_decode (character {s = s} k (byte {r = r} {f = g} {b = b} {p = p} lo hi m) t) =
     let o = of_row k in
     let q = row_at (length g) in
-    let in_rows = mem (row_at 4) utf8Rows (length g) o.0 in
+    let in_rows = mem (row_at 4) utf8_rows (length g) o.0 in
     let v : ℕ = b - q.first.lo in
     let c : ℕ = value v p in
     let above = value_ge v (r.lo - q.first.lo) m (omega arith) in
@@ -345,12 +345,12 @@ length_following zero c = refl
 length_following (suc k) c = ap suc (length_following k c)
 
 -- of two rows, one with a character number and one whose bits can be those of it, the first has no more octets
-fewest : (c : ℕ) {q r : Row} → Memᴰ q utf8Rows → Memᴰ r utf8Rows → q.numbers.lo ≤ c → FitsRow r c → q.more ≤ r.more
+fewest : (c : ℕ) {q r : Row} → Memᴰ q utf8_rows → Memᴰ r utf8_rows → q.numbers.lo ≤ c → FitsRow r c → q.more ≤ r.more
 fewest c {r = r} m k =
-    each_mem (λ q. q.numbers.lo ≤ c → FitsRow r c → q.more ≤ r.more) utf8Rows
-    (each_mem (λ r. Each (λ q. q.numbers.lo ≤ c → FitsRow r c → q.more ≤ r.more) utf8Rows) utf8Rows (search rules) k) m
+    each_mem (λ q. q.numbers.lo ≤ c → FitsRow r c → q.more ≤ r.more) utf8_rows
+    (each_mem (λ r. Each (λ q. q.numbers.lo ≤ c → FitsRow r c → q.more ≤ r.more) utf8_rows) utf8_rows (search rules) k) m
 
-pub shortest : (c : ℕ) → Encodable c → {r : Row} → Memᴰ r utf8Rows → FitsRow r c → length (encode c) ≤ length (octets (some r) c)
+pub shortest : (c : ℕ) → Encodable c → {r : Row} → Memᴰ r utf8_rows → FitsRow r c → length (encode c) ≤ length (octets (some r) c)
 shortest c u {r} m h =
     let p = placed c u in
     rw (encode_is c p, length_following p.r.more c, length_following r.more c) (omega (arith, fewest c p.in_rows m p.from h))

@@ -5,7 +5,7 @@
 --   Encodable c          UTF-8 encodes the code point c: it is from 0 to 10FFFF, and no surrogate
 --   Row                  a row of section 3's table: the range of its character numbers, the range of its first octet, and how
 --                        many octets 10xxxxxx follow
---   utf8Rows             the table; 0xxxxxxx is from 00 to 7F, 110xxxxx from C0 to DF, 1110xxxx from E0 to EF, 11110xxx from F0
+--   utf8_rows             the table; 0xxxxxxx is from 00 to 7F, 110xxxxx from C0 to DF, 1110xxxx from E0 to EF, 11110xxx from F0
 --                        to F7
 --   row_of part rs x      the first row of rs that has x in its range `part`
 --   following k c        k octets 10xxxxxx whose bits x are the lowest 6k bits of c, the highest first
@@ -38,8 +38,8 @@ pub record Row : Type 0 where
 abbrev pub row : Range → Range → ℕ → Row
 row numbers first more = record { numbers = numbers; first = first; more = more }
 
-abbrev pub utf8Rows : List Row
-utf8Rows =
+abbrev pub utf8_rows : List Row
+utf8_rows =
     row (range 0x0 0x7F) (range 0x00 0x7F) 0
     ∷ row (range 0x80 0x7FF) (range 0xC0 0xDF) 1
     ∷ row (range 0x800 0xFFFF) (range 0xE0 0xEF) 2
@@ -61,7 +61,7 @@ octets none c = []
 octets (some r) c = (r.first.lo + c / 64 ^ r.more) ∷ following r.more c
 
 abbrev pub encode : ℕ → List ℕ
-encode c = octets (row_of (λ r. r.numbers) utf8Rows c) c
+encode c = octets (row_of (λ r. r.numbers) utf8_rows c) c
 
 unfoldable pub utf8 : List ℕ → List ℕ
 utf8 [] = []
@@ -81,10 +81,10 @@ keep r v (some cs) = pick (within r.numbers v && not (within surrogates v)) (som
 
 unfoldable pub decode_from : Row → ℕ → ℕ → List ℕ → Option (List ℕ)
 decode_from r v zero [] = keep r v (some [])
-decode_from r v zero (b ∷ s) = keep r v (bind (row_of (λ q. q.first) utf8Rows b) (λ q. decode_from q (b - q.first.lo) q.more s))
+decode_from r v zero (b ∷ s) = keep r v (bind (row_of (λ q. q.first) utf8_rows b) (λ q. decode_from q (b - q.first.lo) q.more s))
 decode_from r v (suc k) [] = none
 decode_from r v (suc k) (b ∷ s) = pick (within continuation b) (decode_from r (v * 64 + (b - 0x80)) k s) none
 
 abbrev pub decode : List ℕ → Option (List ℕ)
 decode [] = some []
-decode (b ∷ s) = bind (row_of (λ r. r.first) utf8Rows b) (λ r. decode_from r (b - r.first.lo) r.more s)
+decode (b ∷ s) = bind (row_of (λ r. r.first) utf8_rows b) (λ r. decode_from r (b - r.first.lo) r.more s)
