@@ -98,8 +98,8 @@ module _ (mode : Mode) (b : Model) (d entry : ℕ) (k : ModelInvariant AllowedPa
   abbrev file : List ℕ
   file = model_bytes b
 
-  hello_well_formed : WellFormed mode file (values_at 0 vs) entry
-  hello_well_formed =
+  model_well_formed : WellFormed mode file (values_at 0 vs) entry
+  model_well_formed =
       let (e, start, own) = subst (Staged AllowedPart vs) c k.stage in
       let same : e ≡ entry = omega arith in
       well_formed_of_strict mode (record {
@@ -112,16 +112,16 @@ module _ (mode : Mode) (b : Model) (d entry : ℕ) (k : ModelInvariant AllowedPa
       })
 
   accepted : (cap : ℕ) → length vs ≤ cap → check_of mode file cap ≡ checked (ok (length vs, entry)) (filled cap (starts 0 (values_at 0 vs)))
-  accepted cap = rw (length_values 0 vs) at (accepts file (values_at 0 vs) entry cap hello_well_formed)
+  accepted cap = rw (length_values 0 vs) at (accepts file (values_at 0 vs) entry cap model_well_formed)
 
   read : (j q : ℕ) (p : Part) → Holds vs j q p → read_of mode file q ≡ ok (value_of_part q p)
   read j q p h =
-      reads_token file (values_at 0 vs) entry hello_well_formed j q (form_of q p) (holds_at vs j q p h) ∙ ap ok (read_form vs j q p h k.finished)
+      reads_token file (values_at 0 vs) entry model_well_formed j q (form_of q p) (holds_at vs j q p h) ∙ ap ok (read_form vs j q p h k.finished)
 
   body : (j q : ℕ) (p : Part) → Holds vs j q p → (p.kind ≡ 4) ⊎ (p.kind ≡ 5)
       → (body_place_of mode file q ≡ ok (token_end q (form_of q p) - length p.body, length p.body)) × (body_of mode file q ≡ p.body)
   unfolding form_of
-  body j q p h own = reads_body file (values_at 0 vs) entry hello_well_formed j q (form_of q p) (holds_at vs j q p h) own
+  body j q p h own = reads_body file (values_at 0 vs) entry model_well_formed j q (form_of q p) (holds_at vs j q p h) own
 
   module _ (a : List ModelValue) (v : ModelValue) (z : List ModelValue) (e : vs ≡ a ++ (v ∷ z)) where
     abbrev at : ℕ
@@ -137,27 +137,27 @@ module _ (mode : Mode) (b : Model) (d entry : ℕ) (k : ModelInvariant AllowedPa
         let long = length-append (emit t) (bytes (forms_of q is)) in
         let place : at + length (emit t ++ bytes (forms_of q is)) ≡ q + length (bytes (forms_of q is)) = omega arith in
         rw (← length_forms q is)
-        (reads_item file (values_at 0 vs) entry hello_well_formed (values_at 0 a) (value_at at v) _ (values_around vs a v z e) (forms_of q is) _ _ _ forms place).0
+        (reads_item file (values_at 0 vs) entry model_well_formed (values_at 0 a) (value_at at v) _ (values_around vs a v z e) (forms_of q is) _ _ _ forms place).0
 
     none : immediate (rule v.head.kind) ≡ false → (i : ℕ) → length v.items ≤ i → item_of mode file at i ≡ error (fault NO_ITEM at)
     unfolding form_of
     none has i past =
         let long = length_forms (at + length (emit (form_of at v.head))) v.items in
-        reads_none file (values_at 0 vs) entry hello_well_formed (values_at 0 a) (value_at at v) _ (values_around vs a v z e) i (omega arith) has
+        reads_none file (values_at 0 vs) entry model_well_formed (values_at 0 a) (value_at at v) _ (values_around vs a v z e) i (omega arith) has
 
     flat : immediate (rule v.head.kind) ≡ true → (i : ℕ) → item_of mode file at i ≡ error (fault WRONG_KIND at)
     unfolding form_of
     flat one i =
         let here = head_token_at (values_at 0 vs) (values_at 0 a) (value_at at v) _ (values_around vs a v z e) in
-        reads_no_items file (values_at 0 vs) entry hello_well_formed _ at (form_of at v.head) here one i
+        reads_no_items file (values_at 0 vs) entry model_well_formed _ at (form_of at v.head) here one i
 
   pub model_gives_back : GivesBack mode file vs entry
   model_gives_back = record {
-    well_formed = hello_well_formed;
+    well_formed = model_well_formed;
     accepted = accepted;
     read = read;
     body = body;
-    skip = λ a v z e. reads_end file (values_at 0 vs) entry hello_well_formed (values_at 0 a) (value_at (end_of a) v) _ (values_around vs a v z e);
+    skip = λ a v z e. reads_end file (values_at 0 vs) entry model_well_formed (values_at 0 a) (value_at (end_of a) v) _ (values_around vs a v z e);
     item = item;
     none = none;
     flat = flat;

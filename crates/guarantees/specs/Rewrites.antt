@@ -2,7 +2,7 @@
 --
 --   call_rows q t     the call for the token t at q: a row for each kind, in the order of the kinds; 9 and 13 are reserved
 --   call_of q t       the row of t's kind. `-` stops at 0: a target q - n - 1 is meaningful if n < q, as in a
---                    hello_well_formed file
+--                    well-formed file
 --   calls_at q ts     the calls that write tokens, the first at q
 --   calls_of q vs     the calls that write values, the first at q: each value's head, then its items
 --   rewriting vs entry

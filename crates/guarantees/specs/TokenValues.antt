@@ -3,7 +3,7 @@
 --   token_end q t      the offset just after the token t whose header is at q: where its items start
 --   token_rows q t     the value that t is the head of: a row for each kind, in the order of the kinds; 9 and 13 are reserved
 --   value_of_token q t  the row of t's kind. `-` stops at 0: a target q - n - 1 is meaningful if n < q, as in a
---                     hello_well_formed file
+--                     well-formed file
 use Rattle.std.specs.Prelude.{ℕ, ◌+◌, ◌-◌, ◌*◌, List, [], ◌∷◌, eqb, pos, negsuc, length, get_or}
 use Rattle.prelude.specs.Pick.{pick}
 use Rattle.little_endian.specs.LittleEndian.{from_little}

@@ -32,7 +32,7 @@ fn answer(rt: &impl Print, r: CheckResult) -> io::Result<()> {
     }
 }
 
-// Reads until the buffer is full, the input ends or a read fails; returns how many bytes the buffer begins with.
+// Reads until the buffer is full or the input ends, and returns how many bytes that were; or the error of a read that fails.
 fn read_full(input: &mut impl Read, buffer: &mut [u8]) -> io::Result<usize>
     ensures { ReadsAtMost result buffer.new }
 {
