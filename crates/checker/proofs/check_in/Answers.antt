@@ -1,6 +1,5 @@
 -- `checker::check_in` meets its contract.
 use mathlib.Core.Path.{sym}
-use borrow.Author.Rules.{rules}
 use native.Mathlib.Omega.{arith}
 use lib.ListN.{length-take}
 use lib.Seq.{length-take-le}
@@ -17,10 +16,6 @@ pub returns-then-len-gt-LIMIT : goal.returns-then-len-gt-LIMIT
 unfolding check_in
 returns-then-len-gt-LIMIT c = (search ladder, omega arith)
 
-pub overflow_sub-p : goal.overflow_sub-p
-unfolding check_in
-overflow_sub-p c = search rules
-
 pub slice_bounds-list_starts-end : goal.slice_bounds-list_starts-end
 unfolding check_in
 slice_bounds-list_starts-end c = sym (length-take-le _ _ (omega arith))
@@ -28,10 +23,6 @@ slice_bounds-list_starts-end c = sym (length-take-le _ _ (omega arith))
 pub list_starts-requires : goal.list_starts-requires
 unfolding check_in
 list_starts-requires c = rw length-take (omega arith)
-
-pub enum_known-count : goal.enum_known-count
-unfolding check_in
-enum_known-count c = search rules
 
 pub slice_bounds-entry_at-end : goal.slice_bounds-entry_at-end
 unfolding check_in
@@ -41,29 +32,13 @@ pub slice_bounds-entry_at-end-in-Ok : goal.slice_bounds-entry_at-end-in-Ok
 unfolding check_in
 slice_bounds-entry_at-end-in-Ok c = sym (length-take-le _ _ (search listed_fits))
 
-pub bounds-file-p : goal.bounds-file-p
-unfolding check_in
-bounds-file-p c = search rules
-
 pub entry_at-requires : goal.entry_at-requires
 unfolding check_in
 entry_at-requires c = (search listed_rising, omega arith)
 
-pub enum_known-e : goal.enum_known-e
-unfolding check_in
-enum_known-e c = search rules
-
-pub shape_of-starts-in-Ok : goal.shape_of-starts-in-Ok
-unfolding check_in
-shape_of-starts-in-Ok c = search rules
-
 pub returns-in-Ok : goal.returns-in-Ok
 unfolding check_in
 returns-in-Ok c = (search check_walk, search kept_fits)
-
-pub shape_of-starts-in-Err : goal.shape_of-starts-in-Err
-unfolding check_in
-shape_of-starts-in-Err c = search rules
 
 pub returns-in-Err : goal.returns-in-Err
 unfolding check_in

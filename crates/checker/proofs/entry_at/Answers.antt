@@ -7,22 +7,6 @@ use Rattle.table.proofs.Blocks.{counted_none}
 use Rattle.checker.specs.Check.{entry_at}
 use Rattle.checker.proofs.entry_at.Goals as goal
 
-pub overflow_sub-entry : goal.overflow_sub-entry
-unfolding entry_at bind
-overflow_sub-entry c = search rules
-
-pub overflow_sub-entry-then-delta-p : goal.overflow_sub-entry-then-delta-p
-unfolding entry_at bind
-overflow_sub-entry-then-delta-p c = search rules
-
-pub slice_bounds-is_among-end : goal.slice_bounds-is_among-end
-unfolding entry_at bind
-slice_bounds-is_among-end c = search rules
-
-pub overflow_cast-entry : goal.overflow_cast-entry
-unfolding entry_at bind
-overflow_cast-entry c = search rules
-
 pub is_among-requires : goal.is_among-requires
 unfolding entry_at bind
 is_among-requires c = (search rules, counted_none _)

@@ -1,13 +1,8 @@
 -- `depths_value::deepest` meets its contract.
-use mathlib.Core.Path.{refl}
-use borrow.Author.Rules.{rules}
 use native.Mathlib.Omega.{arith}
 use Rattle.scan.proofs.Places.{token_less, token_inside}
 use Rattle.depths_value.proofs.Laws.{deepest_end, deepest_error, deepest_token}
 use Rattle.depths_value.proofs.deepest.Goals as goal
-
-pub loop-at-init : goal.loop-at-init
-loop-at-init c = (search rules, refl)
 
 pub loop-at-smaller : goal.loop-at-smaller
 loop-at-smaller c = search (token_less, arith)

@@ -1,11 +1,7 @@
 -- `depths_value::end_of` meets its contract.
-use Prim.Native.Nat.{◌+◌}
 use native.Mathlib.Omega.{arith}
 use Rattle.depths_value.proofs.Laws.{end_next, end_last}
 use Rattle.depths_value.proofs.end_of.Goals as goal
-
-pub overflow_cast-result : goal.overflow_cast-result
-overflow_cast-result c = omega (arith, c.shared_slice_known-1.given (c.args.i + 1))
 
 pub returns-then-next-starts : goal.returns-then-next-starts
 returns-then-next-starts c = search (end_next, arith)

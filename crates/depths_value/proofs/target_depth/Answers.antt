@@ -19,11 +19,5 @@ overflow_sub-target c = omega (arith, below)
 pub overflow_sub-target-then-h-q : goal.overflow_sub-target-then-h-q
 overflow_sub-target-then-h-q c = omega (arith, below)
 
-pub returns-then-i-before : goal.returns-then-i-before
-returns-then-i-before c = rw (c.if-h-q.true, c.rank-i.ensures)
-
 pub returns-else-i-before : goal.returns-else-i-before
 returns-else-i-before c = rw c.if-h-q.true (search (get_d_past, arith))
-
-pub returns-else-h-q : goal.returns-else-h-q
-returns-else-h-q c = rw c.if-h-q.false

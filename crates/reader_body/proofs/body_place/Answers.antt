@@ -1,25 +1,12 @@
 -- `reader_body::body_place` meets its contract: the body of the value that following reaches.
-use borrow.Author.Rules.{rules}
 use Rattle.reader_region.proofs.Laws.{in_region_same, in_region_then, in_region_failed}
 use Rattle.reader_follow.proofs.Laws.{followed_within}
 use Rattle.reader_body.specs.Body.{body_place_in}
 use Rattle.reader_body.proofs.body_place.Goals as goal
 
-pub follow_head-requires : goal.follow_head-requires
-unfolding body_place_in
-follow_head-requires c = search rules
-
-pub enum_known-at : goal.enum_known-at
-unfolding body_place_in
-enum_known-at c = search rules
-
 pub body_place_on-requires : goal.body_place_on-requires
 unfolding body_place_in
 body_place_on-requires c = (followed_within _ _ _ _ (in_region_same _ _ _ (rw c.in-Ok.is at c.follow_head.ensures))).body
-
-pub enum_known-e : goal.enum_known-e
-unfolding body_place_in
-enum_known-e c = search rules
 
 pub returns-in-Ok : goal.returns-in-Ok
 unfolding body_place_in

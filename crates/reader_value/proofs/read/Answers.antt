@@ -1,31 +1,14 @@
 -- `reader_value::read` meets its contract: the value on the head, in the region; and its row.
 use mathlib.Core.Path.{ap}
-use borrow.Author.Rules.{rules}
 use Rattle.prelude.specs.Answer.{ok}
 use Rattle.reader_region.proofs.Laws.{in_region_same, in_region_then, in_region_failed, peek_peeked}
 use Rattle.reader_value.specs.Value.{read_in}
 use Rattle.reader_value.proofs.Rows.{rows_read}
 use Rattle.reader_value.proofs.read.Goals as goal
 
-pub peek-requires : goal.peek-requires
-unfolding read_in
-peek-requires c = search rules
-
-pub enum_known-h : goal.enum_known-h
-unfolding read_in
-enum_known-h c = search rules
-
-pub region-requires : goal.region-requires
-unfolding read_in
-region-requires c = search rules
-
 pub value_on-requires : goal.value_on-requires
 unfolding read_in
 value_on-requires c = rw c.region.ensures (peek_peeked _ _ _ _ _ (in_region_same _ _ _ (rw c.in-Ok.is at c.peek.ensures)))
-
-pub enum_known-e : goal.enum_known-e
-unfolding read_in
-enum_known-e c = search rules
 
 pub returns-in-Ok : goal.returns-in-Ok
 unfolding read_in

@@ -3,15 +3,10 @@ use mathlib.Core.Path.{refl}
 use Prim.Native.Nat.{◌^◌}
 use native.Mathlib.Omega.{arith}
 use lib.Dec.{lit<}
-use borrow.Author.Rules.{rules}
 use Rattle.kind.specs.Kind.{rule}
 use Rattle.kind.proofs.Laws.{used_past}
 use Rattle.reader_value.proofs.Laws.{value_kind, peeked_lt, used_ne}
 use Rattle.reader_value.proofs.value_on.Goals as goal
-
-pub scalar_of-requires : goal.scalar_of-requires
-unfolding rule
-scalar_of-requires c = search rules
 
 pub positive-requires : goal.positive-requires
 unfolding rule
@@ -20,18 +15,6 @@ positive-requires c = peeked_lt _ _ _ 1 (2 ^ 63) (lit< tt) c.requires c.in-1.is
 pub negative-requires : goal.negative-requires
 unfolding rule
 negative-requires c = peeked_lt _ _ _ 2 (2 ^ 63) (lit< tt) c.requires c.in-2.is
-
-pub float_of-requires : goal.float_of-requires
-unfolding rule
-float_of-requires c = search rules
-
-pub overflow_sub-result : goal.overflow_sub-result
-unfolding rule
-overflow_sub-result c = search rules
-
-pub overflow_sub-result-in-5 : goal.overflow_sub-result-in-5
-unfolding rule
-overflow_sub-result-in-5 c = search rules
 
 pub overflow_cast-result : goal.overflow_cast-result
 unfolding rule

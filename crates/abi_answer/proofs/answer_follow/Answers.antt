@@ -1,8 +1,0 @@
--- `abi_answer::answer_follow` meets its contract.
-use Rattle.abi_answer.proofs.answer_follow.Goals as goal
-
-pub returns-in-Ok : goal.returns-in-Ok
-returns-in-Ok c = rw c.in-Ok.is
-
-pub returns-in-Err : goal.returns-in-Err
-returns-in-Err c = rw c.in-Err.is c.answer_error.ensures
