@@ -1,8 +1,8 @@
 -- Which errors each reading call can give, of every file: the lists of specs/Errors.antt.
 --
--- In order: what holds of an answer's error, by the parts of the answer; a token that a query looks at, following, items, pairs, in any region; the
--- queries on a file (`errors_of_peek`, `errors_of_read`, `errors_of_follow`, `errors_of_body`, `errors_of_skip`, `errors_of_item`, `errors_of_lookup`); check and depths
--- (`errors_of_check`, `depths_errors_known`); no OVERLONG in the tolerant mode (`never_overlong`).
+-- In order: what holds of an answer's error, by the parts of the answer; a token that a query looks at, following, items, pairs, in any region; the queries
+-- on a file (`errors_of_peek`, `errors_of_read`, `errors_of_follow`, `errors_of_body`, `errors_of_skip`, `errors_of_item`, `errors_of_lookup`); check and
+-- depths (`errors_of_check`, `depths_errors_known`); no OVERLONG in the tolerant mode (`never_overlong`).
 use mathlib.Core.Path.{◌≡◌, refl, sym, subst}
 use mathlib.Core.Bool.{Bool, true, false, ◌||◌, or_comm, false≢true}
 use mathlib.Core.List.{List, ◌∷◌}

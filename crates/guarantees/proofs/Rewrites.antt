@@ -194,7 +194,8 @@ module _ (n m : ℕ) where
       let w = model_value_of q v in
       let own = bytes (tokens v) in
       let long = length-append own (region vs) in
-      let first = takes_value done q v at f.0 (subst (λ l. HasTargets l q (tokens v)) (sym start) a.0) (bytes_front own (region vs) b) (omega arith) (omega arith) in
+      let first = takes_value done q v at f.0 (subst (λ l. HasTargets l q (tokens v)) (sym start) a.0)
+      (bytes_front own (region vs) b) (omega arith) (omega arith) in
       let more = takes_values (done ++ (w ∷ [])) (q + length own) (listed ++ (q ∷ [])) vs (end_one done q listed v at f.0 a.0)
       (starts_one done q listed v at f.0 a.0 start) f.1 a.1 (bytes_after own (region vs) b) (omega arith)
       (omega (arith, length-append done (w ∷ []))) in

@@ -243,7 +243,8 @@ module _ (s ss : List ℕ) (ms : List Bool) (done : List Value) where
       let u = moved q e v.head in
       let form = form_part e u f.head.spelled (λ l. (aims.0 l).0) in
       let due : items_after (part_of e u) w ≡ length v.items =
-      rw g.pending (sym (pending_form e (part_of e u)) ∙ ap pending_of form ∙ sym f.count ∙ length_moved (new_start ss ms done) (q + length (emit v.head)) (e + length (emit u)) v.items) in
+      rw g.pending (sym (pending_form e (part_of e u)) ∙ ap pending_of form ∙ sym f.count
+      ∙ length_moved (new_start ss ms done) (q + length (emit v.head)) (e + length (emit u)) v.items) in
       copies_tokens q e (tokens v) rest w out table at (sounds v old) (le_refl _) (sounds _ f) aims b (0, g, rw g.pending g.written, due)
 
 -- ---- the values

@@ -44,7 +44,8 @@ unfolding starts
 has_targets_at done at [] i h b = absurd (omega arith)
 has_targets_at done at (v ∷ vs) zero h b = subst (λ l. HasTargets l at (tokens v)) (sym (append-nil done)) b.0
 has_targets_at done at (v ∷ vs) (suc i) h b =
-    subst (λ l. HasTargets l (get_or (starts at (v ∷ vs)) (suc i) 0) (tokens_of (v ∷ vs) (suc i))) (append_snoc done at (take i (starts (at + length (bytes (tokens v))) vs)))
+    subst (λ l. HasTargets l (get_or (starts at (v ∷ vs)) (suc i) 0) (tokens_of (v ∷ vs) (suc i)))
+    (append_snoc done at (take i (starts (at + length (bytes (tokens v))) vs)))
     (has_targets_at (done ++ (at ∷ [])) (at + length (bytes (tokens v))) vs i (omega arith) b.1)
 
 -- the targets of its tokens are starts of values before it

@@ -17,29 +17,22 @@ unfolding check_in
 returns-then-len-gt-LIMIT c = (search ladder, omega arith)
 
 pub slice_bounds-list_starts-end : goal.slice_bounds-list_starts-end
-unfolding check_in
 slice_bounds-list_starts-end c = sym (length-take-le _ _ (omega arith))
 
 pub list_starts-requires : goal.list_starts-requires
-unfolding check_in
 list_starts-requires c = rw length-take (omega arith)
 
 pub slice_bounds-entry_at-end : goal.slice_bounds-entry_at-end
-unfolding check_in
 slice_bounds-entry_at-end c = search listed_fits
 
 pub slice_bounds-entry_at-end-in-Ok : goal.slice_bounds-entry_at-end-in-Ok
-unfolding check_in
 slice_bounds-entry_at-end-in-Ok c = sym (length-take-le _ _ (search listed_fits))
 
 pub entry_at-requires : goal.entry_at-requires
-unfolding check_in
 entry_at-requires c = (search listed_rising, omega arith)
 
 pub returns-in-Ok : goal.returns-in-Ok
-unfolding check_in
 returns-in-Ok c = (search check_walk, search kept_fits)
 
 pub returns-in-Err : goal.returns-in-Err
-unfolding check_in
 returns-in-Err c = (search check_error, omega arith)

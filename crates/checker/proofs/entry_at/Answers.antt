@@ -8,7 +8,6 @@ use Rattle.checker.specs.Check.{entry_at}
 use Rattle.checker.proofs.entry_at.Goals as goal
 
 pub is_among-requires : goal.is_among-requires
-unfolding entry_at bind
 is_among-requires c = (search rules, counted_none _)
 
 pub returns-then-is_among : goal.returns-then-is_among

@@ -33,21 +33,27 @@ module _ (s : List ℕ) (at : ℕ) {r : Rule} (ruled : r ≡ rule (get_or s at 0
   number mode there g x e is = scan_number mode true s at there ruled used flat (rw (and_r (ltb (get_or s at 0 % 16) r.lows) _ plain)) g x e is
 
 pub number-requires : goal.number-requires
-number-requires c = let r = ruled_row _ c.rule_of-rule.ensures in (omega (arith, r.lows, used c.args.region.now c.args.at c.rule_of-rule.ensures c.is_immediate-immediate.ensures c.if-not-plain.false), omega arith)
+number-requires c =
+    let r = ruled_row _ c.rule_of-rule.ensures in
+    let u = used c.args.region.now c.args.at c.rule_of-rule.ensures c.is_immediate-immediate.ensures c.if-not-plain.false in
+    (omega (arith, r.lows, u), omega arith)
 
 pub overflow_sub-first : goal.overflow_sub-first
 overflow_sub-first c =
-    let b = number c.args.region.now c.args.at c.rule_of-rule.ensures c.is_immediate-immediate.ensures c.if-not-plain.false _ c.if-len-at.false _ _ (rw part_from at c.number.ensures) c.in-Ok.is in
+    let b = number c.args.region.now c.args.at c.rule_of-rule.ensures c.is_immediate-immediate.ensures c.if-not-plain.false
+    _ c.if-len-at.false _ _ (rw part_from at c.number.ensures) c.in-Ok.is in
     omega (arith, b.short)
 
 pub returns-then-rule-eq0 : goal.returns-then-rule-eq0
 returns-then-rule-eq0 c =
-    let b = number c.args.region.now c.args.at c.rule_of-rule.ensures c.is_immediate-immediate.ensures c.if-not-plain.false _ c.if-len-at.false _ _ (rw part_from at c.number.ensures) c.in-Ok.is in
+    let b = number c.args.region.now c.args.at c.rule_of-rule.ensures c.is_immediate-immediate.ensures c.if-not-plain.false
+    _ c.if-len-at.false _ _ (rw part_from at c.number.ensures) c.in-Ok.is in
     item_bare b (none c.args.region.now c.args.at c.rule_of-rule.ensures c.is_immediate-immediate.ensures c.if-not-plain.false) c.if-rule-eq0.true
 
 pub has_room-room-requires : goal.has_room-room-requires
 has_room-room-requires c =
-    let b = number c.args.region.now c.args.at c.rule_of-rule.ensures c.is_immediate-immediate.ensures c.if-not-plain.false _ c.if-len-at.false _ _ (rw part_from at c.number.ensures) c.in-Ok.is in
+    let b = number c.args.region.now c.args.at c.rule_of-rule.ensures c.is_immediate-immediate.ensures c.if-not-plain.false
+    _ c.if-len-at.false _ _ (rw part_from at c.number.ensures) c.in-Ok.is in
     (b.row, b.most, omega (arith, b.short, c.well_formed.0.1))
 
 pub overflow_mul-bytes : goal.overflow_mul-bytes
@@ -58,10 +64,13 @@ overflow_add-bytes c = omega (arith, le_of_flag _ _ c.has_room-room.ensures c.if
 
 pub overflow_add-result : goal.overflow_add-result
 overflow_add-result c =
-    let b = number c.args.region.now c.args.at c.rule_of-rule.ensures c.is_immediate-immediate.ensures c.if-not-plain.false _ c.if-len-at.false _ _ (rw part_from at c.number.ensures) c.in-Ok.is in
+    let b = number c.args.region.now c.args.at c.rule_of-rule.ensures c.is_immediate-immediate.ensures c.if-not-plain.false
+    _ c.if-len-at.false _ _ (rw part_from at c.number.ensures) c.in-Ok.is in
     omega (arith, le_of_flag _ _ c.has_room-room.ensures c.if-not-room.false, b.short, c.well_formed.0.1)
 
 pub returns-else-not-room : goal.returns-else-not-room
 returns-else-not-room c =
-    let b = number c.args.region.now c.args.at c.rule_of-rule.ensures c.is_immediate-immediate.ensures c.if-not-plain.false _ c.if-len-at.false _ _ (rw part_from at c.number.ensures) c.in-Ok.is in
-    item_sized b (none c.args.region.now c.args.at c.rule_of-rule.ensures c.is_immediate-immediate.ensures c.if-not-plain.false) c.has_room-room.ensures (rw c.if-not-room.false)
+    let b = number c.args.region.now c.args.at c.rule_of-rule.ensures c.is_immediate-immediate.ensures c.if-not-plain.false
+    _ c.if-len-at.false _ _ (rw part_from at c.number.ensures) c.in-Ok.is in
+    item_sized b (none c.args.region.now c.args.at c.rule_of-rule.ensures c.is_immediate-immediate.ensures c.if-not-plain.false)
+    c.has_room-room.ensures (rw c.if-not-room.false)

@@ -14,7 +14,7 @@ is_bad_text-requires c = let w = scan_within _ _ _ _ _ (rw c.in-Ok.is at c.scan_
 
 pub returns-then-is_bad_text : goal.returns-then-is_bad_text
 returns-then-is_bad_text c =
-    let e = token_bad_text _ _ _ (c.args.starts.now) _ _ c.scan_item.ensures _ c.in-Ok.is _ c.is_bad_text.ensures c.if-is_bad_text.true in
+    let e = token_bad_text _ _ _ c.args.starts.now _ _ c.scan_item.ensures _ c.in-Ok.is _ c.is_bad_text.ensures c.if-is_bad_text.true in
     (λ cap start. item_error _ _ _ _ _ c.loop-pending-test.true cap start _ e ∙ c.loop-pending.invariant.0 cap start, tt)
 
 pub returns-then-is_bad_target : goal.returns-then-is_bad_target
@@ -33,8 +33,9 @@ loop-pending-preserved c =
 
 pub returns-in-Err : goal.returns-in-Err
 returns-in-Err c =
-    let e = token_unscanned _ _ _ (c.args.starts.now) _ _ c.scan_item.ensures _ c.in-Err.is in
+    let e = token_unscanned _ _ _ c.args.starts.now _ _ c.scan_item.ensures _ c.in-Err.is in
     (λ cap start. item_error _ _ _ _ _ c.loop-pending-test.true cap start _ e ∙ c.loop-pending.invariant.0 cap start, tt)
 
 pub returns : goal.returns
-returns c = (λ cap start. items_end _ _ (c.args.starts.now) _ _ c.loop-pending-test.false cap start ∙ c.loop-pending.invariant.0 cap start, (c.loop-pending.invariant.1, c.loop-pending.invariant.2))
+returns c =
+    (λ cap start. items_end _ _ c.args.starts.now _ _ c.loop-pending-test.false cap start ∙ c.loop-pending.invariant.0 cap start, (c.loop-pending.invariant.1, c.loop-pending.invariant.2))

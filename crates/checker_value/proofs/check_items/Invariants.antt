@@ -8,7 +8,8 @@ use Rattle.checker_value.proofs.check_items.Given as goal
 
 abbrev pub invariant-loop-pending : goal.invariant-loop-pending
 invariant-loop-pending l =
-    ((cap start : ℕ) → starts_from l.mode l.region cap (in_value l.at start l.pending l.starts) ≡ starts_from l.mode l.region cap (in_value l.from start l.items l.starts))
+    ((cap start : ℕ) → starts_from l.mode l.region cap (in_value l.at start l.pending l.starts)
+    ≡ starts_from l.mode l.region cap (in_value l.from start l.items l.starts))
     × (l.from ≤ l.at) × (l.at ≤ length l.region)
 
 abbrev pub decreases-loop-pending : goal.decreases-loop-pending

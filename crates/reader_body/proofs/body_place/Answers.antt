@@ -5,7 +5,6 @@ use Rattle.reader_body.specs.Body.{body_place_in}
 use Rattle.reader_body.proofs.body_place.Goals as goal
 
 pub body_place_on-requires : goal.body_place_on-requires
-unfolding body_place_in
 body_place_on-requires c = (followed_within _ _ _ _ (in_region_same _ _ _ (rw c.in-Ok.is at c.follow_head.ensures))).body
 
 pub returns-in-Ok : goal.returns-in-Ok

@@ -7,7 +7,6 @@ use Rattle.reader_value.proofs.Rows.{rows_read}
 use Rattle.reader_value.proofs.read.Goals as goal
 
 pub value_on-requires : goal.value_on-requires
-unfolding read_in
 value_on-requires c = rw c.region.ensures (peek_peeked _ _ _ _ _ (in_region_same _ _ _ (rw c.in-Ok.is at c.peek.ensures)))
 
 pub returns-in-Ok : goal.returns-in-Ok

@@ -14,7 +14,8 @@ pub returns-then-rule-low : goal.returns-then-rule-low
 returns-then-rule-low c = scan_reserved _ _ _ _ c.if-len-at.false c.rule_of-rule.ensures c.if-rule-low.true
 
 pub returns-then-inner-immediate : goal.returns-then-inner-immediate
-returns-then-inner-immediate c = scan_nested _ _ _ _ c.if-len-at.false c.rule_of-rule.ensures c.if-rule-low.false c.is_immediate-immediate.ensures c.if-inner-immediate.true
+returns-then-inner-immediate c =
+    scan_nested _ _ _ _ c.if-len-at.false c.rule_of-rule.ensures c.if-rule-low.false c.is_immediate-immediate.ensures c.if-inner-immediate.true
 
 pub number-requires : goal.number-requires
 number-requires c = let r = ruled_row _ c.rule_of-rule.ensures in (omega (arith, r.lows), omega arith)

@@ -8,11 +8,19 @@ loop-size-init c = between_of _ _ _ _ c.low-lo.ensures c.high.ensures.0 c.high.e
 
 pub overflow_mul-lo : goal.overflow_mul-lo
 overflow_mul-lo c =
-    omega (arith, (quartered _ _ _ _ c.loop-size.invariant (omega arith) _ _ _ c.below.ensures.0 c.below-in-loop-size.ensures.0 c.below-in-loop-size-2.ensures.0).fits)
+    omega (
+      arith,
+      (quartered _ _ _ _ c.loop-size.invariant (omega arith) _ _ _
+          c.below.ensures.0 c.below-in-loop-size.ensures.0 c.below-in-loop-size-2.ensures.0).fits,
+    )
 
 pub overflow_add-lo-in-loop-size-5 : goal.overflow_add-lo-in-loop-size-5
 overflow_add-lo-in-loop-size-5 c =
-    omega (arith, (quartered _ _ _ _ c.loop-size.invariant (omega arith) _ _ _ c.below.ensures.0 c.below-in-loop-size.ensures.0 c.below-in-loop-size-2.ensures.0).fits)
+    omega (
+      arith,
+      (quartered _ _ _ _ c.loop-size.invariant (omega arith) _ _ _
+          c.below.ensures.0 c.below-in-loop-size.ensures.0 c.below-in-loop-size-2.ensures.0).fits,
+    )
 
 pub loop-size-preserved : goal.loop-size-preserved
 loop-size-preserved c =

@@ -12,7 +12,8 @@ use Rattle.leb128.specs.declared.Mode.{Mode}
 use Rattle.twine.proofs.twine_depths.Goals as goal
 
 depths_replied : {m mode : Mode} (file : List ℕ) (cap room : ℕ) (x : CheckResult) {starts depths : List ℕ} {r : Reply} → m ≡ mode
-    → deepened (check_answer x) starts depths ≡ depths_of m file cap room → r ≡ pair_c (check_answer x) → depths_reply r starts depths ≡ depths_c mode file cap room
+    → deepened (check_answer x) starts depths ≡ depths_of m file cap room → r ≡ pair_c (check_answer x)
+    → depths_reply r starts depths ≡ depths_c mode file cap room
 depths_replied file cap room x {starts} {depths} is e k =
     ap (λ (r : Reply). depths_reply r starts depths) k ∙ ap (λ (x : Deepened). depths_reply (pair_c x.answer) x.starts x.depths) e
     ∙ ap (λ (m : Mode). depths_c m file cap room) is

@@ -10,7 +10,8 @@ loop-i-init c = let front = skip_plain _ c.skip_plain-i.ensures in (front.0, tex
 
 -- a plain word
 pub loop-i-preserved-then-is_plain_at : goal.loop-i-preserved-then-is_plain_at
-loop-i-preserved-then-is_plain_at c = (omega arith, plain_next c.args.s.now c.loop-i.i c.loop-i.invariant.1 8 (c.is_plain_at.ensures.plain.0 c.if-is_plain_at.true))
+loop-i-preserved-then-is_plain_at c =
+    (omega arith, plain_next c.args.s.now c.loop-i.i c.loop-i.invariant.1 8 (c.is_plain_at.ensures.plain.0 c.if-is_plain_at.true))
 
 -- the last word is plain
 pub returns-then-is_plain_at-2 : goal.returns-then-is_plain_at-2
