@@ -11,12 +11,12 @@ ghost use Rattle.abi_error.specs.Reply.{reply};
 ghost use Rattle.abi_answer.specs.Answers.{mode_of, offset_c, pair_c};
 ghost use Rattle.abi_answer.specs.Read.{float_bits, row_of, read_c};
 
-use checker::CheckResult;
+use checker::Summary;
+use error::Error;
 use leb128::Mode;
-use reader_body::BodyResult;
-use reader_follow::FollowResult;
-use reader_region::OffsetResult;
-use scan::{Head, ScanResult};
+use reader_body::Place;
+use reader_follow::Followed;
+use scan::Head;
 
 // 1 is the tolerant mode, any other number the strict one.
 pub fn mode_of(n: u32) -> Mode
@@ -29,54 +29,54 @@ pub fn mode_of(n: u32) -> Mode
 }
 
 // An offset and 0.
-pub fn answer_offset(answer: OffsetResult, out: &mut [u64; 2]) -> u32
+pub fn answer_offset(answer: Result<usize, Error>, out: &mut [u64; 2]) -> u32
     ensures { reply result out.new ≡ offset_c (offset_answer answer) }
 {
     match answer {
-        OffsetResult::Ok(at) => {
+        Ok(at) => {
             *out = [at as u64, 0];
             0
         }
-        OffsetResult::Err(e) => abi_error::answer_error(e, out),
+        Err(e) => abi_error::answer_error(e, out),
     }
 }
 
 // Count and entry.
-pub fn answer_entry(answer: CheckResult, out: &mut [u64; 2]) -> u32
+pub fn answer_entry(answer: Result<Summary, Error>, out: &mut [u64; 2]) -> u32
     ensures { reply result out.new ≡ pair_c (check_answer answer) }
 {
     match answer {
-        CheckResult::Ok { count, entry } => {
+        Ok(Summary { count, entry }) => {
             *out = [count as u64, entry as u64];
             0
         }
-        CheckResult::Err(e) => abi_error::answer_error(e, out),
+        Err(e) => abi_error::answer_error(e, out),
     }
 }
 
 // Offset and hops.
-pub fn answer_follow(answer: FollowResult, out: &mut [u64; 2]) -> u32
+pub fn answer_follow(answer: Result<Followed, Error>, out: &mut [u64; 2]) -> u32
     ensures { reply result out.new ≡ pair_c (follow_answer answer) }
 {
     match answer {
-        FollowResult::Ok { at, hops } => {
+        Ok(Followed { at, hops }) => {
             *out = [at as u64, hops as u64];
             0
         }
-        FollowResult::Err(e) => abi_error::answer_error(e, out),
+        Err(e) => abi_error::answer_error(e, out),
     }
 }
 
 // First offset and length.
-pub fn answer_body(answer: BodyResult, out: &mut [u64; 2]) -> u32
+pub fn answer_body(answer: Result<Place, Error>, out: &mut [u64; 2]) -> u32
     ensures { reply result out.new ≡ pair_c (body_answer answer) }
 {
     match answer {
-        BodyResult::Ok { first, len } => {
+        Ok(Place { first, len }) => {
             *out = [first as u64, len as u64];
             0
         }
-        BodyResult::Err(e) => abi_error::answer_error(e, out),
+        Err(e) => abi_error::answer_error(e, out),
     }
 }
 
@@ -163,12 +163,12 @@ pub fn read(file: &[u8], at: usize, out: &mut [u64; 4], mode: Mode) -> u32
     ensures { reply result out.new ≡ read_c mode file.now at }
 {
     match reader_region::peek(file, at, mode) {
-        ScanResult::Ok(h) => {
+        Ok(h) => {
             let row = row_of(file, at, h);
             *out = [h.kind as u64, row.number, h.first as u64, row.count];
             0
         }
-        ScanResult::Err(e) => {
+        Err(e) => {
             let kind = e.kind;
             *out = [e.place as u64, 0, 0, 0];
             error::number(kind)

@@ -16,18 +16,18 @@
 --   runs_c cs state out table  the calls cs one after the other, the first with this state, output and table
 --   settle_c a w state         the number for the answer a, and the state's words after it: those of the next state w,
 --                             or on an error those of before. No contract of a C function cites it
-use Rattle.std.specs.Prelude.{ℕ, Bool, true, false, not, List, [], ◌∷◌, eqb, get_or}
+use Rattle.std.specs.Prelude.{ℕ, Bool, true, false, not, List, [], ◌∷◌, Ok, Err, eqb, get_or}
 use Rattle.prelude.specs.Pick.{pick}
 use Rattle.prelude.specs.Answer.{ok, error}
 use Rattle.error.specs.Error.{number_of}
 use Rattle.writer_refusal.specs.Refusal.{Verdict}
 use Rattle.writer_refusal.specs.declared.State.{State}
 use Rattle.writer.specs.Call.{Call}
+use Rattle.std.specs.Prelude as code
 use Rattle.writer.specs.Step.{Result, step}
 use Rattle.writer.specs.declared.Scalar.{Scalar}
 use Rattle.writer.specs.declared.Scalar.TheVariants.{False, True}
-use Rattle.writer.specs.declared.WriteAnswer.{WriteAnswer}
-use Rattle.writer.specs.declared.WriteAnswer.TheVariants.{Ok, Err}
+use Rattle.error.specs.declared.ErrorKind.{ErrorKind}
 use Rattle.abi_error.specs.Reply.{Reply, reply}
 
 abbrev pub writer_of : List ℕ → State
@@ -86,6 +86,6 @@ runs_c (c ∷ cs) state out table =
 
 -- ---- the code's answers
 
-abbrev pub settle_c : WriteAnswer → State → List ℕ → Reply
-settle_c Ok w state = reply 0 (words_of w)
+abbrev pub settle_c : code.Result (Unit {0}) ErrorKind → State → List ℕ → Reply
+settle_c (Ok u) w state = reply 0 (words_of w)
 settle_c (Err e) w state = reply (number_of e) state

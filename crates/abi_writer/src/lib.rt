@@ -7,7 +7,8 @@ ghost use Rattle.abi_error.specs.Reply.{reply};
 ghost use Rattle.writer.specs.Step.{fresh};
 ghost use Rattle.abi_writer.specs.Calls.{writer_of, words_of, truth, settle_c};
 
-use writer::{Scalar, WriteAnswer, WriteResult, Writer};
+use error::ErrorKind;
+use writer::{Scalar, Writer};
 use writer_refusal::State;
 
 // The words of a new writer.
@@ -44,13 +45,12 @@ fn flag(b: bool) -> u64
 }
 
 // Stores the next state; a refused call leaves the words as they were.
-pub fn settle(r: WriteResult, state: &mut [u64; 5]) -> u32
-    ensures { reply result state.new ≡ settle_c r.answer r.writer.state state.old }
+pub fn settle(answer: Result<(), ErrorKind>, writer: Writer, state: &mut [u64; 5]) -> u32
+    ensures { reply result state.new ≡ settle_c answer writer.state state.old }
 {
-    let answer = r.answer;
-    let w = r.writer.state;
+    let w = writer.state;
     match answer {
-        WriteAnswer::Ok => {
+        Ok(()) => {
             *state = [
                 w.written as u64,
                 w.count as u64,
@@ -60,7 +60,7 @@ pub fn settle(r: WriteResult, state: &mut [u64; 5]) -> u32
             ];
             0
         }
-        WriteAnswer::Err(e) => error::number(e),
+        Err(e) => error::number(e),
     }
 }
 

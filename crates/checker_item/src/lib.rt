@@ -4,12 +4,13 @@
 ghost use Rattle.std.specs.Prelude.{◌≡◌, true};
 ghost use Rattle.scan.specs.Answers.{answer_of, scan_at};
 
-use leb128::{GetResult, Mode};
-use scan::{Head, ScanResult};
+use error::Error;
+use leb128::Mode;
+use scan::Head;
 
 // Reads an item, as `scan::scan` does. One without a fault is read here: the function is short enough to be inlined
 // into a loop over items.
-pub fn scan_item(region: &[u8], at: usize, mode: Mode) -> ScanResult
+pub fn scan_item(region: &[u8], at: usize, mode: Mode) -> Result<Head, Error>
     ensures { answer_of result ≡ scan_at mode true region.now at }
 {
     let len = region.len();
@@ -25,34 +26,31 @@ pub fn scan_item(region: &[u8], at: usize, mode: Mode) -> ScanResult
     if !plain {
         return scan::scan(region, at, true, mode);
     }
-    let start = at + 1;
-    match scan_number::number(low, rule.most, &region[start..], mode) {
-        GetResult::Ok { value, left } => {
-            let n = value;
-            let first = len - left;
-            // nothing after n
-            if rule.scale == 0 {
-                return ScanResult::Ok(Head {
-                    kind,
-                    n,
-                    items: 0,
-                    first,
-                    end: first,
-                });
-            }
-            let room = scan_number::has_room(rule, n, left as u64);
-            if !room {
-                return scan::scan(region, at, true, mode);
-            }
-            let bytes = rule.fixed + rule.scale * n;
-            ScanResult::Ok(Head {
-                kind,
-                n,
-                items: 0,
-                first,
-                end: first + bytes as usize,
-            })
-        }
-        GetResult::Err(error) => scan::scan(region, at, true, mode),
+    let Ok(number) = scan_number::number(low, rule.most, &region[at + 1..], mode) else {
+        return scan::scan(region, at, true, mode);
+    };
+    let n = number.value;
+    let first = len - number.left;
+    // nothing after n
+    if rule.scale == 0 {
+        return Ok(Head {
+            kind,
+            n,
+            items: 0,
+            first,
+            end: first,
+        });
     }
+    let room = scan_number::has_room(rule, n, number.left as u64);
+    if !room {
+        return scan::scan(region, at, true, mode);
+    }
+    let bytes = rule.fixed + rule.scale * n;
+    Ok(Head {
+        kind,
+        n,
+        items: 0,
+        first,
+        end: first + bytes as usize,
+    })
 }

@@ -7,29 +7,23 @@ ghost use Rattle.table.specs.Blocks.{BLOCK};
 ghost use Rattle.checker_value.specs.Walk.{between, starts_from};
 ghost use Rattle.checker_starts.specs.Answers.{list_answer, Listed};
 
-use checker_value::ValueResult;
 use error::{Error, ErrorKind};
-use leb128::Mode;
+use scan::Region;
+use table_search::Starts;
 
-// How many values a region has.
-#[derive(Clone, Copy)]
-pub enum ListResult {
-    Ok(usize),
-    Err(Error),
-}
-
-// Lists the starts of a region's values in the first words of the table, and counts them by blocks of the region.
-fn walk(region: &[u8], starts: &mut [u32], blocks: &mut [u32], mode: Mode) -> ListResult
-    requires { (length region.now ≤ LIMIT) × (length region.now < length blocks.old * BLOCK) × (get_or blocks.old 0 0 ≡ 0) }
-    ensures { (list_answer result starts.new ≡ starts_from mode region.now (length starts.old) (between 0 []))
+// Lists the starts of a region's values in the first words of the table, and counts them by blocks of the region; returns how
+// many they are.
+fn walk(region: Region, starts: &mut [u32], blocks: &mut [u32]) -> Result<usize, Error>
+    requires { (length region.bytes.now < length blocks.old * BLOCK) × (get_or blocks.old 0 0 ≡ 0) }
+    ensures { (list_answer result starts.new ≡ starts_from region.mode region.bytes.now (length starts.old) (between 0 []))
         × (Listed result starts.new) }
 {
     let mut at: usize = 0;
     let mut count: usize = 0;
-    while at < region.len() {
+    while at < region.bytes.len() {
         // FULL: a new value without a word
         if starts.len() <= count {
-            return ListResult::Err(Error {
+            return Err(Error {
                 kind: ErrorKind::Full,
                 place: at,
             });
@@ -38,32 +32,29 @@ fn walk(region: &[u8], starts: &mut [u32], blocks: &mut [u32], mode: Mode) -> Li
         let known = at / table::BLOCK + 1;
         // the start of this value, which is listed, and so may be a target, once the value is finished
         starts[count] = at as u32;
-        let more = count + 1;
-        match checker_value::check_value(region, &starts[..count], &blocks[..known], at, mode) {
-            ValueResult::Ok(end) => {
-                count = more;
-                table::count_blocks(&starts[..count], blocks, known, end / table::BLOCK);
-                at = end;
-            }
-            ValueResult::Err(e) => {
-                return ListResult::Err(e);
-            }
-        }
+        let before = Starts {
+            words: &starts[..count],
+            blocks: &blocks[..known],
+        };
+        let end = checker_value::check_value(region, before, at)?;
+        count += 1;
+        table::count_blocks(&starts[..count], blocks, known, end / table::BLOCK);
+        at = end;
     }
-    ListResult::Ok(count)
+    Ok(count)
 }
 
-// Lists the starts of a region's values in the first words of the table. A short region has few blocks: for a small
-// file, clearing the large array would take longer than the walk.
-pub fn list_starts(region: &[u8], starts: &mut [u32], mode: Mode) -> ListResult
-    requires { length region.now < LIMIT }
-    ensures { (list_answer result starts.new ≡ starts_from mode region.now (length starts.old) (between 0 []))
+// Lists the starts of a region's values in the first words of the table, and returns how many they are. A short region has few
+// blocks: for a small file, clearing the large array would take longer than the walk.
+pub fn list_starts(region: Region, starts: &mut [u32]) -> Result<usize, Error>
+    requires { length region.bytes.now < LIMIT }
+    ensures { (list_answer result starts.new ≡ starts_from region.mode region.bytes.now (length starts.old) (between 0 []))
         × (Listed result starts.new) }
 {
-    if region.len() < table::LONG {
+    if region.bytes.len() < table::LONG {
         let mut few = [0u32; table::FEW];
-        return walk(region, starts, &mut few, mode);
+        return walk(region, starts, &mut few);
     }
     let mut blocks = [0u32; table::BLOCKS];
-    walk(region, starts, &mut blocks, mode)
+    walk(region, starts, &mut blocks)
 }

@@ -9,39 +9,41 @@ ghost use Rattle.depths_value.specs.Internal.{Starts};
 ghost use Rattle.checker.specs.Answers.{check_answer};
 ghost use Rattle.depths.specs.Depths.{deepened, depths_of};
 
-use checker::CheckResult;
+use checker::Summary;
 use error::{Error, ErrorKind};
 use leb128::Mode;
+use scan::Region;
 
 // Computes the depths of all values into the first words of the table, with the blocks as an index of their starts.
-fn depths_to_by(region: &[u8], starts: &[u32], blocks: &mut [u32], depths: &mut [u32], mode: Mode)
-    requires { (length starts.now ≤ length depths.old) × (length region.now ≤ LIMIT)
-        × (Starts region.now starts.now) × (Below (length blocks.old * BLOCK) starts.now) }
+fn depths_to_by(region: Region, starts: &[u32], blocks: &mut [u32], depths: &mut [u32])
+    requires { (length starts.now ≤ length depths.old) × (Starts region.bytes.now starts.now) × (Below (length blocks.old * BLOCK) starts.now) }
     ensures { take (length starts.now) depths.new
-        ≡ depths_to mode region.now starts.now (length starts.now) }
+        ≡ depths_to region.mode region.bytes.now starts.now (length starts.now) }
 {
     let known = table::index(starts, blocks);
-    let mut i: usize = 0;
-    while i < starts.len() {
-        depths[i] = depths_value::depth_at(region, starts, &blocks[..known], depths, i, mode);
-        i = i + 1;
+    let indexed = table_search::Starts {
+        words: starts,
+        blocks: &blocks[..known],
+    };
+    for i in 0..starts.len() {
+        depths[i] = depths_value::depth_at(region, indexed, depths, i);
     }
 }
 
 // Computes the depths of all values into the first words of the table. A short region has few blocks, as in
 // `checker_starts::list_starts`.
-fn depths_to(region: &[u8], starts: &[u32], depths: &mut [u32], mode: Mode)
-    requires { (length starts.now ≤ length depths.old) × (length region.now ≤ LIMIT) × (Starts region.now starts.now) }
+fn depths_to(region: Region, starts: &[u32], depths: &mut [u32])
+    requires { (length starts.now ≤ length depths.old) × (Starts region.bytes.now starts.now) }
     ensures { take (length starts.now) depths.new
-        ≡ depths_to mode region.now starts.now (length starts.now) }
+        ≡ depths_to region.mode region.bytes.now starts.now (length starts.now) }
 {
-    if region.len() < table::LONG {
+    if region.bytes.len() < table::LONG {
         let mut few = [0u32; table::FEW];
-        depths_to_by(region, starts, &mut few, depths, mode);
+        depths_to_by(region, starts, &mut few, depths);
         return;
     }
     let mut blocks = [0u32; table::BLOCKS];
-    depths_to_by(region, starts, &mut blocks, depths, mode);
+    depths_to_by(region, starts, &mut blocks, depths);
 }
 
 // Checks a file in a mode, and returns how deep its values are: the depth of a value is the number of values on the longest path
@@ -49,31 +51,39 @@ fn depths_to(region: &[u8], starts: &[u32], depths: &mut [u32], mode: Mode)
 // get the starts and the depths, one word a value, and 0 in every other word; on an error, 0 in every word. Check's
 // errors come first; then FULL, if the second table has fewer words than the file has values, at the start of the first
 // value without a word.
-pub fn depths(file: &[u8], starts: &mut [u32], depths: &mut [u32], mode: Mode) -> CheckResult
+pub fn depths(
+    file: &[u8],
+    starts: &mut [u32],
+    depths: &mut [u32],
+    mode: Mode,
+) -> Result<Summary, Error>
     ensures { deepened (check_answer result) starts.new depths.new
         ≡ depths_of mode file.now (length starts.old) (length depths.old) }
 {
-    match checker::check(file, starts, mode) {
-        CheckResult::Ok { count, entry } => {
-            let room = depths.len();
-            if room < count {
-                // FULL: a value without a word in the second table
-                let place = starts[room] as usize;
-                table::zero(starts);
-                table::zero(depths);
-                return CheckResult::Err(Error {
-                    kind: ErrorKind::Full,
-                    place,
-                });
-            }
-            let p = file.len() - 1;
-            depths_to(&file[..p], &starts[..count], depths, mode);
-            table::zero(&mut depths[count..]);
-            CheckResult::Ok { count, entry }
+    let found = match checker::check(file, starts, mode) {
+        Ok(found) => found,
+        Err(e) => {
+            depths.fill(0);
+            return Err(e);
         }
-        CheckResult::Err(e) => {
-            table::zero(depths);
-            CheckResult::Err(e)
-        }
+    };
+    let room = depths.len();
+    if room < found.count {
+        // FULL: a value without a word in the second table
+        let place = starts[room] as usize;
+        starts.fill(0);
+        depths.fill(0);
+        return Err(Error {
+            kind: ErrorKind::Full,
+            place,
+        });
     }
+    let p = file.len() - 1;
+    let region = Region {
+        bytes: &file[..p],
+        mode,
+    };
+    depths_to(region, &starts[..found.count], depths);
+    depths[found.count..].fill(0);
+    Ok(found)
 }

@@ -8,60 +8,38 @@ ghost use Rattle.table.specs.Blocks.{Counted};
 ghost use Rattle.depths_value.specs.Depth.{target_depth, deepest_in, depth_at, depths_to};
 ghost use Rattle.depths_value.specs.Internal.{Starts};
 
-use leb128::Mode;
-use scan::{Head, ScanResult};
+use scan::{Head, Region};
+use table_search::Starts;
 
-fn max(a: u32, b: u32) -> u32
-    ensures { result ≡ max a b }
-{
-    if a < b {
-        return b;
-    }
-    a
-}
-
-// The depth of the target of the token with head h at `at`, or 0 if it has none. The values start at `starts`, counted
-// by blocks; those before this one have the depths `before`.
-fn target_depth(starts: &[u32], blocks: &[u32], before: &[u32], at: usize, h: Head) -> u32
-    requires { (Rising starts.now) × (Counted blocks.now starts.now) × (at < 2 ^ 32) }
-    ensures { result ≡ target_depth starts.now before.now at h }
+// The depth of the target of the token with head h at `at`, or 0 if it has none. The values start at `starts`; those before this
+// one have the depths `before`.
+fn target_depth(starts: Starts, before: &[u32], at: usize, h: Head) -> u32
+    requires { at < 2 ^ 32 }
+    ensures { result ≡ target_depth starts.words.now before.now at h }
 {
     let q = at as u64;
     if (kind::KIND_REFERENCE <= h.kind) & (h.n < q) {
         let target = q - h.n - 1;
-        let i = table_search::rank(starts, blocks, target as u32);
-        if i < before.len() {
-            return before[i];
+        if let Some(&depth) = before.get(starts.rank(target as u32)) {
+            return depth;
         }
     }
     0
 }
 
 // The greatest depth of a target of the tokens from `start` to `end`.
-fn deepest(
-    region: &[u8],
-    starts: &[u32],
-    blocks: &[u32],
-    before: &[u32],
-    start: usize,
-    end: usize,
-    mode: Mode,
-) -> u32
-    requires { (Rising starts.now) × (Counted blocks.now starts.now) × (start ≤ length region.now) × (length region.now ≤ LIMIT) }
-    ensures { result ≡ deepest_in mode region.now starts.now before.now end start }
+fn deepest(region: Region, starts: Starts, before: &[u32], start: usize, end: usize) -> u32
+    requires { start ≤ length region.bytes.now }
+    ensures { result ≡ deepest_in region.mode region.bytes.now starts.words.now before.now end start }
 {
     let mut at = start;
     let mut deep: u32 = 0;
     while at < end {
-        match scan::scan(region, at, false, mode) {
-            ScanResult::Ok(h) => {
-                deep = max(deep, target_depth(starts, blocks, before, at, h));
-                at = h.end;
-            }
-            ScanResult::Err(e) => {
-                return deep;
-            }
-        }
+        let Ok(h) = scan::scan(region.bytes, at, false, region.mode) else {
+            return deep;
+        };
+        deep = deep.max(target_depth(starts, before, at, h));
+        at = h.end;
     }
     deep
 }
@@ -71,27 +49,19 @@ fn end_of(len: usize, starts: &[u32], i: usize) -> usize
     requires { i < length starts.now }
     ensures { result ≡ get_or starts.now (suc i) len }
 {
-    let next = i + 1;
-    if next < starts.len() {
-        return starts[next] as usize;
+    match starts.get(i + 1) {
+        Some(&next) => next as usize,
+        None => len,
     }
-    len
 }
 
 // The depth of value number i; the first i words of the table hold the depths of the values before it.
-pub fn depth_at(
-    region: &[u8],
-    starts: &[u32],
-    blocks: &[u32],
-    depths: &[u32],
-    i: usize,
-    mode: Mode,
-) -> u32
-    requires { (i < length starts.now) × (i ≤ length depths.now) × (length region.now ≤ LIMIT) × (Starts region.now starts.now)
-        × (Counted blocks.now starts.now) × (take i depths.now ≡ depths_to mode region.now starts.now i) }
-    ensures { result ≡ depth_at mode region.now starts.now (take i depths.now) i }
+pub fn depth_at(region: Region, starts: Starts, depths: &[u32], i: usize) -> u32
+    requires { (i < length starts.words.now) × (i ≤ length depths.now) × (Starts region.bytes.now starts.words.now)
+        × (take i depths.now ≡ depths_to region.mode region.bytes.now starts.words.now i) }
+    ensures { result ≡ depth_at region.mode region.bytes.now starts.words.now (take i depths.now) i }
 {
-    let start = starts[i] as usize;
-    let end = end_of(region.len(), starts, i);
-    deepest(region, starts, blocks, &depths[..i], start, end, mode) + 1
+    let start = starts.words[i] as usize;
+    let end = end_of(region.bytes.len(), starts.words, i);
+    deepest(region, starts, &depths[..i], start, end) + 1
 }

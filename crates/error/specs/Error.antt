@@ -5,11 +5,14 @@
 --   number_of k           the number of the code's error k
 --   Fault, fault f p     an error as the papers have it: its number f and its place p
 --   fault_of e            the code's error e in this form
+--   answered f r         a result of the code in the papers' terms: f of its value, or its error in this form
 --   names                the names in the papers' spelling, as bytes, by number; entry 0 is empty, since no error
 --                        has the number 0
 --   name_of k             the name of the code's error k
 --   padded s             the name s as the code returns it, padded with zeros
 use Rattle.std.specs.Prelude.{ℕ, List, [], ◌∷◌, ◌++◌, length, take, replicate, get_or}
+use Rattle.std.specs.Prelude.{Result, Ok, Err}
+use Rattle.prelude.specs.Answer.{Answer, ok, error}
 use Rattle.error.specs.declared.Error.{Error}
 use Rattle.error.specs.declared.ErrorName.{ErrorName}
 use Rattle.error.specs.declared.ErrorKind.{ErrorKind}
@@ -110,6 +113,10 @@ fault f p = record { number = f; place = p }
 
 abbrev pub fault_of : Error → Fault
 fault_of e = fault (number_of e.kind) e.place
+
+abbrev pub answered : {T A : Type 0} → (T → A) → Result T Error → Answer Fault A
+answered f (Ok x) = ok (f x)
+answered f (Err e) = error (fault_of e)
 
 abbrev pub names : List (List ℕ)
 names =

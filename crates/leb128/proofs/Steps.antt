@@ -10,16 +10,17 @@ use native.Mathlib.Omega.{arith}
 use lib.Dec.{ltb, lit<}
 use lib.ListN.{length, get_or, drop}
 use borrow.Author.Tests.{lt-ltb, le-ltb, le-leb}
+use Rattle.std.specs.Prelude.{Result, Ok, Err}
 use Rattle.prelude.specs.Pick.{pick}
 use Rattle.prelude.specs.Answer.{Answer, Res, got, bad, then, ok, error, measured}
 use Rattle.prelude.proofs.Tests.{split}
 use Rattle.prelude.proofs.Readers.{measured_guard, measured_ok}
 use Rattle.error.specs.Error.{TRUNC}
+use Rattle.error.specs.declared.ErrorKind.{ErrorKind}
 use Rattle.leb128.specs.Leb.{least_of, get}
 use Rattle.leb128.specs.Answers.{answer_of}
 use Rattle.leb128.specs.Internal.{last, tenth, raised, value_of}
-use Rattle.leb128.specs.declared.GetResult.{GetResult}
-use Rattle.leb128.specs.declared.GetResult.TheVariants.{Ok, Err}
+use Rattle.leb128.specs.declared.Number.{Number}
 use Rattle.leb128.specs.declared.Mode.{Mode}
 use Rattle.leb128.proofs.Laws.{least_one, get_ends}
 
@@ -68,9 +69,9 @@ module _ (mode : Mode) (s : List ℕ) (pos : 0 < length s) where
   get_more h = rw (get_step mode 9 0 s (λ e. omega arith) (λ e. omega arith), le-ltb _ _ h)
 
 -- with at most j bytes after the first
-pub get_small : (mode : Mode) (k least : ℕ) (s : List ℕ) (r : GetResult) → answer_of r ≡ measured (get mode k least s) → (j : ℕ) → k ≤ j
+pub get_small : (mode : Mode) (k least : ℕ) (s : List ℕ) (r : Result Number ErrorKind) → answer_of r ≡ measured (get mode k least s) → (j : ℕ) → k ≤ j
     → value_of r < 2 * 128 ^ j
-get_small mode k least s (Ok n left) e j h =
+get_small mode k least s (Ok g) e j h =
     measured_ok (get mode k least s) e (λ rest q l.
-    omega (arith, (get_ends mode k least n s rest q).below, pow-le-pow_right {n = 128} (lit< tt) {i = k} {j = j} h))
+    omega (arith, (get_ends mode k least g.value s rest q).below, pow-le-pow_right {n = 128} (lit< tt) {i = k} {j = j} h))
 get_small mode k least s (Err f) e j h = omega (arith, one-le-pow j 128 (lit< tt))

@@ -5,12 +5,12 @@
 --   raised d u a        the answer a with its number times u, plus d
 --   value_of r           the number of an answer, or 0
 --   left_of r            the bytes left after an answer, or 0; for the laws of crate scan
-use Rattle.std.specs.Prelude.{ℕ, ◌+◌, ◌*◌, ltb, leb}
+use Rattle.std.specs.Prelude.{ℕ, ◌+◌, ◌*◌, ltb, leb, Result, Ok, Err}
 use Rattle.prelude.specs.Pick.{pick}
 use Rattle.prelude.specs.Answer.{Answer, ok, error}
 use Rattle.error.specs.Error.{OVERLONG, RANGE}
-use Rattle.leb128.specs.declared.GetResult.{GetResult}
-use Rattle.leb128.specs.declared.GetResult.TheVariants.{Ok, Err}
+use Rattle.error.specs.declared.ErrorKind.{ErrorKind}
+use Rattle.leb128.specs.declared.Number.{Number}
 
 unfoldable pub last : ℕ → ℕ → ℕ → Answer ℕ (ℕ × ℕ)
 last least b left = pick (leb least b) (ok (b, left)) (error OVERLONG)
@@ -22,10 +22,10 @@ abbrev pub raised : ℕ → ℕ → Answer ℕ (ℕ × ℕ) → Answer ℕ (ℕ 
 raised d u (ok a) = ok (d + u * a.0, a.1)
 raised d u (error e) = error e
 
-abbrev pub value_of : GetResult → ℕ
-value_of (Ok n left) = n
+abbrev pub value_of : Result Number ErrorKind → ℕ
+value_of (Ok g) = g.value
 value_of (Err k) = 0
 
-abbrev pub left_of : GetResult → ℕ
-left_of (Ok n left) = left
+abbrev pub left_of : Result Number ErrorKind → ℕ
+left_of (Ok g) = g.left
 left_of (Err k) = 0

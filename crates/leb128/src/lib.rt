@@ -19,101 +19,96 @@ pub enum Mode {
     Tolerant,
 }
 
-// The answer of `get`.
+// A number that was read, and how many bytes are left after it.
 #[derive(Clone, Copy)]
-pub enum GetResult {
-    // The number, and how many bytes are left after it.
-    Ok { value: u64, left: usize },
-    // TRUNC, RANGE or OVERLONG.
-    Err(ErrorKind),
+pub struct Number {
+    pub value: u64,
+    pub left: usize,
 }
 
 // A last byte of 0 after others: the number has more bytes than it needs.
-fn padded(left: usize, mode: Mode) -> GetResult
+fn padded(left: usize, mode: Mode) -> Result<Number, ErrorKind>
     ensures { answer_of result ≡ last (least_of mode) 0 left }
 {
     match mode {
         // OVERLONG
-        Mode::Strict => GetResult::Err(ErrorKind::Overlong),
-        Mode::Tolerant => GetResult::Ok { value: 0, left },
+        Mode::Strict => Err(ErrorKind::Overlong),
+        Mode::Tolerant => Ok(Number { value: 0, left }),
     }
 }
 
 // A last byte after others. The mode is looked at only if it is 0, which is rare.
-fn last_byte(b: u8, left: usize, mode: Mode) -> GetResult
+fn last_byte(b: u8, left: usize, mode: Mode) -> Result<Number, ErrorKind>
     ensures { answer_of result ≡ last (least_of mode) b left }
 {
     if b < 1 {
         return padded(left, mode);
     }
-    GetResult::Ok {
+    Ok(Number {
         value: b as u64,
         left,
-    }
+    })
 }
 
 // The tenth byte.
-fn tenth_byte(b: u8, left: usize, mode: Mode) -> GetResult
+fn tenth_byte(b: u8, left: usize, mode: Mode) -> Result<Number, ErrorKind>
     ensures { answer_of result ≡ tenth (least_of mode) b left }
 {
     // RANGE: it is over 1
     if 1 < b {
-        return GetResult::Err(ErrorKind::Range);
+        return Err(ErrorKind::Range);
     }
     last_byte(b, left, mode)
 }
 
-// The answer `high` with its number times `unit`, plus `low`.
-fn with_low(low: u64, unit: u64, high: GetResult) -> GetResult
-    requires { low + unit * value_of high < 2 ^ 64 }
-    ensures { answer_of result ≡ raised low unit (answer_of high) }
+// The number `high` times `unit`, plus `low`.
+fn with_low(low: u64, unit: u64, high: Number) -> Number
+    requires { low + unit * high.value < 2 ^ 64 }
+    ensures { (result.value ≡ low + unit * high.value) × (result.left ≡ high.left) }
 {
-    match high {
-        GetResult::Ok { value, left } => GetResult::Ok {
-            value: low + unit * value,
-            left,
-        },
-        GetResult::Err(kind) => GetResult::Err(kind),
+    Number {
+        value: low + unit * high.value,
+        left: high.left,
     }
 }
 
 // Reads the rest of a number after a continuation byte: a byte, and at most k after it, which it calls itself on.
-fn get_from(s: &[u8], k: usize, mode: Mode) -> GetResult
+fn get_from(s: &[u8], k: usize, mode: Mode) -> Result<Number, ErrorKind>
     requires { k ≤ 8 }
     ensures { answer_of result ≡ measured (get mode k (least_of mode) s.now) }
 {
     // TRUNC: a byte is wanted at the end
-    if s.len() == 0 {
-        return GetResult::Err(ErrorKind::Trunc);
-    }
-    let b = s[0];
-    let left = s.len() - 1;
+    let Some((&b, rest)) = s.split_first() else {
+        return Err(ErrorKind::Trunc);
+    };
+    let left = rest.len();
     if k == 0 {
         return tenth_byte(b, left, mode);
     }
     if b < 128 {
         return last_byte(b, left, mode);
     }
-    with_low((b % 128) as u64, 128, get_from(&s[1..], k - 1, mode))
+    let high = get_from(rest, k - 1, mode)?;
+    Ok(with_low((b % 128) as u64, 128, high))
 }
 
 // Reads the number at the front of s, of at most ten bytes. A number of one byte is read here, in code that is short
 // enough to be inlined; after a continuation byte `get_from` reads the rest.
-pub fn get(s: &[u8], mode: Mode) -> GetResult
+pub fn get(s: &[u8], mode: Mode) -> Result<Number, ErrorKind>
     ensures { answer_of result ≡ measured (get mode 9 0 s.now) }
 {
-    if 0 < s.len() {
-        let b = s[0];
-        if b < 128 {
-            return GetResult::Ok {
-                value: b as u64,
-                left: s.len() - 1,
-            };
-        }
-        return with_low((b % 128) as u64, 128, get_from(&s[1..], 8, mode));
-    }
     // TRUNC: the first byte is wanted at the end
-    GetResult::Err(ErrorKind::Trunc)
+    let Some((&b, rest)) = s.split_first() else {
+        return Err(ErrorKind::Trunc);
+    };
+    if b < 128 {
+        return Ok(Number {
+            value: b as u64,
+            left: rest.len(),
+        });
+    }
+    let high = get_from(rest, 8, mode)?;
+    Ok(with_low((b % 128) as u64, 128, high))
 }
 
 // How many bytes n takes.

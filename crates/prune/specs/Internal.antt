@@ -36,7 +36,7 @@ pub record Marked (s ss blocks : List ℕ) (entry : ℕ) (t : List ℕ) (e : ℕ
 
 pub record Rebuilt (s ss : List ℕ) (entry : ℕ) (out table ss' out' table' : List ℕ) (r : Written) : Type 0 where
   pub same : ss' ≡ ss
-  pub wrote : wrote r.result out' table' ≡ new_file s ss (rank entry ss) out table
+  pub wrote : wrote r.result r.writer.state out' table' ≡ new_file s ss (rank entry ss) out table
   pub number : r.number ≡ kept (take (rank entry ss) (reached s ss (rank entry ss)))
 
 abbrev pub settled_by : Verdict → ℕ → Result → List ℕ → Pruned

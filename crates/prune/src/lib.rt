@@ -4,7 +4,6 @@
 ghost use Rattle.std.specs.Prelude.{◌≡◌, ◌-◌, ◌*◌, ◌≤◌, ◌<◌, length, take, get_or, replicate};
 ghost use Rattle.table.specs.Blocks.{BLOCK, Counted, Below};
 ghost use Rattle.error.specs.Error.{LIMIT};
-ghost use Rattle.writer.specs.Step.{fresh};
 ghost use Rattle.writer.specs.Answers.{wrote};
 ghost use Rattle.prune_marks.specs.Marks.{starts_in, marks_in};
 ghost use Rattle.prune_copy.specs.Copy.{and_on, copy_values};
@@ -13,30 +12,32 @@ ghost use Rattle.prune.specs.Prune.{close_number, pruned, prune_of};
 ghost use Rattle.prune.specs.Answers.{prune_answer};
 ghost use Rattle.prune.specs.Internal.{Row, Marked, Rebuilt, settled};
 
-use checker::CheckResult;
 use error::{Error, ErrorKind};
 use leb128::Mode;
-use writer::{WriteAnswer, WriteResult, Writer};
+use writer::Writer;
 
-// The answer of `prune`.
+// The new file: its length, how many values it has, and the offset of its entry.
 #[derive(Clone, Copy)]
-pub enum PruneResult {
-    // The length of the new file, how many values it has, and the offset of its entry.
-    Ok {
-        length: usize,
-        count: usize,
-        entry: usize,
-    },
+pub struct NewFile {
+    pub length: usize,
+    pub count: usize,
+    pub entry: usize,
+}
+
+// Why a file is not pruned.
+#[derive(Clone, Copy)]
+pub enum PruneError {
     // The file is refused by check.
     BadFile(Error),
     // The new file does not fit: NO_ROOM, or FULL of the new table. The error has no place.
     NoFit(ErrorKind),
 }
 
-// The new file's number of its entry, and what the last call returned.
+// The new file's number of its entry, the writer after the last call, and what that returned.
 #[derive(Clone, Copy)]
 struct Written {
-    result: WriteResult,
+    result: Result<(), ErrorKind>,
+    writer: Writer,
     number: usize,
 }
 
@@ -44,10 +45,10 @@ struct Written {
 fn word(t: &[u32], i: usize) -> usize
     ensures { result ≡ get_or t.now i 0 }
 {
-    if i < t.len() {
-        return t[i] as usize;
+    match t.get(i) {
+        Some(&word) => word as usize,
+        None => 0,
     }
-    0
 }
 
 // Writes the marked ones of the first n values, and closes at the value that is then number k.
@@ -57,23 +58,17 @@ fn write_new(
     blocks: &[u32],
     n: usize,
     k: usize,
+    writer: &mut Writer,
     out: &mut [u8],
     new: &mut [u32],
-) -> WriteResult
+) -> Result<(), ErrorKind>
     requires { (n ≤ length t.now) × (Ready t.now blocks.now) × (Below (length region.now) (starts_in t.now)) × (length region.now < LIMIT) }
-    ensures { wrote result out.new new.new
-        ≡ and_on (copy_values region.now (starts_in t.now) (marks_in t.now) n 0 fresh out.old new.old)
+    ensures { wrote result writer.new.state out.new new.new
+        ≡ and_on (copy_values region.now (starts_in t.now) (marks_in t.now) n 0 writer.old.state out.old new.old)
         (close_number k) }
 {
-    let r = prune_copy::copy_values(region, t, blocks, n, Writer::new(), out, new);
-    let answer = r.answer;
-    match answer {
-        WriteAnswer::Err(e) => r,
-        WriteAnswer::Ok => {
-            let at = word(new, k);
-            r.writer.close(at, out, new)
-        }
-    }
+    prune_copy::copy_values(region, t, blocks, n, writer, out, new)?;
+    writer.close(word(new, k), out, new)
 }
 
 // Marks what the value that starts at `entry` reaches, of the values that start at `starts`, and numbers the marks; returns the
@@ -104,9 +99,14 @@ fn rebuild_by(
 {
     let e = mark(region, starts, blocks, entry);
     let number = prune_marks::place(starts, e);
-    let result = write_new(region, starts, blocks, e + 1, number, out, new);
+    let mut writer = Writer::new();
+    let result = write_new(region, starts, blocks, e + 1, number, &mut writer, out, new);
     prune_marks::unpack(starts);
-    Written { result, number }
+    Written {
+        result,
+        writer,
+        number,
+    }
 }
 
 // The same, with the blocks to be filled.
@@ -161,32 +161,32 @@ fn rebuild_file(
         × (Rebuilt (take (length file.now - 1) file.now) (take count old.old) entry
         out.old (replicate (length new.old) 0) (take count old.new) out.new new.new result) }
 {
-    table::zero(new);
+    new.fill(0);
     let p = file.len() - 1;
     rebuild(&file[..p], &mut old[..count], entry, out, new)
 }
 
 // The answer; if the new file does not fit, 0 in all memory.
-fn settle(w: Written, out: &mut [u8], old: &mut [u32], new: &mut [u32]) -> PruneResult
+fn settle(
+    w: Written,
+    out: &mut [u8],
+    old: &mut [u32],
+    new: &mut [u32],
+) -> Result<NewFile, PruneError>
     ensures { pruned (prune_answer result) out.new old.new new.new
-        ≡ settled w.number (wrote w.result out.old new.old) old.old }
+        ≡ settled w.number (wrote w.result w.writer.state out.old new.old) old.old }
 {
-    let result = w.result;
-    let answer = result.answer;
-    let writer = result.writer;
-    match answer {
-        WriteAnswer::Err(e) => {
-            table::clear(out);
-            table::zero(old);
-            table::zero(new);
-            PruneResult::NoFit(e)
-        }
-        WriteAnswer::Ok => PruneResult::Ok {
-            length: writer.state.written,
-            count: writer.state.count,
-            entry: word(new, w.number),
-        },
+    if let Err(e) = w.result {
+        out.fill(0);
+        old.fill(0);
+        new.fill(0);
+        return Err(PruneError::NoFit(e));
     }
+    Ok(NewFile {
+        length: w.writer.state.written,
+        count: w.writer.state.count,
+        entry: word(new, w.number),
+    })
 }
 
 // Writes into the output a new file with exactly the values of a file that some path from its entry meets, each once and in their old order,
@@ -194,19 +194,24 @@ fn settle(w: Written, out: &mut [u8], old: &mut [u32], new: &mut [u32]) -> Prune
 // with 0 in every other word; the output is as it was after the new file. On an error the whole output and both tables are 0.
 // Check's errors come first, in the strict mode; then, as the writer gives them, FULL of the second table and NO_ROOM of the
 // output: the first call that does not fit decides.
-pub fn prune(file: &[u8], out: &mut [u8], old: &mut [u32], new: &mut [u32]) -> PruneResult
+pub fn prune(
+    file: &[u8],
+    out: &mut [u8],
+    old: &mut [u32],
+    new: &mut [u32],
+) -> Result<NewFile, PruneError>
     ensures { pruned (prune_answer result) out.new old.new new.new
         ≡ prune_of file.now out.old (length old.old) (length new.old) }
 {
     match checker::check(file, old, Mode::Strict) {
-        CheckResult::Err(e) => {
-            table::clear(out);
-            table::zero(new);
-            PruneResult::BadFile(e)
-        }
-        CheckResult::Ok { count, entry } => {
-            let w = rebuild_file(file, out, old, new, count, entry);
+        Ok(found) => {
+            let w = rebuild_file(file, out, old, new, found.count, found.entry);
             settle(w, out, old, new)
+        }
+        Err(e) => {
+            out.fill(0);
+            new.fill(0);
+            Err(PruneError::BadFile(e))
         }
     }
 }

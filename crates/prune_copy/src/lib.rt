@@ -15,9 +15,10 @@ ghost use Rattle.prune_marks.specs.Marks.{starts_in, marks_in, kept};
 ghost use Rattle.prune_copy.specs.Copy.{token_of, copy_tokens, copy_values};
 ghost use Rattle.prune_copy.specs.Internal.{Ready, HeadIn};
 
+use error::ErrorKind;
 use leb128::Mode;
-use scan::{Head, ScanResult};
-use writer::{WriteAnswer, WriteResult, Writer};
+use scan::Head;
+use writer::Writer;
 
 // The number that the target of the token with head h at `at` gets; 0 if it has none.
 fn new_number(t: &[u32], blocks: &[u32], at: usize, h: Head) -> usize
@@ -50,19 +51,17 @@ fn copy_token(
     blocks: &[u32],
     at: usize,
     h: Head,
-    writer: Writer,
+    writer: &mut Writer,
     out: &mut [u8],
     new: &mut [u32],
-) -> WriteResult
+) -> Result<(), ErrorKind>
     requires { (Ready t.now blocks.now) × (at < LIMIT) × (HeadIn region.now h) }
-    ensures { wrote result out.new new.new ≡ put_moved (token_of region.now h)
-        (kept (take (rank (at - h.n - 1) (starts_in t.now)) (marks_in t.now))) writer.state out.old new.old }
+    ensures { wrote result writer.new.state out.new new.new ≡ put_moved (token_of region.now h)
+        (kept (take (rank (at - h.n - 1) (starts_in t.now)) (marks_in t.now))) writer.old.state out.old new.old }
 {
     let number = new_number(t, blocks, at, h);
     let args = argument_count(h);
-    let first = h.first;
-    let end = h.end;
-    writer.put_moved(h.kind, h.n, args, &region[first..end], number, out, new)
+    writer.put_moved(h.kind, h.n, args, &region[h.first..h.end], number, out, new)
 }
 
 // Writes the tokens from `start` to `end`, up to the first that is refused.
@@ -72,43 +71,23 @@ fn copy_tokens(
     blocks: &[u32],
     start: usize,
     end: usize,
-    writer: Writer,
+    writer: &mut Writer,
     out: &mut [u8],
     new: &mut [u32],
-) -> WriteResult
+) -> Result<(), ErrorKind>
     requires { (Ready t.now blocks.now) × (start ≤ length region.now) × (length region.now < LIMIT) }
-    ensures { wrote result out.new new.new ≡ copy_tokens region.now (starts_in t.now) (marks_in t.now)
-        (heads region.now end start) writer.state out.old new.old }
+    ensures { wrote result writer.new.state out.new new.new ≡ copy_tokens region.now (starts_in t.now) (marks_in t.now)
+        (heads region.now end start) writer.old.state out.old new.old }
 {
     let mut at = start;
-    let mut next = writer;
     while at < end {
-        match scan::scan(region, at, false, Mode::Strict) {
-            ScanResult::Ok(h) => {
-                let r = copy_token(region, t, blocks, at, h, next, out, new);
-                let answer = r.answer;
-                match answer {
-                    WriteAnswer::Ok => {
-                        next = r.writer;
-                        at = h.end;
-                    }
-                    WriteAnswer::Err(e) => {
-                        return r;
-                    }
-                }
-            }
-            ScanResult::Err(e) => {
-                return WriteResult {
-                    writer: next,
-                    answer: WriteAnswer::Ok,
-                };
-            }
-        }
+        let Ok(h) = scan::scan(region, at, false, Mode::Strict) else {
+            return Ok(());
+        };
+        copy_token(region, t, blocks, at, h, writer, out, new)?;
+        at = h.end;
     }
-    WriteResult {
-        writer: next,
-        answer: WriteAnswer::Ok,
-    }
+    Ok(())
 }
 
 // Writes value number i if it is marked.
@@ -117,25 +96,22 @@ fn copy_value(
     t: &[u32],
     blocks: &[u32],
     i: usize,
-    writer: Writer,
+    writer: &mut Writer,
     out: &mut [u8],
     new: &mut [u32],
-) -> WriteResult
+) -> Result<(), ErrorKind>
     requires { (i < length t.now) × (Ready t.now blocks.now) × (Below (length region.now) (starts_in t.now)) × (length region.now < LIMIT) }
-    ensures { wrote result out.new new.new ≡ pick (get_or (marks_in t.now) i false)
+    ensures { wrote result writer.new.state out.new new.new ≡ pick (get_or (marks_in t.now) i false)
         (copy_tokens region.now (starts_in t.now) (marks_in t.now)
-        (heads_of region.now (starts_in t.now) i) writer.state out.old new.old)
-        (outcome (ok tt) writer.state out.old new.old) }
+        (heads_of region.now (starts_in t.now) i) writer.old.state out.old new.old)
+        (outcome (ok tt) writer.old.state out.old new.old) }
 {
     if prune_marks::is_marked(t, i) {
         let start = prune_marks::start_of(t, i);
         let end = prune_marks::end_of(t, i, region.len());
         return copy_tokens(region, t, blocks, start, end, writer, out, new);
     }
-    WriteResult {
-        writer,
-        answer: WriteAnswer::Ok,
-    }
+    Ok(())
 }
 
 // Writes the marked ones of the first n values, up to the first call that is refused. `t` keeps where the values start and which are
@@ -145,31 +121,16 @@ pub fn copy_values(
     t: &[u32],
     blocks: &[u32],
     n: usize,
-    writer: Writer,
+    writer: &mut Writer,
     out: &mut [u8],
     new: &mut [u32],
-) -> WriteResult
+) -> Result<(), ErrorKind>
     requires { (n ≤ length t.now) × (Ready t.now blocks.now) × (Below (length region.now) (starts_in t.now)) × (length region.now < LIMIT) }
-    ensures { wrote result out.new new.new ≡ copy_values region.now (starts_in t.now) (marks_in t.now)
-        n 0 writer.state out.old new.old }
+    ensures { wrote result writer.new.state out.new new.new ≡ copy_values region.now (starts_in t.now) (marks_in t.now)
+        n 0 writer.old.state out.old new.old }
 {
-    let mut i: usize = 0;
-    let mut next = writer;
-    while i < n {
-        let r = copy_value(region, t, blocks, i, next, out, new);
-        let answer = r.answer;
-        match answer {
-            WriteAnswer::Ok => {
-                next = r.writer;
-                i = i + 1;
-            }
-            WriteAnswer::Err(e) => {
-                return r;
-            }
-        }
+    for i in 0..n {
+        copy_value(region, t, blocks, i, writer, out, new)?;
     }
-    WriteResult {
-        writer: next,
-        answer: WriteAnswer::Ok,
-    }
+    Ok(())
 }

@@ -11,7 +11,7 @@ ghost use Rattle.prune_marks.specs.Marks.{starts_in, marks_in, Indexed};
 ghost use Rattle.prune_reach.specs.Reach.{aims, aims_at, marked, sweep, reached};
 
 use leb128::Mode;
-use scan::{Head, ScanResult};
+use scan::Head;
 
 // Marks the value that the token with head h at `at` names, if it names one.
 fn mark_target(t: &mut [u32], blocks: &[u32], at: usize, h: Head)
@@ -33,15 +33,11 @@ fn mark_targets(region: &[u8], t: &mut [u32], blocks: &[u32], start: usize, end:
 {
     let mut at = start;
     while at < end {
-        match scan::scan(region, at, false, Mode::Strict) {
-            ScanResult::Ok(h) => {
-                mark_target(t, blocks, at, h);
-                at = h.end;
-            }
-            ScanResult::Err(e) => {
-                return;
-            }
-        }
+        let Ok(h) = scan::scan(region, at, false, Mode::Strict) else {
+            return;
+        };
+        mark_target(t, blocks, at, h);
+        at = h.end;
     }
 }
 
@@ -67,10 +63,8 @@ fn pass(region: &[u8], t: &mut [u32], blocks: &[u32], n: usize)
     ensures { (starts_in t.new ≡ starts_in t.old)
         × (marks_in t.new ≡ sweep (aims_at region.now (starts_in t.old)) n (marks_in t.old)) }
 {
-    let mut k = n;
-    while 0 < k {
-        k = k - 1;
-        visit(region, t, blocks, k);
+    for i in (0..n).rev() {
+        visit(region, t, blocks, i);
     }
 }
 

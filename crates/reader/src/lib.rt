@@ -3,9 +3,9 @@
 #![tactic(auto)]
 
 pub use leb128::Mode;
-pub use reader_body::{BodyResult, body, body_place};
-pub use reader_follow::{FollowResult, follow};
+pub use reader_body::{Place, body, body_place};
+pub use reader_follow::{Followed, follow};
 pub use reader_items::{item, skip};
 pub use reader_lookup::lookup;
-pub use reader_region::{OffsetResult, peek};
-pub use reader_value::{ReadResult, Value, read};
+pub use reader_region::peek;
+pub use reader_value::{Value, read};

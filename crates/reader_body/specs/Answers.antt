@@ -1,13 +1,11 @@
 -- What the answer of `body_place` means.
 --
 --   body_answer r  first offset and length, or the error's number and place
-use Rattle.std.specs.Prelude.{ℕ}
-use Rattle.prelude.specs.Answer.{Answer, ok, error}
-use Rattle.error.specs.Error as errors
-use Rattle.error.specs.Error.{Fault}
-use Rattle.reader_body.specs.declared.BodyResult as body
-use Rattle.reader_body.specs.declared.BodyResult.TheVariants as body_is
+use Rattle.std.specs.Prelude.{ℕ, Result}
+use Rattle.prelude.specs.Answer.{Answer}
+use Rattle.error.specs.Error.{Fault, answered}
+use Rattle.error.specs.declared.Error.{Error}
+use Rattle.reader_body.specs.declared.Place.{Place}
 
-abbrev pub body_answer : body.BodyResult → Answer Fault (ℕ × ℕ)
-body_answer (body_is.Ok first len) = ok (first, len)
-body_answer (body_is.Err e) = error (errors.fault_of e)
+abbrev pub body_answer : Result Place Error → Answer Fault (ℕ × ℕ)
+body_answer = answered (λ p. (p.first, p.len))

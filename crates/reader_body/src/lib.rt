@@ -7,44 +7,40 @@ ghost use Rattle.reader_body.specs.Answers.{body_answer};
 
 use error::{Error, ErrorKind};
 use leb128::Mode;
-use reader_follow::FollowHeadResult;
 use scan::Head;
 
-// The answer of `body_place`.
+// Where a body is: its first offset, and its length.
 #[derive(Clone, Copy)]
-pub enum BodyResult {
-    // The first offset of the body, and its length.
-    Ok { first: usize, len: usize },
-    Err(Error),
+pub struct Place {
+    pub first: usize,
+    pub len: usize,
 }
 
 // The body of the value at `at` with head h.
-fn body_place_on(at: usize, h: Head) -> BodyResult
+fn body_place_on(at: usize, h: Head) -> Result<Place, Error>
     requires { h.first ≤ h.end }
     ensures { body_answer result ≡ body_place_on at h }
 {
     let kind = h.kind;
     if (kind == kind::KIND_TEXT) | (kind == kind::KIND_BYTES) {
-        return BodyResult::Ok {
+        return Ok(Place {
             first: h.first,
             len: h.end - h.first,
-        };
+        });
     }
     // WRONG_KIND: neither a text nor a byte string
-    BodyResult::Err(Error {
+    Err(Error {
         kind: ErrorKind::WrongKind,
         place: at,
     })
 }
 
 // Where the bytes are of the text or byte string that the value at `at` is or leads to.
-pub fn body_place(file: &[u8], at: usize, mode: Mode) -> BodyResult
+pub fn body_place(file: &[u8], at: usize, mode: Mode) -> Result<Place, Error>
     ensures { body_answer result ≡ body_place_of mode file.now at }
 {
-    match reader_follow::follow_head(file, at, mode) {
-        FollowHeadResult::Ok { at, hops: _, head } => body_place_on(at, head),
-        FollowHeadResult::Err(e) => BodyResult::Err(e),
-    }
+    let value = reader_follow::follow_head(file, at, mode)?;
+    body_place_on(value.at, value.head)
 }
 
 // The same as the part of the file that lies there; no bytes on an error, which `body_place` reports.
@@ -52,10 +48,7 @@ pub fn body(file: &[u8], at: usize, mode: Mode) -> &[u8]
     ensures { Placed file.entry.ref_ptr (body_place_of mode file.now at) result.ref_ptr × (result.now ≡ body_of mode file.now at) }
 {
     match body_place(file, at, mode) {
-        BodyResult::Ok { first, len } => {
-            let end = first + len;
-            &file[first..end]
-        }
-        BodyResult::Err(e) => &file[0..0],
+        Ok(Place { first, len }) => &file[first..first + len],
+        Err(_) => &file[0..0],
     }
 }

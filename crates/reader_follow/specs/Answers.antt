@@ -2,20 +2,16 @@
 --
 --   follow_head_answer r  the value that following reached, or the error's number and place
 --   follow_answer r      its offset and the hops, or the same error
-use Rattle.std.specs.Prelude.{ℕ}
-use Rattle.prelude.specs.Answer.{Answer, ok, error}
-use Rattle.error.specs.Error as errors
-use Rattle.error.specs.Error.{Fault}
-use Rattle.reader_follow.specs.Follow.{Followed, followed}
-use Rattle.reader_follow.specs.declared.FollowHeadResult as follow-head
-use Rattle.reader_follow.specs.declared.FollowHeadResult.TheVariants as follow-head-is
-use Rattle.reader_follow.specs.declared.FollowResult as follow
-use Rattle.reader_follow.specs.declared.FollowResult.TheVariants as follow_is
+use Rattle.std.specs.Prelude.{ℕ, Result}
+use Rattle.prelude.specs.Answer.{Answer}
+use Rattle.error.specs.Error.{Fault, answered}
+use Rattle.error.specs.declared.Error.{Error}
+use Rattle.reader_follow.specs.Follow as reached
+use Rattle.reader_follow.specs.declared.Followed.{Followed}
+use Rattle.reader_follow.specs.declared.FollowedHead.{FollowedHead}
 
-abbrev pub follow_head_answer : follow-head.FollowHeadResult → Answer Fault Followed
-follow_head_answer (follow-head-is.Ok at hops h) = ok (followed at hops h)
-follow_head_answer (follow-head-is.Err e) = error (errors.fault_of e)
+abbrev pub follow_head_answer : Result FollowedHead Error → Answer Fault reached.Followed
+follow_head_answer = answered (λ f. reached.followed f.at f.hops f.head)
 
-abbrev pub follow_answer : follow.FollowResult → Answer Fault (ℕ × ℕ)
-follow_answer (follow_is.Ok at hops) = ok (at, hops)
-follow_answer (follow_is.Err e) = error (errors.fault_of e)
+abbrev pub follow_answer : Result Followed Error → Answer Fault (ℕ × ℕ)
+follow_answer = answered (λ f. (f.at, f.hops))

@@ -7,62 +7,50 @@ ghost use Rattle.reader_items.specs.Items.{skip_items, skip_of, starts_in, item_
 
 use error::{Error, ErrorKind};
 use leb128::Mode;
-use reader_region::OffsetResult;
-use scan::{Head, ScanResult};
+use scan::Head;
 
 // The offset after `items` items from `at` on.
-fn skip_items(region: &[u8], at: usize, items: u64, mode: Mode) -> OffsetResult
+fn skip_items(region: &[u8], at: usize, items: u64, mode: Mode) -> Result<usize, Error>
     ensures { offset_answer result ≡ skip_items mode region.now items at }
 {
     let mut q = at;
-    let mut k = items;
-    while 0 < k {
-        match reader_region::peek_in(region, q, true, mode) {
-            ScanResult::Ok(h) => {
-                q = h.end;
-                k = k - 1;
-            }
-            ScanResult::Err(e) => {
-                return OffsetResult::Err(e);
-            }
-        }
+    for _ in 0..items {
+        q = reader_region::peek_in(region, q, true, mode)?.end;
     }
-    OffsetResult::Ok(q)
+    Ok(q)
 }
 
 // Where the value at `at` ends. Its items are looked at, but not text bytes; a target only has to be 0 or more.
-pub fn skip(file: &[u8], at: usize, mode: Mode) -> OffsetResult
+pub fn skip(file: &[u8], at: usize, mode: Mode) -> Result<usize, Error>
     ensures { offset_answer result ≡ skip_of mode file.now at }
 {
-    match reader_region::peek(file, at, mode) {
-        ScanResult::Ok(h) => skip_items(reader_region::region(file), h.end, h.items, mode),
-        ScanResult::Err(e) => OffsetResult::Err(e),
-    }
+    let h = reader_region::peek(file, at, mode)?;
+    skip_items(reader_region::region(file), h.end, h.items, mode)
 }
 
 // An offset where an item is to start, in a region of len bytes.
-pub fn starts_in(len: usize, q: usize) -> OffsetResult
+pub fn starts_in(len: usize, q: usize) -> Result<usize, Error>
     ensures { offset_answer result ≡ starts_in len q }
 {
     if q < len {
-        return OffsetResult::Ok(q);
+        return Ok(q);
     }
     // TRUNC: the item would start at the region's end
-    OffsetResult::Err(Error {
+    Err(Error {
         kind: ErrorKind::Trunc,
         place: len,
     })
 }
 
 // The offset of an item of the value at `at` of a region, which has the head h.
-fn item_on(region: &[u8], at: usize, index: usize, h: Head, mode: Mode) -> OffsetResult
+fn item_on(region: &[u8], at: usize, index: usize, h: Head, mode: Mode) -> Result<usize, Error>
     ensures { offset_answer result ≡ item_on mode region.now at index h }
 {
     let kind = h.kind;
     let rule = kind::rule_of(kind);
     // WRONG_KIND: a kind without items
     if kind::is_immediate(rule) {
-        return OffsetResult::Err(Error {
+        return Err(Error {
             kind: ErrorKind::WrongKind,
             place: at,
         });
@@ -70,24 +58,20 @@ fn item_on(region: &[u8], at: usize, index: usize, h: Head, mode: Mode) -> Offse
     // NO_ITEM: the item number is at or past the count
     let i = index as u64;
     if h.items <= i {
-        return OffsetResult::Err(Error {
+        return Err(Error {
             kind: ErrorKind::NoItem,
             place: at,
         });
     }
-    match skip_items(region, h.end, i, mode) {
-        OffsetResult::Ok(q) => starts_in(region.len(), q),
-        OffsetResult::Err(e) => OffsetResult::Err(e),
-    }
+    let q = skip_items(region, h.end, i, mode)?;
+    starts_in(region.len(), q)
 }
 
 // The offset of an item of the value at `at`, which is not followed. The time grows with the items before it: for a value
 // that `skip` accepts, a loop over its items asks for item 0, and then, while there are more, calls `skip` on the one before.
-pub fn item(file: &[u8], at: usize, index: usize, mode: Mode) -> OffsetResult
+pub fn item(file: &[u8], at: usize, index: usize, mode: Mode) -> Result<usize, Error>
     ensures { offset_answer result ≡ item_of mode file.now at index }
 {
-    match reader_region::peek(file, at, mode) {
-        ScanResult::Ok(h) => item_on(reader_region::region(file), at, index, h, mode),
-        ScanResult::Err(e) => OffsetResult::Err(e),
-    }
+    let h = reader_region::peek(file, at, mode)?;
+    item_on(reader_region::region(file), at, index, h, mode)
 }

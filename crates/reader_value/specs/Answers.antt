@@ -4,20 +4,17 @@
 --   row_of_value v  document 01's numbers for each case of a value (`ValueRow`): kind, number, count, first. An integer is of
 --                 kind 1 from 0 on, else of kind 2
 --   row_answer r   the value in document 01's numbers, or the error's number and place
-use Rattle.std.specs.Prelude.{pos, negsuc}
-use Rattle.prelude.specs.Answer.{Answer, ok, error}
-use Rattle.error.specs.Error as errors
-use Rattle.error.specs.Error.{Fault}
+use Rattle.std.specs.Prelude.{pos, negsuc, Result}
+use Rattle.prelude.specs.Answer.{Answer}
+use Rattle.error.specs.Error.{Fault, answered}
+use Rattle.error.specs.declared.Error.{Error}
 use Rattle.reader_value.specs.declared.Value.{Value}
 use Rattle.reader_value.specs.declared.Value.TheVariants.{False, True, Null, Integer, Float32, Float64, Text, Bytes}
 use Rattle.reader_value.specs.declared.Value.TheVariants.{Array, Map, Tag, Variant, Variant1, VariantN, Reference, Pointer}
-use Rattle.reader_value.specs.declared.ReadResult as read
-use Rattle.reader_value.specs.declared.ReadResult.TheVariants as read_is
 use Rattle.reader_value.specs.Row.{ValueRow, value_row}
 
-abbrev pub read_answer : read.ReadResult → Answer Fault Value
-read_answer (read_is.Ok v) = ok v
-read_answer (read_is.Err e) = error (errors.fault_of e)
+abbrev pub read_answer : Result Value Error → Answer Fault Value
+read_answer = answered (λ v. v)
 
 abbrev pub row_of_value : Value → ValueRow
 row_of_value False = value_row 0 (pos 0) 0 0
@@ -38,6 +35,5 @@ row_of_value (VariantN index items first) = value_row 12 (pos index) items first
 row_of_value (Reference target) = value_row 14 (pos target) 0 0
 row_of_value (Pointer target) = value_row 15 (pos target) 0 0
 
-abbrev pub row_answer : read.ReadResult → Answer Fault ValueRow
-row_answer (read_is.Ok v) = ok (row_of_value v)
-row_answer (read_is.Err e) = error (errors.fault_of e)
+abbrev pub row_answer : Result Value Error → Answer Fault ValueRow
+row_answer = answered row_of_value

@@ -9,7 +9,7 @@ ghost use Rattle.reader_value.specs.Answers.{read_answer, row_answer};
 
 use error::Error;
 use leb128::Mode;
-use scan::{Head, ScanResult};
+use scan::Head;
 
 // One value. Items and text bytes are not looked at.
 #[derive(Clone, Copy)]
@@ -66,13 +66,6 @@ pub enum Value {
     Pointer {
         target: usize,
     },
-}
-
-// The answer of `read`.
-#[derive(Clone, Copy)]
-pub enum ReadResult {
-    Ok(Value),
-    Err(Error),
 }
 
 fn scalar_of(n: u64) -> Value
@@ -170,11 +163,9 @@ fn value_on(region: &[u8], at: usize, h: Head) -> Value
 }
 
 // The value at `at`. Neither items nor text bytes are looked at, and a target only has to be 0 or more.
-pub fn read(file: &[u8], at: usize, mode: Mode) -> ReadResult
+pub fn read(file: &[u8], at: usize, mode: Mode) -> Result<Value, Error>
     ensures { (read_answer result ≡ read_of mode file.now at) × (row_answer result ≡ read_row_of mode file.now at) }
 {
-    match reader_region::peek(file, at, mode) {
-        ScanResult::Ok(h) => ReadResult::Ok(value_on(reader_region::region(file), at, h)),
-        ScanResult::Err(e) => ReadResult::Err(e),
-    }
+    let h = reader_region::peek(file, at, mode)?;
+    Ok(value_on(reader_region::region(file), at, h))
 }

@@ -17,16 +17,10 @@ use super::print::{print_bytes, print_check, print_table, print_write};
 use super::words::{
     cut_after, cut_before, find_byte, parse_hex, parse_integer, parse_number, parse_number32,
 };
+use error::ErrorKind;
 use leb128::Mode;
 use std::io;
-use writer::{Scalar, WriteResult, Writer};
-
-// Prints the answer of a call; returns the next state.
-fn call_done(rt: &impl Print, r: WriteResult) -> io::Result<Writer> {
-    let answer = r.answer;
-    print_write(rt, answer)?;
-    Ok(r.writer)
-}
+use writer::{Scalar, Writer};
 
 // ---- one call
 
@@ -39,76 +33,91 @@ fn scalar_of(letter: u8) -> Scalar {
 }
 
 // A text of the bytes that s spells in hex.
-fn call_text(w: Writer, s: &[u8], out: &mut [u8], starts: &mut [u32]) -> WriteResult {
+fn call_text(
+    w: &mut Writer,
+    s: &[u8],
+    out: &mut [u8],
+    starts: &mut [u32],
+) -> Result<(), ErrorKind> {
     let mut space = [0u8; 1024];
     let n = parse_hex(s, &mut space);
     w.text(&space[..n], out, starts)
 }
 
 // The bytes that s spells in hex.
-fn call_bytes(w: Writer, s: &[u8], out: &mut [u8], starts: &mut [u32]) -> WriteResult {
+fn call_bytes(
+    w: &mut Writer,
+    s: &[u8],
+    out: &mut [u8],
+    starts: &mut [u32],
+) -> Result<(), ErrorKind> {
     let mut space = [0u8; 1024];
     let n = parse_hex(s, &mut space);
     w.bytes(&space[..n], out, starts)
 }
 
 // n zero bytes.
-fn call_zeros(w: Writer, n: usize, out: &mut [u8], starts: &mut [u32]) -> WriteResult {
+fn call_zeros(
+    w: &mut Writer,
+    n: usize,
+    out: &mut [u8],
+    starts: &mut [u32],
+) -> Result<(), ErrorKind> {
     let space = [0u8; 1024];
     w.bytes(first_bytes(&space, n), out, starts)
 }
 
-// Makes the call of a letter and its arguments s; returns the next state.
+// Makes the call of a letter and its arguments s.
 fn call_letter(
     rt: &impl Print,
-    w: Writer,
+    w: &mut Writer,
     letter: u8,
     s: &[u8],
     out: &mut [u8],
     starts: &mut [u32],
-) -> io::Result<Writer> {
+) -> io::Result<()> {
     match letter {
-        b'f' | b't' | b'n' => call_done(rt, w.scalar(scalar_of(letter), out, starts)),
-        b'i' => call_done(rt, w.integer(parse_integer(s), out, starts)),
-        b's' => call_done(rt, w.float32(parse_number32(s), out, starts)),
-        b'd' => call_done(rt, w.float64(parse_number(s) as u64, out, starts)),
+        b'f' | b't' | b'n' => print_write(rt, w.scalar(scalar_of(letter), out, starts)),
+        b'i' => print_write(rt, w.integer(parse_integer(s), out, starts)),
+        b's' => print_write(rt, w.float32(parse_number32(s), out, starts)),
+        b'd' => print_write(rt, w.float64(parse_number(s) as u64, out, starts)),
         _ => call_body_or_target(rt, w, letter, s, out, starts),
     }
 }
 
 fn call_body_or_target(
     rt: &impl Print,
-    w: Writer,
+    w: &mut Writer,
     letter: u8,
     s: &[u8],
     out: &mut [u8],
     starts: &mut [u32],
-) -> io::Result<Writer> {
+) -> io::Result<()> {
     match letter {
-        b'"' => call_done(rt, call_text(w, s, out, starts)),
-        b'#' => call_done(rt, call_bytes(w, s, out, starts)),
-        b'z' => call_done(rt, call_zeros(w, parse_number(s), out, starts)),
-        b'v' => call_done(rt, w.variant(parse_number32(s), out, starts)),
-        b'r' => call_done(rt, w.reference(parse_number(s), out, starts)),
-        b'p' => call_done(rt, w.pointer(parse_number(s), out, starts)),
+        b'"' => print_write(rt, call_text(w, s, out, starts)),
+        b'#' => print_write(rt, call_bytes(w, s, out, starts)),
+        b'z' => print_write(rt, call_zeros(w, parse_number(s), out, starts)),
+        b'v' => print_write(rt, w.variant(parse_number32(s), out, starts)),
+        b'r' => print_write(rt, w.reference(parse_number(s), out, starts)),
+        b'p' => print_write(rt, w.pointer(parse_number(s), out, starts)),
         _ => call_open_or_close(rt, w, letter, s, out, starts),
     }
 }
 
 fn call_open_or_close(
     rt: &impl Print,
-    w: Writer,
+    w: &mut Writer,
     letter: u8,
     s: &[u8],
     out: &mut [u8],
     starts: &mut [u32],
-) -> io::Result<Writer> {
+) -> io::Result<()> {
     match letter {
-        b'a' => call_done(rt, w.open_array(parse_number(s) as u64, out, starts)),
-        b'm' => call_done(rt, w.open_map(parse_number(s) as u64, out, starts)),
-        b'g' => call_done(rt, w.open_tag(parse_number(s) as u64, out, starts)),
-        b'o' => call_done(rt, w.open_variant1(parse_number32(s), out, starts)),
-        b'x' => call_done(
+        b'a' => print_write(rt, w.open_array(parse_number(s) as u64, out, starts)),
+        b'm' => print_write(rt, w.open_map(parse_number(s) as u64, out, starts)),
+        b'g' => print_write(rt, w.open_tag(parse_number(s) as u64, out, starts)),
+        b'o' => print_write(rt, w.open_variant1(parse_number32(s), out, starts)),
+        b'x' => print_write(
             rt,
             w.open_variant_n(
                 parse_number32(cut_before(s, b',')),
@@ -117,24 +126,21 @@ fn call_open_or_close(
                 starts,
             ),
         ),
-        b'c' => call_done(rt, w.close(parse_number(s), out, starts)),
-        _ => {
-            print!(rt; " ?")?;
-            Ok(w)
-        }
+        b'c' => print_write(rt, w.close(parse_number(s), out, starts)),
+        _ => { print!(rt; " ?") }
     }
 }
 
-// Makes the call that a word spells; returns the next state.
+// Makes the call that a word spells.
 fn call_word(
     rt: &impl Print,
-    w: Writer,
+    w: &mut Writer,
     s: &[u8],
     out: &mut [u8],
     starts: &mut [u32],
-) -> io::Result<Writer> {
+) -> io::Result<()> {
     if s.len() == 0 {
-        return Ok(w);
+        return Ok(());
     }
     call_letter(rt, w, s[0], &s[1..], out, starts)
 }
@@ -142,11 +148,11 @@ fn call_word(
 // The same; if the word has an @, with no more of the output and the table than it says.
 fn call_lent(
     rt: &impl Print,
-    w: Writer,
+    w: &mut Writer,
     s: &[u8],
     out: &mut [u8],
     starts: &mut [u32],
-) -> io::Result<Writer> {
+) -> io::Result<()> {
     let lent = cut_after(s, b'@');
     if lent.len() == 0 {
         return call_word(rt, w, s, out, starts);
@@ -164,16 +170,21 @@ fn call_lent(
 
 // ---- all calls of a line
 
-// Makes the calls that the words of s spell; returns the last state.
-fn call_each(rt: &impl Print, s: &[u8], out: &mut [u8], starts: &mut [u32]) -> io::Result<Writer> {
-    let mut w = Writer::new();
+// Makes the calls that the words of s spell.
+fn call_each(
+    rt: &impl Print,
+    w: &mut Writer,
+    s: &[u8],
+    out: &mut [u8],
+    starts: &mut [u32],
+) -> io::Result<()> {
     let mut at: usize = 0;
     while at < s.len() {
         let end = find_byte(s, at, b' ');
-        w = call_lent(rt, w, &s[at..end], out, starts)?;
+        call_lent(rt, w, &s[at..end], out, starts)?;
         at = end + 1;
     }
-    Ok(w)
+    Ok(())
 }
 
 // Whether no byte from at on has changed.
@@ -224,7 +235,8 @@ fn print_written(rt: &impl Print, w: Writer, out: &[u8], starts: &[u32]) -> io::
 }
 
 fn call_all(rt: &impl Print, s: &[u8], out: &mut [u8], starts: &mut [u32]) -> io::Result<()> {
-    let w = call_each(rt, s, out, starts)?;
+    let mut w = Writer::new();
+    call_each(rt, &mut w, s, out, starts)?;
     print_written(rt, w, out, starts)
 }
 

@@ -37,7 +37,6 @@ use print::{
     print_body_place, print_bytes, print_check, print_error, print_follow, print_head,
     print_offset, print_read, print_table,
 };
-use scan::ScanResult;
 use std::io;
 use std::io::{Input, Read};
 use words::{find_byte, find_last_word, first_word, parse_hex, parse_number, skip_word};
@@ -90,12 +89,12 @@ fn answer_tokens(rt: &impl Print, region: &[u8]) -> io::Result<()> {
     let mut pending: u64 = 0;
     while (at < region.len()) | (0 < pending) {
         match scan::scan(region, at, 0 < pending, Mode::Strict) {
-            ScanResult::Ok(h) => {
+            Ok(h) => {
                 print_head(rt, at, h)?;
                 pending = pending_after(pending, h.items);
                 at = h.end;
             }
-            ScanResult::Err(e) => return print_error(rt, e),
+            Err(e) => return print_error(rt, e),
         }
     }
     print!(rt; " end")

@@ -1,10 +1,9 @@
 // Printing to standard output.
-use checker::CheckResult;
+use checker::Summary;
 use error::{Error, ErrorKind};
-use reader::{BodyResult, FollowResult, OffsetResult, ReadResult, Value};
+use reader::{Followed, Place, Value};
 use scan::Head;
 use std::io;
-use writer::WriteAnswer;
 
 // ---- numbers, after a space each
 
@@ -94,46 +93,46 @@ fn print_value(rt: &impl Print, v: Value) -> io::Result<()> {
 
 // ---- answers
 
-pub(crate) fn print_read(rt: &impl Print, r: ReadResult) -> io::Result<()> {
+pub(crate) fn print_read(rt: &impl Print, r: Result<Value, Error>) -> io::Result<()> {
     match r {
-        ReadResult::Ok(v) => print_value(rt, v),
-        ReadResult::Err(e) => print_error(rt, e),
+        Ok(v) => print_value(rt, v),
+        Err(e) => print_error(rt, e),
     }
 }
 
 // The answer of `skip`, `item` and `lookup`.
-pub(crate) fn print_offset(rt: &impl Print, r: OffsetResult) -> io::Result<()> {
+pub(crate) fn print_offset(rt: &impl Print, r: Result<usize, Error>) -> io::Result<()> {
     match r {
-        OffsetResult::Ok(at) => print!(rt; " {at}"),
-        OffsetResult::Err(e) => print_error(rt, e),
+        Ok(at) => print!(rt; " {at}"),
+        Err(e) => print_error(rt, e),
     }
 }
 
-pub(crate) fn print_follow(rt: &impl Print, r: FollowResult) -> io::Result<()> {
+pub(crate) fn print_follow(rt: &impl Print, r: Result<Followed, Error>) -> io::Result<()> {
     match r {
-        FollowResult::Ok { at, hops } => print!(rt; " {at} {hops}"),
-        FollowResult::Err(e) => print_error(rt, e),
+        Ok(Followed { at, hops }) => print!(rt; " {at} {hops}"),
+        Err(e) => print_error(rt, e),
     }
 }
 
-pub(crate) fn print_body_place(rt: &impl Print, r: BodyResult) -> io::Result<()> {
+pub(crate) fn print_body_place(rt: &impl Print, r: Result<Place, Error>) -> io::Result<()> {
     match r {
-        BodyResult::Ok { first, len } => print!(rt; " {first} {len}"),
-        BodyResult::Err(e) => print_error(rt, e),
+        Ok(Place { first, len }) => print!(rt; " {first} {len}"),
+        Err(e) => print_error(rt, e),
     }
 }
 
 // The answer of `check` and `depths`.
-pub(crate) fn print_check(rt: &impl Print, r: CheckResult) -> io::Result<()> {
+pub(crate) fn print_check(rt: &impl Print, r: Result<Summary, Error>) -> io::Result<()> {
     match r {
-        CheckResult::Ok { count, entry } => print!(rt; " ok {count} {entry}"),
-        CheckResult::Err(e) => print_error(rt, e),
+        Ok(Summary { count, entry }) => print!(rt; " ok {count} {entry}"),
+        Err(e) => print_error(rt, e),
     }
 }
 
-pub(crate) fn print_write(rt: &impl Print, answer: WriteAnswer) -> io::Result<()> {
+pub(crate) fn print_write(rt: &impl Print, answer: Result<(), ErrorKind>) -> io::Result<()> {
     match answer {
-        WriteAnswer::Ok => print!(rt; " ok"),
-        WriteAnswer::Err(e) => print_name(rt, e),
+        Ok(()) => print!(rt; " ok"),
+        Err(e) => print_name(rt, e),
     }
 }

@@ -1,26 +1,23 @@
 -- What the answer of `scan` means.
 --
---   answer_of r           a `ScanResult` in document 01's terms: the head, or the error's number and place
+--   answer_of r           a result of `scan` in document 01's terms: the head, or the error's number and place
 --   head_of len r         what was scanned, by offsets of a region of len bytes: `first` is just after the numbers,
 --                        `end` just after the body
 --   scan_at mode inner s at
 --                        the token at the offset `at` of the region s, as an item (NESTED) if `inner` is true
 --   body_on s h           the bytes of the body of a token with head h in the region s
-use Rattle.std.specs.Prelude.{ℕ, ◌-◌, Bool, List, length, take, drop}
+use Rattle.std.specs.Prelude.{ℕ, ◌-◌, Bool, List, Result, length, take, drop}
 use Rattle.prelude.specs.Answer.{Answer, ok, error, Res, got, bad}
-use Rattle.error.specs.Error as errors
-use Rattle.error.specs.Error.{Fault}
+use Rattle.error.specs.Error.{Fault, answered}
+use Rattle.error.specs.declared.Error.{Error}
 use Rattle.leb128.specs.declared.Mode.{Mode}
 use Rattle.kind.specs.Kind.{rule, pending}
 use Rattle.token.specs.Token.{Token}
 use Rattle.token.specs.Scan.{scan}
 use Rattle.scan.specs.declared.Head.{Head}
-use Rattle.scan.specs.declared.ScanResult.{ScanResult}
-use Rattle.scan.specs.declared.ScanResult.TheVariants.{Ok, Err}
 
-abbrev pub answer_of : ScanResult → Answer Fault Head
-answer_of (Ok h) = ok h
-answer_of (Err e) = error (errors.fault_of e)
+abbrev pub answer_of : Result Head Error → Answer Fault Head
+answer_of = answered (λ h. h)
 
 unfoldable pub head_of : ℕ → Res Fault Token → Answer Fault Head
 head_of len (got t rest) = ok (record {

@@ -11,32 +11,28 @@ ghost use Rattle.scan_number.specs.Internal.{numbered};
 
 use error::{Error, ErrorKind};
 use kind::Rule;
-use leb128::{GetResult, Mode};
+use leb128::{Mode, Number};
 
 // The number n of a header with this low nibble, if s comes after it, and the bytes left after n.
-pub fn number(low: u8, most: u64, s: &[u8], mode: Mode) -> GetResult
+pub fn number(low: u8, most: u64, s: &[u8], mode: Mode) -> Result<Number, ErrorKind>
     requires { (low ≤ most) × (low < 16) }
     ensures { numbers.answer_of result ≡ numbered mode low most s.now }
 {
     if low < kind::EXTENDED as u8 {
-        return GetResult::Ok {
+        return Ok(Number {
             value: low as u64,
             left: s.len(),
-        };
+        });
     }
-    match leb128::get(s, mode) {
-        GetResult::Ok { value, left } => {
-            // RANGE: n is over its kind's bound
-            if most - kind::EXTENDED < value {
-                return GetResult::Err(ErrorKind::Range);
-            }
-            GetResult::Ok {
-                value: kind::EXTENDED + value,
-                left,
-            }
-        }
-        GetResult::Err(error) => GetResult::Err(error),
+    let above = leb128::get(s, mode)?;
+    // RANGE: n is over its kind's bound
+    if most - kind::EXTENDED < above.value {
+        return Err(ErrorKind::Range);
     }
+    Ok(Number {
+        value: kind::EXTENDED + above.value,
+        left: above.left,
+    })
 }
 
 // Whether the bytes left have room for the body and the items that n counts.

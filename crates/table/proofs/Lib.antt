@@ -1,4 +1,2 @@
--- zeros from the front on
-mod Fills
 -- words counted by blocks
 pub mod Blocks

@@ -1,8 +1,7 @@
-// A table of words: filled with zeros, as are bytes; and its words counted by blocks, so that a search (crate
-// table_search) has little to look at.
+// A table of words, counted by blocks, so that a search (crate table_search) has little to look at.
 #![tactic(auto)]
 
-ghost use Rattle.std.specs.Prelude.{◌≡◌, ◌+◌, ◌*◌, ◌≤◌, ◌<◌, ◌^◌, length, take, replicate};
+ghost use Rattle.std.specs.Prelude.{◌≡◌, ◌+◌, ◌*◌, ◌≤◌, ◌<◌, ◌^◌, length, take};
 ghost use Rattle.prelude.specs.Search.{Rising};
 ghost use Rattle.table.specs.Blocks.{BLOCK, Counted, Below};
 
@@ -20,39 +19,13 @@ pub const FEW: usize = 16;
 // The length from which a region is not short: FEW blocks.
 pub const LONG: usize = 65536;
 
-// Makes every word 0.
-pub fn zero(t: &mut [u32])
-    ensures { t.new ≡ replicate (length t.old) 0 }
-{
-    let mut i = 0;
-    while i < t.len() {
-        t[i] = 0;
-        i += 1;
-    }
-}
-
-// Makes every byte 0.
-pub fn clear(bytes: &mut [u8])
-    ensures { bytes.new ≡ replicate (length bytes.old) 0 }
-{
-    let mut k = 0;
-    while k < bytes.len() {
-        bytes[k] = 0;
-        k += 1;
-    }
-}
-
 // Counts the words of a table for the blocks from `next` to `last`; all of them come before block `next`.
 pub fn count_blocks(t: &[u32], blocks: &mut [u32], next: usize, last: usize)
     requires { (next ≤ last + 1) × (last < length blocks.old) × (length t.now < 2 ^ 32)
         × (Below (next * BLOCK) t.now) × (Counted (take next blocks.old) t.now) }
     ensures { Counted (take (last + 1) blocks.new) t.now }
 {
-    let mut b = next;
-    while b <= last {
-        blocks[b] = t.len() as u32;
-        b += 1;
-    }
+    blocks[next..=last].fill(t.len() as u32);
 }
 
 // Fills `blocks` up to the block of the last word; returns how many blocks are filled.
@@ -61,12 +34,10 @@ pub fn index(t: &[u32], blocks: &mut [u32]) -> usize
     ensures { (result ≤ length blocks.new) × (Counted (take result blocks.new) t.now) }
 {
     let mut known: usize = 0;
-    let mut i: usize = 0;
-    while i < t.len() {
-        let last = (t[i] / BLOCK_WORD) as usize;
+    for (i, &word) in t.iter().enumerate() {
+        let last = (word / BLOCK_WORD) as usize;
         count_blocks(&t[..i], blocks, known, last);
         known = last + 1;
-        i += 1;
     }
     known
 }

@@ -172,10 +172,9 @@ pub extern "C" fn twine_write_bool(
     ensures { called result state.new out.new starts.new
         ≡ step_c (Call.scalar (truth value)) state.old out.old starts.old }
 {
-    abi_writer::settle(
-        abi_writer::writer_of(state).scalar(abi_writer::truth(value), out, starts),
-        state,
-    )
+    let mut writer = abi_writer::writer_of(state);
+    let answer = writer.scalar(abi_writer::truth(value), out, starts);
+    abi_writer::settle(answer, writer, state)
 }
 
 #[unsafe(no_mangle)]
@@ -183,10 +182,9 @@ pub extern "C" fn twine_write_null(state: &mut [u64; 5], out: &mut [u8], starts:
     ensures { called result state.new out.new starts.new
         ≡ step_c (Call.scalar Scalar.Null) state.old out.old starts.old }
 {
-    abi_writer::settle(
-        abi_writer::writer_of(state).scalar(Scalar::Null, out, starts),
-        state,
-    )
+    let mut writer = abi_writer::writer_of(state);
+    let answer = writer.scalar(Scalar::Null, out, starts);
+    abi_writer::settle(answer, writer, state)
 }
 
 #[unsafe(no_mangle)]
@@ -199,10 +197,9 @@ pub extern "C" fn twine_write_integer(
     ensures { called result state.new out.new starts.new
         ≡ step_c (Call.integer value) state.old out.old starts.old }
 {
-    abi_writer::settle(
-        abi_writer::writer_of(state).integer(value, out, starts),
-        state,
-    )
+    let mut writer = abi_writer::writer_of(state);
+    let answer = writer.integer(value, out, starts);
+    abi_writer::settle(answer, writer, state)
 }
 
 #[unsafe(no_mangle)]
@@ -215,10 +212,9 @@ pub extern "C" fn twine_write_float32(
     ensures { called result state.new out.new starts.new
         ≡ step_c (Call.float32 bits) state.old out.old starts.old }
 {
-    abi_writer::settle(
-        abi_writer::writer_of(state).float32(bits, out, starts),
-        state,
-    )
+    let mut writer = abi_writer::writer_of(state);
+    let answer = writer.float32(bits, out, starts);
+    abi_writer::settle(answer, writer, state)
 }
 
 #[unsafe(no_mangle)]
@@ -231,10 +227,9 @@ pub extern "C" fn twine_write_float64(
     ensures { called result state.new out.new starts.new
         ≡ step_c (Call.float64 bits) state.old out.old starts.old }
 {
-    abi_writer::settle(
-        abi_writer::writer_of(state).float64(bits, out, starts),
-        state,
-    )
+    let mut writer = abi_writer::writer_of(state);
+    let answer = writer.float64(bits, out, starts);
+    abi_writer::settle(answer, writer, state)
 }
 
 #[unsafe(no_mangle)]
@@ -247,7 +242,9 @@ pub extern "C" fn twine_write_text(
     ensures { called result state.new out.new starts.new
         ≡ step_c (Call.text text.now) state.old out.old starts.old }
 {
-    abi_writer::settle(abi_writer::writer_of(state).text(text, out, starts), state)
+    let mut writer = abi_writer::writer_of(state);
+    let answer = writer.text(text, out, starts);
+    abi_writer::settle(answer, writer, state)
 }
 
 #[unsafe(no_mangle)]
@@ -260,10 +257,9 @@ pub extern "C" fn twine_write_bytes(
     ensures { called result state.new out.new starts.new
         ≡ step_c (Call.bytes bytes.now) state.old out.old starts.old }
 {
-    abi_writer::settle(
-        abi_writer::writer_of(state).bytes(bytes, out, starts),
-        state,
-    )
+    let mut writer = abi_writer::writer_of(state);
+    let answer = writer.bytes(bytes, out, starts);
+    abi_writer::settle(answer, writer, state)
 }
 
 #[unsafe(no_mangle)]
@@ -276,10 +272,9 @@ pub extern "C" fn twine_write_variant(
     ensures { called result state.new out.new starts.new
         ≡ step_c (Call.variant index) state.old out.old starts.old }
 {
-    abi_writer::settle(
-        abi_writer::writer_of(state).variant(index, out, starts),
-        state,
-    )
+    let mut writer = abi_writer::writer_of(state);
+    let answer = writer.variant(index, out, starts);
+    abi_writer::settle(answer, writer, state)
 }
 
 #[unsafe(no_mangle)]
@@ -292,10 +287,9 @@ pub extern "C" fn twine_write_reference(
     ensures { called result state.new out.new starts.new
         ≡ step_c (Call.reference at) state.old out.old starts.old }
 {
-    abi_writer::settle(
-        abi_writer::writer_of(state).reference(at, out, starts),
-        state,
-    )
+    let mut writer = abi_writer::writer_of(state);
+    let answer = writer.reference(at, out, starts);
+    abi_writer::settle(answer, writer, state)
 }
 
 #[unsafe(no_mangle)]
@@ -308,7 +302,9 @@ pub extern "C" fn twine_write_pointer(
     ensures { called result state.new out.new starts.new
         ≡ step_c (Call.pointer at) state.old out.old starts.old }
 {
-    abi_writer::settle(abi_writer::writer_of(state).pointer(at, out, starts), state)
+    let mut writer = abi_writer::writer_of(state);
+    let answer = writer.pointer(at, out, starts);
+    abi_writer::settle(answer, writer, state)
 }
 
 #[unsafe(no_mangle)]
@@ -321,10 +317,9 @@ pub extern "C" fn twine_open_array(
     ensures { called result state.new out.new starts.new
         ≡ step_c (Call.open_array items) state.old out.old starts.old }
 {
-    abi_writer::settle(
-        abi_writer::writer_of(state).open_array(items, out, starts),
-        state,
-    )
+    let mut writer = abi_writer::writer_of(state);
+    let answer = writer.open_array(items, out, starts);
+    abi_writer::settle(answer, writer, state)
 }
 
 #[unsafe(no_mangle)]
@@ -337,10 +332,9 @@ pub extern "C" fn twine_open_map(
     ensures { called result state.new out.new starts.new
         ≡ step_c (Call.open_map pairs) state.old out.old starts.old }
 {
-    abi_writer::settle(
-        abi_writer::writer_of(state).open_map(pairs, out, starts),
-        state,
-    )
+    let mut writer = abi_writer::writer_of(state);
+    let answer = writer.open_map(pairs, out, starts);
+    abi_writer::settle(answer, writer, state)
 }
 
 #[unsafe(no_mangle)]
@@ -353,10 +347,9 @@ pub extern "C" fn twine_open_tag(
     ensures { called result state.new out.new starts.new
         ≡ step_c (Call.open_tag tag) state.old out.old starts.old }
 {
-    abi_writer::settle(
-        abi_writer::writer_of(state).open_tag(tag, out, starts),
-        state,
-    )
+    let mut writer = abi_writer::writer_of(state);
+    let answer = writer.open_tag(tag, out, starts);
+    abi_writer::settle(answer, writer, state)
 }
 
 #[unsafe(no_mangle)]
@@ -369,10 +362,9 @@ pub extern "C" fn twine_open_variant1(
     ensures { called result state.new out.new starts.new
         ≡ step_c (Call.open_variant1 index) state.old out.old starts.old }
 {
-    abi_writer::settle(
-        abi_writer::writer_of(state).open_variant1(index, out, starts),
-        state,
-    )
+    let mut writer = abi_writer::writer_of(state);
+    let answer = writer.open_variant1(index, out, starts);
+    abi_writer::settle(answer, writer, state)
 }
 
 #[unsafe(no_mangle)]
@@ -386,10 +378,9 @@ pub extern "C" fn twine_open_variantn(
     ensures { called result state.new out.new starts.new
         ≡ step_c (Call.open_variant_n index items) state.old out.old starts.old }
 {
-    abi_writer::settle(
-        abi_writer::writer_of(state).open_variant_n(index, items, out, starts),
-        state,
-    )
+    let mut writer = abi_writer::writer_of(state);
+    let answer = writer.open_variant_n(index, items, out, starts);
+    abi_writer::settle(answer, writer, state)
 }
 
 #[unsafe(no_mangle)]
@@ -402,5 +393,7 @@ pub extern "C" fn twine_close(
     ensures { called result state.new out.new starts.new
         ≡ step_c (Call.close at) state.old out.old starts.old }
 {
-    abi_writer::settle(abi_writer::writer_of(state).close(at, out, starts), state)
+    let mut writer = abi_writer::writer_of(state);
+    let answer = writer.close(at, out, starts);
+    abi_writer::settle(answer, writer, state)
 }

@@ -9,7 +9,7 @@ ghost use Rattle.leb128.specs.declared.Mode.TheVariants.{Strict};
 ghost use Rattle.checker.specs.Check.{checked, check_of};
 ghost use Rattle.checker.specs.Answers.{check_answer};
 
-use checker::CheckResult;
+use checker::Summary;
 use error::{Error, ErrorKind};
 use leb128::Mode;
 use std::io;
@@ -25,10 +25,10 @@ fn refusal(rt: &impl Print, e: Error) -> io::Result<()> {
     println!(rt; " {place}")
 }
 
-fn answer(rt: &impl Print, r: CheckResult) -> io::Result<()> {
+fn answer(rt: &impl Print, r: Result<Summary, Error>) -> io::Result<()> {
     match r {
-        CheckResult::Ok { count, entry } => println!(rt; "ok {count} {entry}"),
-        CheckResult::Err(e) => refusal(rt, e),
+        Ok(Summary { count, entry }) => println!(rt; "ok {count} {entry}"),
+        Err(e) => refusal(rt, e),
     }
 }
 
@@ -48,7 +48,7 @@ fn read_full(input: &mut impl Read, buffer: &mut [u8]) -> io::Result<usize>
 }
 
 // Checks a plan file in the strict mode (document 02, W-203).
-fn check(file: &[u8], starts: &mut [u32]) -> CheckResult
+fn check(file: &[u8], starts: &mut [u32]) -> Result<Summary, Error>
     ensures { checked (check_answer result) starts.new ≡ check_of Strict file.now (length starts.old) }
 {
     checker::check(file, starts, Mode::Strict)
@@ -63,7 +63,7 @@ fn main(rt: HostRuntime) -> io::Result<()> {
     if 16384 < n {
         return answer(
             &rt,
-            CheckResult::Err(Error {
+            Err(Error {
                 kind: ErrorKind::TooLong,
                 place: 0,
             }),

@@ -8,12 +8,12 @@
 --                         for a kind k that names a target, g is whether the target x is listed; for a text, whether the
 --                         body b is text; for all others it is true
 --   token_flags_by row k g  the flags of a token of kind k with the rule `row`; g is false if its text or target is wrong
+--   Fits t x s out table f
+--                         the token t with the target x is accepted, and the `Fit` f is right for it
 --   FitOf t x s out table r
---                         the `Fit` r is right for the token t with the target x
+--                         r is a right `Fit` for the token t with the target x, or why it is refused
 --   Advanced r s table next words
 --                         a token with the `Fit` r, once written, leaves the state `next` and the table `words`
---   Failed e s r          r has the error e, and keeps the state
---   Refused q s n m r     r refuses a call with the flags q, for NO_ROOM if there is no other reason, and keeps the state
 --   WroteDelta d s out r o
 --                         writing the delta byte d leaves the state r and the output o, and any table as it was
 --   close_near e d s out table
@@ -21,6 +21,7 @@
 --   close_far e back s out table
 --                         a close at e by a pointer of that distance and its delta byte, written or refused
 use Rattle.std.specs.Prelude.{◌≡◌, Bool, true, false, not, ◌&&◌, List, [], ℕ, ◌+◌, ◌≤◌, ◌<◌, eqb, leb, length, set}
+use Rattle.std.specs.Prelude as code
 use Rattle.prelude.specs.Pick.{pick}
 use Rattle.prelude.specs.Answer.{ok, error}
 use Rattle.error.specs.Error.{LIMIT, number_of}
@@ -33,9 +34,7 @@ use Rattle.writer_refusal.specs.Refusal.{limit, is_listed, refusal_of}
 use Rattle.writer_refusal.specs.declared.State.{State}
 use Rattle.writer_refusal.specs.declared.CallFlags.{CallFlags}
 use Rattle.writer.specs.Step.{opens, pending_of, token_refusal, delta_refusal, start_of, Result, result, write_delta, write_pointer_delta, settled}
-use Rattle.writer.specs.Answers.{answer_of}
 use Rattle.writer.specs.declared.Fit.{Fit}
-use Rattle.writer.specs.declared.WriteResult.{WriteResult}
 
 abbrev pub ListedTest : Bool → ℕ → State → List ℕ → Type 0
 ListedTest g x s table = s.written ≤ LIMIT → s.count ≤ length table → g ≡ is_listed s table x
@@ -50,12 +49,16 @@ ArgumentTest g k b x s table = IfElse (leb 14 k) (ListedTest g x s table) (IfEls
 abbrev pub token_flags_by : Rule → ℕ → Bool → CallFlags
 token_flags_by row k g = record { alone = not (immediate row); nontext = eqb k 4 && not g; unlisted = leb 14 k && not g; adds = true }
 
-pub record FitOf (t : Token) (x : ℕ) (s : State) (out table : List ℕ) (r : Fit) : Type 0 where
+pub record Fits (t : Token) (x : ℕ) (s : State) (out table : List ℕ) (f : Fit) : Type 0 where
   pub kind : t.kind < 16
-  pub answer : answer_of r.answer ≡ token_refusal (opens t) t x s out table
-  pub second : r.second ≡ (rule t.kind).args
-  pub size : r.size ≡ length (emit t)
-  pub left : r.left ≡ due s.pending (limit (pending_of t))
+  pub accepted : token_refusal (opens t) t x s out table ≡ ok tt
+  pub second : f.second ≡ (rule t.kind).args
+  pub size : f.size ≡ length (emit t)
+  pub left : f.left ≡ due s.pending (limit (pending_of t))
+
+abbrev pub FitOf : Token → ℕ → State → List ℕ → List ℕ → code.Result Fit ErrorKind → Type 0
+FitOf t x s out table (code.Ok f) = Fits t x s out table f
+FitOf t x s out table (code.Err e) = token_refusal (opens t) t x s out table ≡ error (number_of e)
 
 pub record Advanced (r : Fit) (s : State) (table : List ℕ) (next : State) (words : List ℕ) : Type 0 where
   pub state : next ≡ record {
@@ -66,14 +69,6 @@ pub record Advanced (r : Fit) (s : State) (table : List ℕ) (next : State) (wor
     closed = false;
   }
   pub listed : words ≡ pick (eqb r.left 0) (set table s.count (start_of s)) table
-
-pub record Failed (e : ErrorKind) (s : State) (r : WriteResult) : Type 0 where
-  pub writer : r.writer.state ≡ s
-  pub answer : answer_of r.answer ≡ error (number_of e)
-
-pub record Refused (q : CallFlags) (s : State) (n m : ℕ) (r : WriteResult) : Type 0 where
-  pub writer : r.writer.state ≡ s
-  pub answer : answer_of r.answer ≡ refusal_of q true s n m
 
 pub record WroteDelta (d : ℕ) (s : State) (out : List ℕ) (r : State) (o : List ℕ) : Type 0 where
   pub same : (table : List ℕ) → result (ok tt) r o table ≡ write_delta d s out table

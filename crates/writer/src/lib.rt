@@ -3,18 +3,19 @@
 
 ghost use Rattle.std.specs.Prelude.{◌≡◌, [], ◌+◌, ◌-◌, ◌<◌, ◌^◌, length};
 ghost use Rattle.prelude.specs.Pick.{pick};
+ghost use Rattle.prelude.specs.Answer.{ok};
 ghost use Rattle.kind.specs.Kind.{rule};
 ghost use Rattle.token.specs.Token.{token};
 ghost use Rattle.writer.specs.Call.{Call};
-ghost use Rattle.writer.specs.Step.{scalar_of, integer_of, start_of, put_token, put_moved, fresh, step};
+ghost use Rattle.writer.specs.Step.{scalar_of, integer_of, start_of, result as outcome, put_token, put_moved, fresh, step};
 ghost use Rattle.writer.specs.Answers.{wrote};
-ghost use Rattle.writer.specs.Internal.{ListedTest, ArgumentTest, token_flags_by, FitOf, Advanced, Failed, Refused, WroteDelta, close_near, close_far};
+ghost use Rattle.writer.specs.Internal.{ListedTest, ArgumentTest, token_flags_by, Fits, FitOf, Advanced, WroteDelta, close_near, close_far};
 
 use error::ErrorKind;
 use kind::Rule;
 use writer_refusal::{CallFlags, State};
 
-// A writer of a file. Each call takes it and returns the next one; output and table are lent to each call.
+// A writer of a file. Output and table are lent to each call; one that is refused leaves writer, output and table as they were.
 #[derive(Clone, Copy)]
 pub struct Writer {
     pub state: State,
@@ -27,24 +28,9 @@ pub enum Scalar {
     Null,
 }
 
-#[derive(Clone, Copy)]
-pub enum WriteAnswer {
-    Ok,
-    Err(ErrorKind),
-}
-
-// The next writer, which is the same if the call was refused, and the answer.
-#[derive(Clone, Copy)]
-pub struct WriteResult {
-    pub writer: Writer,
-    pub answer: WriteAnswer,
-}
-
-// What `fit` finds about a token before it is written or refused.
+// What `fit` finds about a token that is accepted, before it is written.
 #[derive(Clone, Copy)]
 struct Fit {
-    // Whether it is accepted, or why it is refused.
-    answer: WriteAnswer,
     // Whether its kind has a second number.
     second: bool,
     // Its bytes.
@@ -112,10 +98,10 @@ fn token_flags(row: Rule, kind: u8, good: bool) -> CallFlags
 impl Writer {
     // ---- a token
 
-    // Whether a token that names the offset `target` is accepted, and what it takes. `good`: its text or target is right;
-    // `row`: the rule of its kind.
+    // Whether a token that names the offset `target` is accepted, and what it takes; or why it is refused. `good`: its text or target
+    // is right; `row`: the rule of its kind.
     fn fit(
-        self,
+        &self,
         good: bool,
         row: Rule,
         kind: u8,
@@ -125,9 +111,9 @@ impl Writer {
         target: usize,
         out: &[u8],
         starts: &[u32],
-    ) -> Fit
-        requires { (kind < 16) × (row ≡ rule kind) × ArgumentTest good kind body.now target self.state starts.now }
-        ensures { FitOf (token kind n args body.now) target self.state out.now starts.now result }
+    ) -> Result<Fit, ErrorKind>
+        requires { (kind < 16) × (row ≡ rule kind) × ArgumentTest good kind body.now target self.now.state starts.now }
+        ensures { FitOf (token kind n args body.now) target self.now.state out.now starts.now result }
     {
         let request = token_flags(row, kind, good);
         let size = emit::size_by(row, n, args, body);
@@ -135,63 +121,34 @@ impl Writer {
         let bytes = out.len();
         let words = starts.len();
         if writer_refusal::may_write(self.state, request, size, left, bytes, words) {
-            return Fit {
-                answer: WriteAnswer::Ok,
+            return Ok(Fit {
                 second: row.args,
                 size,
                 left,
-            };
+            });
         }
-        let e = writer_refusal::refusal(self.state, request, bytes, words);
-        Fit {
-            answer: WriteAnswer::Err(e),
-            second: row.args,
-            size,
-            left,
-        }
+        Err(writer_refusal::refusal(self.state, request, bytes, words))
     }
 
-    // The writer after a token is written; lists the start of the value if the token finishes it.
-    fn advance(self, fit: Fit, starts: &mut [u32]) -> Writer
-        requires { (start_of self.state < 2 ^ 32) × (self.state.count < length starts.old) × (self.state.written + fit.size < 2 ^ 64) }
-        ensures { Advanced fit self.state starts.old result.state starts.new }
+    // Goes on after a token is written; lists the start of the value if the token finishes it.
+    fn advance(&mut self, fit: Fit, starts: &mut [u32])
+        requires { (start_of self.old.state < 2 ^ 32) × (self.old.state.count < length starts.old) × (self.old.state.written + fit.size < 2 ^ 64) }
+        ensures { Advanced fit self.old.state starts.old self.new.state starts.new }
     {
-        let left = fit.left;
         let first = self.state.pending == 0;
         let start = pick(first, self.state.written, self.state.start);
-        let count = writer_listing::list_start(left, start, self.state.count, starts);
-        Writer {
-            state: State {
-                written: self.state.written + fit.size,
-                count,
-                pending: left,
-                start,
-                closed: false,
-            },
-        }
+        self.state = State {
+            written: self.state.written + fit.size,
+            count: writer_listing::list_start(fit.left, start, self.state.count, starts),
+            pending: fit.left,
+            start,
+            closed: false,
+        };
     }
 
-    // The result of a refused call: the writer stays as it was.
-    fn fail(self, error: ErrorKind) -> WriteResult
-        ensures { Failed error self.state result }
-    {
-        WriteResult {
-            writer: self,
-            answer: WriteAnswer::Err(error),
-        }
-    }
-
-    // Refuses a call, for NO_ROOM if there is no other reason.
-    fn refuse(self, request: CallFlags, bytes: usize, words: usize) -> WriteResult
-        ensures { Refused request self.state bytes words result }
-    {
-        let e = writer_refusal::refusal(self.state, request, bytes, words);
-        self.fail(e)
-    }
-
-    // Writes or refuses a token that has no body.
+    // Writes a token that has no body.
     fn put_token(
-        self,
+        &mut self,
         fit: Fit,
         kind: u8,
         n: u64,
@@ -199,28 +156,19 @@ impl Writer {
         target: usize,
         out: &mut [u8],
         starts: &mut [u32],
-    ) -> WriteResult
-        requires { FitOf (token kind n args []) target self.state out.old starts.old fit }
-        ensures { wrote result out.new starts.new
-            ≡ put_token (token kind n args []) target self.state out.old starts.old }
+    )
+        requires { Fits (token kind n args []) target self.old.state out.old starts.old fit }
+        ensures { outcome (ok tt) self.new.state out.new starts.new
+            ≡ put_token (token kind n args []) target self.old.state out.old starts.old }
     {
-        let answer = fit.answer;
-        match answer {
-            WriteAnswer::Err(e) => self.fail(e),
-            WriteAnswer::Ok => {
-                let written = self.state.written;
-                emit::put_head(&mut out[written..], kind, n, fit.second, args);
-                WriteResult {
-                    writer: self.advance(fit, starts),
-                    answer: WriteAnswer::Ok,
-                }
-            }
-        }
+        let written = self.state.written;
+        emit::put_head(&mut out[written..], kind, n, fit.second, args);
+        self.advance(fit, starts);
     }
 
-    // Writes or refuses a token that has a body.
+    // Writes a token that has a body.
     fn put_body(
-        self,
+        &mut self,
         fit: Fit,
         kind: u8,
         n: u64,
@@ -229,30 +177,21 @@ impl Writer {
         target: usize,
         out: &mut [u8],
         starts: &mut [u32],
-    ) -> WriteResult
-        requires { FitOf (token kind n args body.now) target self.state out.old starts.old fit }
-        ensures { wrote result out.new starts.new
-            ≡ put_token (token kind n args body.now) target self.state out.old starts.old }
+    )
+        requires { Fits (token kind n args body.now) target self.old.state out.old starts.old fit }
+        ensures { outcome (ok tt) self.new.state out.new starts.new
+            ≡ put_token (token kind n args body.now) target self.old.state out.old starts.old }
     {
-        let answer = fit.answer;
-        match answer {
-            WriteAnswer::Err(e) => self.fail(e),
-            WriteAnswer::Ok => {
-                let written = self.state.written;
-                emit::put_within(&mut out[written..], kind, n, fit.second, args, body);
-                WriteResult {
-                    writer: self.advance(fit, starts),
-                    answer: WriteAnswer::Ok,
-                }
-            }
-        }
+        let written = self.state.written;
+        emit::put_within(&mut out[written..], kind, n, fit.second, args, body);
+        self.advance(fit, starts);
     }
 
     // ---- a token of another file
 
     // Whether the text or target of a token is right; `number`: the word of the table in which a target is looked for first.
-    fn is_good(self, kind: u8, body: &[u8], target: usize, number: usize, starts: &[u32]) -> bool
-        ensures { ArgumentTest result kind body.now target self.state starts.now }
+    fn is_good(&self, kind: u8, body: &[u8], target: usize, number: usize, starts: &[u32]) -> bool
+        ensures { ArgumentTest result kind body.now target self.now.state starts.now }
     {
         if kind::KIND_REFERENCE <= kind {
             return writer_listing::is_listed_near(
@@ -272,7 +211,7 @@ impl Writer {
     // Writes or refuses a token that is given by its parts. A reference or pointer names the offset in word number `number` of the
     // table, and n is not looked at.
     pub fn put_moved(
-        self,
+        &mut self,
         kind: u8,
         n: u64,
         args: u64,
@@ -280,49 +219,43 @@ impl Writer {
         number: usize,
         out: &mut [u8],
         starts: &mut [u32],
-    ) -> WriteResult
+    ) -> Result<(), ErrorKind>
         requires { kind < 16 }
-        ensures { wrote result out.new starts.new
-            ≡ put_moved (token kind n args body.now) number self.state out.old starts.old }
+        ensures { wrote result self.new.state out.new starts.new
+            ≡ put_moved (token kind n args body.now) number self.old.state out.old starts.old }
     {
         let target = writer_target::named(kind, starts, number);
         let moved = writer_target::moved_number(kind, n, self.state.written, target);
         let rule = kind::rule_of(kind);
         let good = self.is_good(kind, body, target, number, starts);
-        let fit = self.fit(good, rule, kind, moved, args, body, target, out, starts);
-        self.put_body(fit, kind, moved, args, body, target, out, starts)
+        let fit = self.fit(good, rule, kind, moved, args, body, target, out, starts)?;
+        self.put_body(fit, kind, moved, args, body, target, out, starts);
+        Ok(())
     }
 
     // ---- the close
 
     // Writes the delta byte, which closes.
-    fn write_delta(self, delta: u8, out: &mut [u8]) -> Writer
-        requires { self.state.written < length out.old }
-        ensures { WroteDelta delta self.state out.old result.state out.new }
+    fn write_delta(&mut self, delta: u8, out: &mut [u8])
+        requires { self.old.state.written < length out.old }
+        ensures { WroteDelta delta self.old.state out.old self.new.state out.new }
     {
-        let state = self.state;
-        let written = state.written;
-        out[written] = delta;
-        Writer {
-            state: State {
-                written: written + 1,
-                closed: true,
-                ..state
-            },
-        }
+        out[self.state.written] = delta;
+        self.state.written += 1;
+        self.state.closed = true;
     }
 
     // Closes by the delta byte alone. `good`: `at` is listed.
     fn close_near(
-        self,
+        &mut self,
         good: bool,
         at: usize,
         delta: u8,
         out: &mut [u8],
         starts: &[u32],
-    ) -> WriteResult
-        requires { ListedTest good at self.state starts.now }
-        ensures { wrote result out.new starts.now ≡ close_near at delta self.state out.old starts.now }
+    ) -> Result<(), ErrorKind>
+        requires { ListedTest good at self.old.state starts.now }
+        ensures { wrote result self.new.state out.new starts.now ≡ close_near at delta self.old.state out.old starts.now }
     {
         let request = CallFlags {
             alone: true,
@@ -331,25 +264,23 @@ impl Writer {
             adds: false,
         };
         if writer_refusal::may_close(self.state, request, out.len(), starts.len()) {
-            return WriteResult {
-                writer: self.write_delta(delta, out),
-                answer: WriteAnswer::Ok,
-            };
+            self.write_delta(delta, out);
+            return Ok(());
         }
-        self.refuse(request, out.len(), starts.len())
+        Err(writer_refusal::refusal(self.state, request, out.len(), starts.len()))
     }
 
     // Closes by a pointer of the distance `back` and its delta byte. `good`: `at` is listed.
     fn close_far(
-        self,
+        &mut self,
         good: bool,
         at: usize,
         back: u64,
         out: &mut [u8],
         starts: &mut [u32],
-    ) -> WriteResult
-        requires { ListedTest good at self.state starts.old }
-        ensures { wrote result out.new starts.new ≡ close_far at back self.state out.old starts.old }
+    ) -> Result<(), ErrorKind>
+        requires { ListedTest good at self.old.state starts.old }
+        ensures { wrote result self.new.state out.new starts.new ≡ close_far at back self.old.state out.old starts.old }
     {
         if 0 < self.state.pending {
             let request = CallFlags {
@@ -358,27 +289,14 @@ impl Writer {
                 unlisted: !good,
                 adds: true,
             };
-            return self.refuse(request, out.len(), starts.len());
+            return Err(writer_refusal::refusal(self.state, request, out.len(), starts.len()));
         }
         let kind = kind::KIND_POINTER;
         let rule = kind::rule_of(kind);
-        let fit = self.fit(good, rule, kind, back, 0, b"", at, out, starts);
-        let r = self.put_token(fit, kind, back, 0, at, out, starts);
-        let answer = r.answer;
-        let next = r.writer;
-        match answer {
-            WriteAnswer::Err(e) => WriteResult {
-                writer: next,
-                answer: WriteAnswer::Err(e),
-            },
-            WriteAnswer::Ok => {
-                let size = next.state.written - self.state.written;
-                WriteResult {
-                    writer: next.write_delta((size - 1) as u8, out),
-                    answer: WriteAnswer::Ok,
-                }
-            }
-        }
+        let fit = self.fit(good, rule, kind, back, 0, b"", at, out, starts)?;
+        self.put_token(fit, kind, back, 0, at, out, starts);
+        self.write_delta((fit.size - 1) as u8, out);
+        Ok(())
     }
 
     // ---- the calls
@@ -398,166 +316,235 @@ impl Writer {
         }
     }
 
-    pub fn scalar(self, value: Scalar, out: &mut [u8], starts: &mut [u32]) -> WriteResult
-        ensures { wrote result out.new starts.new ≡ step (Call.scalar value) self.state out.old starts.old }
+    pub fn scalar(
+        &mut self,
+        value: Scalar,
+        out: &mut [u8],
+        starts: &mut [u32],
+    ) -> Result<(), ErrorKind>
+        ensures { wrote result self.new.state out.new starts.new ≡ step (Call.scalar value) self.old.state out.old starts.old }
     {
         let kind = kind::KIND_SCALAR;
         let rule = kind::rule_of(kind);
         let n = number(value);
-        let fit = self.fit(true, rule, kind, n, 0, b"", 0, out, starts);
-        self.put_token(fit, kind, n, 0, 0, out, starts)
+        let fit = self.fit(true, rule, kind, n, 0, b"", 0, out, starts)?;
+        self.put_token(fit, kind, n, 0, 0, out, starts);
+        Ok(())
     }
 
-    pub fn integer(self, value: i64, out: &mut [u8], starts: &mut [u32]) -> WriteResult
-        ensures { wrote result out.new starts.new ≡ step (Call.integer value) self.state out.old starts.old }
+    pub fn integer(
+        &mut self,
+        value: i64,
+        out: &mut [u8],
+        starts: &mut [u32],
+    ) -> Result<(), ErrorKind>
+        ensures { wrote result self.new.state out.new starts.new ≡ step (Call.integer value) self.old.state out.old starts.old }
     {
         let kind = sign(value);
         let rule = kind::rule_of(kind);
         let n = magnitude(value);
-        let fit = self.fit(true, rule, kind, n, 0, b"", 0, out, starts);
-        self.put_token(fit, kind, n, 0, 0, out, starts)
+        let fit = self.fit(true, rule, kind, n, 0, b"", 0, out, starts)?;
+        self.put_token(fit, kind, n, 0, 0, out, starts);
+        Ok(())
     }
 
     // Takes the bits, which are never computed with.
-    pub fn float32(self, bits: u32, out: &mut [u8], starts: &mut [u32]) -> WriteResult
-        ensures { wrote result out.new starts.new ≡ step (Call.float32 bits) self.state out.old starts.old }
+    pub fn float32(
+        &mut self,
+        bits: u32,
+        out: &mut [u8],
+        starts: &mut [u32],
+    ) -> Result<(), ErrorKind>
+        ensures { wrote result self.new.state out.new starts.new ≡ step (Call.float32 bits) self.old.state out.old starts.old }
     {
         let kind = kind::KIND_FLOAT;
         let rule = kind::rule_of(kind);
         let body = little_endian::bytes4(bits);
-        let fit = self.fit(true, rule, kind, 0, 0, &body, 0, out, starts);
-        self.put_body(fit, kind, 0, 0, &body, 0, out, starts)
+        let fit = self.fit(true, rule, kind, 0, 0, &body, 0, out, starts)?;
+        self.put_body(fit, kind, 0, 0, &body, 0, out, starts);
+        Ok(())
     }
 
-    pub fn float64(self, bits: u64, out: &mut [u8], starts: &mut [u32]) -> WriteResult
-        ensures { wrote result out.new starts.new ≡ step (Call.float64 bits) self.state out.old starts.old }
+    pub fn float64(
+        &mut self,
+        bits: u64,
+        out: &mut [u8],
+        starts: &mut [u32],
+    ) -> Result<(), ErrorKind>
+        ensures { wrote result self.new.state out.new starts.new ≡ step (Call.float64 bits) self.old.state out.old starts.old }
     {
         let kind = kind::KIND_FLOAT;
         let rule = kind::rule_of(kind);
         let body = little_endian::bytes8(bits);
-        let fit = self.fit(true, rule, kind, 1, 0, &body, 0, out, starts);
-        self.put_body(fit, kind, 1, 0, &body, 0, out, starts)
+        let fit = self.fit(true, rule, kind, 1, 0, &body, 0, out, starts)?;
+        self.put_body(fit, kind, 1, 0, &body, 0, out, starts);
+        Ok(())
     }
 
-    pub fn text(self, body: &[u8], out: &mut [u8], starts: &mut [u32]) -> WriteResult
-        ensures { wrote result out.new starts.new
-            ≡ step (Call.text body.now) self.state out.old starts.old }
+    pub fn text(&mut self, body: &[u8], out: &mut [u8], starts: &mut [u32]) -> Result<(), ErrorKind>
+        ensures { wrote result self.new.state out.new starts.new
+            ≡ step (Call.text body.now) self.old.state out.old starts.old }
     {
         let kind = kind::KIND_TEXT;
         let rule = kind::rule_of(kind);
         let good = utf8::is_text(body);
         let n = body.len() as u64;
-        let fit = self.fit(good, rule, kind, n, 0, body, 0, out, starts);
-        self.put_body(fit, kind, n, 0, body, 0, out, starts)
+        let fit = self.fit(good, rule, kind, n, 0, body, 0, out, starts)?;
+        self.put_body(fit, kind, n, 0, body, 0, out, starts);
+        Ok(())
     }
 
-    pub fn bytes(self, body: &[u8], out: &mut [u8], starts: &mut [u32]) -> WriteResult
-        ensures { wrote result out.new starts.new
-            ≡ step (Call.bytes body.now) self.state out.old starts.old }
+    pub fn bytes(
+        &mut self,
+        body: &[u8],
+        out: &mut [u8],
+        starts: &mut [u32],
+    ) -> Result<(), ErrorKind>
+        ensures { wrote result self.new.state out.new starts.new
+            ≡ step (Call.bytes body.now) self.old.state out.old starts.old }
     {
         let kind = kind::KIND_BYTES;
         let rule = kind::rule_of(kind);
         let n = body.len() as u64;
-        let fit = self.fit(true, rule, kind, n, 0, body, 0, out, starts);
-        self.put_body(fit, kind, n, 0, body, 0, out, starts)
+        let fit = self.fit(true, rule, kind, n, 0, body, 0, out, starts)?;
+        self.put_body(fit, kind, n, 0, body, 0, out, starts);
+        Ok(())
     }
 
     // A variant with no argument.
-    pub fn variant(self, index: u32, out: &mut [u8], starts: &mut [u32]) -> WriteResult
-        ensures { wrote result out.new starts.new ≡ step (Call.variant index) self.state out.old starts.old }
+    pub fn variant(
+        &mut self,
+        index: u32,
+        out: &mut [u8],
+        starts: &mut [u32],
+    ) -> Result<(), ErrorKind>
+        ensures { wrote result self.new.state out.new starts.new ≡ step (Call.variant index) self.old.state out.old starts.old }
     {
         let kind = kind::KIND_VARIANT;
         let rule = kind::rule_of(kind);
-        let fit = self.fit(true, rule, kind, index as u64, 0, b"", 0, out, starts);
-        self.put_token(fit, kind, index as u64, 0, 0, out, starts)
+        let fit = self.fit(true, rule, kind, index as u64, 0, b"", 0, out, starts)?;
+        self.put_token(fit, kind, index as u64, 0, 0, out, starts);
+        Ok(())
     }
 
     // A reference to the value that starts at `at`.
-    pub fn reference(self, at: usize, out: &mut [u8], starts: &mut [u32]) -> WriteResult
-        ensures { wrote result out.new starts.new ≡ step (Call.reference at) self.state out.old starts.old }
+    pub fn reference(
+        &mut self,
+        at: usize,
+        out: &mut [u8],
+        starts: &mut [u32],
+    ) -> Result<(), ErrorKind>
+        ensures { wrote result self.new.state out.new starts.new ≡ step (Call.reference at) self.old.state out.old starts.old }
     {
         let kind = kind::KIND_REFERENCE;
         let rule = kind::rule_of(kind);
         let n = writer_target::distance(self.state.written, at);
         let good = writer_listing::is_listed(self.state.written, self.state.count, starts, at);
-        let fit = self.fit(good, rule, kind, n, 0, b"", at, out, starts);
-        self.put_token(fit, kind, n, 0, at, out, starts)
+        let fit = self.fit(good, rule, kind, n, 0, b"", at, out, starts)?;
+        self.put_token(fit, kind, n, 0, at, out, starts);
+        Ok(())
     }
 
     // A pointer to the value that starts at `at`.
-    pub fn pointer(self, at: usize, out: &mut [u8], starts: &mut [u32]) -> WriteResult
-        ensures { wrote result out.new starts.new ≡ step (Call.pointer at) self.state out.old starts.old }
+    pub fn pointer(
+        &mut self,
+        at: usize,
+        out: &mut [u8],
+        starts: &mut [u32],
+    ) -> Result<(), ErrorKind>
+        ensures { wrote result self.new.state out.new starts.new ≡ step (Call.pointer at) self.old.state out.old starts.old }
     {
         let kind = kind::KIND_POINTER;
         let rule = kind::rule_of(kind);
         let n = writer_target::distance(self.state.written, at);
         let good = writer_listing::is_listed(self.state.written, self.state.count, starts, at);
-        let fit = self.fit(good, rule, kind, n, 0, b"", at, out, starts);
-        self.put_token(fit, kind, n, 0, at, out, starts)
+        let fit = self.fit(good, rule, kind, n, 0, b"", at, out, starts)?;
+        self.put_token(fit, kind, n, 0, at, out, starts);
+        Ok(())
     }
 
     // An array of n items, which are the next immediates.
-    pub fn open_array(self, n: u64, out: &mut [u8], starts: &mut [u32]) -> WriteResult
-        ensures { wrote result out.new starts.new ≡ step (Call.open_array n) self.state out.old starts.old }
+    pub fn open_array(
+        &mut self,
+        n: u64,
+        out: &mut [u8],
+        starts: &mut [u32],
+    ) -> Result<(), ErrorKind>
+        ensures { wrote result self.new.state out.new starts.new ≡ step (Call.open_array n) self.old.state out.old starts.old }
     {
         let kind = kind::KIND_ARRAY;
         let rule = kind::rule_of(kind);
-        let fit = self.fit(true, rule, kind, n, 0, b"", 0, out, starts);
-        self.put_token(fit, kind, n, 0, 0, out, starts)
+        let fit = self.fit(true, rule, kind, n, 0, b"", 0, out, starts)?;
+        self.put_token(fit, kind, n, 0, 0, out, starts);
+        Ok(())
     }
 
     // A map of n pairs, whose keys and values, alternating, are the next immediates.
-    pub fn open_map(self, n: u64, out: &mut [u8], starts: &mut [u32]) -> WriteResult
-        ensures { wrote result out.new starts.new ≡ step (Call.open_map n) self.state out.old starts.old }
+    pub fn open_map(&mut self, n: u64, out: &mut [u8], starts: &mut [u32]) -> Result<(), ErrorKind>
+        ensures { wrote result self.new.state out.new starts.new ≡ step (Call.open_map n) self.old.state out.old starts.old }
     {
         let kind = kind::KIND_MAP;
         let rule = kind::rule_of(kind);
-        let fit = self.fit(true, rule, kind, n, 0, b"", 0, out, starts);
-        self.put_token(fit, kind, n, 0, 0, out, starts)
+        let fit = self.fit(true, rule, kind, n, 0, b"", 0, out, starts)?;
+        self.put_token(fit, kind, n, 0, 0, out, starts);
+        Ok(())
     }
 
     // A tag of the next immediate.
-    pub fn open_tag(self, tag: u64, out: &mut [u8], starts: &mut [u32]) -> WriteResult
-        ensures { wrote result out.new starts.new ≡ step (Call.open_tag tag) self.state out.old starts.old }
+    pub fn open_tag(
+        &mut self,
+        tag: u64,
+        out: &mut [u8],
+        starts: &mut [u32],
+    ) -> Result<(), ErrorKind>
+        ensures { wrote result self.new.state out.new starts.new ≡ step (Call.open_tag tag) self.old.state out.old starts.old }
     {
         let kind = kind::KIND_TAG;
         let rule = kind::rule_of(kind);
-        let fit = self.fit(true, rule, kind, tag, 0, b"", 0, out, starts);
-        self.put_token(fit, kind, tag, 0, 0, out, starts)
+        let fit = self.fit(true, rule, kind, tag, 0, b"", 0, out, starts)?;
+        self.put_token(fit, kind, tag, 0, 0, out, starts);
+        Ok(())
     }
 
     // A variant whose one argument is the next immediate.
-    pub fn open_variant1(self, index: u32, out: &mut [u8], starts: &mut [u32]) -> WriteResult
-        ensures { wrote result out.new starts.new
-            ≡ step (Call.open_variant1 index) self.state out.old starts.old }
+    pub fn open_variant1(
+        &mut self,
+        index: u32,
+        out: &mut [u8],
+        starts: &mut [u32],
+    ) -> Result<(), ErrorKind>
+        ensures { wrote result self.new.state out.new starts.new
+            ≡ step (Call.open_variant1 index) self.old.state out.old starts.old }
     {
         let kind = kind::KIND_VARIANT1;
         let rule = kind::rule_of(kind);
-        let fit = self.fit(true, rule, kind, index as u64, 0, b"", 0, out, starts);
-        self.put_token(fit, kind, index as u64, 0, 0, out, starts)
+        let fit = self.fit(true, rule, kind, index as u64, 0, b"", 0, out, starts)?;
+        self.put_token(fit, kind, index as u64, 0, 0, out, starts);
+        Ok(())
     }
 
     // A variant whose n arguments are the next immediates.
     pub fn open_variant_n(
-        self,
+        &mut self,
         index: u32,
         n: u64,
         out: &mut [u8],
         starts: &mut [u32],
-    ) -> WriteResult
-        ensures { wrote result out.new starts.new
-            ≡ step (Call.open_variant_n index n) self.state out.old starts.old }
+    ) -> Result<(), ErrorKind>
+        ensures { wrote result self.new.state out.new starts.new
+            ≡ step (Call.open_variant_n index n) self.old.state out.old starts.old }
     {
         let kind = kind::KIND_VARIANTN;
         let rule = kind::rule_of(kind);
-        let fit = self.fit(true, rule, kind, index as u64, n, b"", 0, out, starts);
-        self.put_token(fit, kind, index as u64, n, 0, out, starts)
+        let fit = self.fit(true, rule, kind, index as u64, n, b"", 0, out, starts)?;
+        self.put_token(fit, kind, index as u64, n, 0, out, starts);
+        Ok(())
     }
 
     // Closes at the value that starts at `at`: the file's entry is that value, or, if one delta byte does not reach back to it,
     // a pointer to it, which is added.
-    pub fn close(self, at: usize, out: &mut [u8], starts: &mut [u32]) -> WriteResult
-        ensures { wrote result out.new starts.new ≡ step (Call.close at) self.state out.old starts.old }
+    pub fn close(&mut self, at: usize, out: &mut [u8], starts: &mut [u32]) -> Result<(), ErrorKind>
+        ensures { wrote result self.new.state out.new starts.new ≡ step (Call.close at) self.old.state out.old starts.old }
     {
         let good = writer_listing::is_listed(self.state.written, self.state.count, starts, at);
         let back = writer_target::distance(self.state.written, at);
