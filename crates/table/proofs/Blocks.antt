@@ -1,17 +1,20 @@
 -- Words counted by blocks.
 --
 -- In order: the rank of a greater word, of a word past all others, and with one more word; what a count says about the
--- rank; one more block counted, and one more word; a whole table.
-use mathlib.Core.Path.{◌≡◌, refl, sym, ap, ◌∙◌}
+-- rank; more blocks counted, and one more word; a whole table.
+use mathlib.Core.Path.{◌≡◌, refl, sym, ◌∙◌}
 use mathlib.Core.List.{List, [], ◌∷◌, ◌++◌}
-use Prim.Native.Nat.{ℕ, zero, suc, ◌+◌, ◌*◌, ◌/◌, ◌^◌, ◌≤◌, ◌<◌}
+use Prim.Native.Nat.{ℕ, zero, suc, ◌+◌, ◌-◌, ◌*◌, ◌/◌, ◌^◌, ◌≤◌, ◌<◌}
 use native.Mathlib.Numerals.{add-one}
 use native.Mathlib.Omega.{arith}
 use borrow.Author.Tests.{le-ltb}
 use mir.Syntax.{w32}
 use mir.Val.{Fits}
-use lib.ListN.{length, get_or, take, set, length-append, length-take, get_or-append}
-use lib.Seq.{length-take-le, take-suc, take-suc-set, get_or-take, get_or-append_seam}
+use borrow.Rule.Slice.PartMut.{put_mid}
+use lib.ListN.{length, get_or, take, replicate, length-append, length-take, get_or-append}
+use lib.Seq.{length-take-le, take-suc, get_or-take, get_or-append_right}
+use Rattle.std.proofs.lemmas.List.{length-replicate, get_or-replicate}
+use Rattle.std.proofs.lemmas.Slice.{take-put_mid}
 use Rattle.prelude.specs.Search.{rank, Rising}
 use Rattle.prelude.proofs.Tests.{split}
 use Rattle.prelude.proofs.Searches.{rising_ge, rank_le, rank_is, rank_below, rank_above}
@@ -43,7 +46,7 @@ module _ (blocks t : List ℕ) (x : ℕ) (up : Rising t) (counted : Counted bloc
 pub block_fits : (blocks t : List ℕ) (b : ℕ) → Counted blocks t → b < length blocks → get_or blocks b 0 ≤ length t
 block_fits blocks t b counted h = rw (counted b h) (rank_le (b * BLOCK) t)
 
--- ---- one more
+-- ---- more blocks, and one more word
 
 pub counted_none : (t : List ℕ) → Counted [] t
 counted_none t b h = absurd (omega arith)
@@ -55,19 +58,23 @@ counted_first [] e b h = absurd (omega arith)
 counted_first (x ∷ blocks) e zero h = e
 counted_first (x ∷ blocks) e (suc b) h = absurd (omega arith)
 
--- a block past all words
-pub counted_more : (blocks t : List ℕ) (b m : ℕ) → m ≤ b → b < length blocks → Below (m * BLOCK) t → Counted (take b blocks) t
-    → Counted (take (b + 1) (set blocks b (length t))) t
-counted_more blocks t b m l h below counted k g =
-    let words : take (b + 1) (set blocks b (length t)) ≡ take b blocks ++ (length t ∷ []) = rw add-one (take-suc-set blocks b (length t) h) in
+-- blocks past all words
+counted_append : (blocks t : List ℕ) (n : ℕ) → Below (length blocks * BLOCK) t → Counted blocks t → Counted (blocks ++ replicate n (length t)) t
+counted_append blocks t n below counted b h =
+    let long = length-append blocks (replicate n (length t)) in
+    let more = length-replicate n (length t) in
+    split b (length blocks)
+    (λ l. rw (get_or-append blocks (replicate n (length t)) 0 b l) (counted b l))
+    (λ l. rw (get_or-append_right blocks (replicate n (length t)) b 0 l, get_or-replicate n (b - length blocks) (length t) 0 (omega arith))
+    (sym (rank_all _ t (λ j i. omega (arith, below j i)))))
+
+-- those from number b on, up to the one before number e, each given the number of all words
+pub counted_fill : (blocks t filled : List ℕ) (b e : ℕ) → b ≤ e → e ≤ length blocks → Below (b * BLOCK) t → Counted (take b blocks) t
+    → filled ≡ replicate (e - b) (length t) → Counted (take e (put_mid b (e - b) blocks filled)) t
+counted_fill blocks t filled b e l h below counted all =
     let n = length-take-le b blocks (omega arith) in
-    let long = length-append (take b blocks) (length t ∷ []) in
-    rw words
-    (split k b
-    (λ lt. rw (get_or-append (take b blocks) (length t ∷ []) 0 k (omega arith)) (counted k (omega arith)))
-    (λ ge. let e : k ≡ length (take b blocks) = omega (arith, ap length words) in
-    rw (e, get_or-append_seam (take b blocks) (length t) [] 0)
-    (sym (rank_all _ t (λ j i. omega (arith, below j i))))))
+    rw (all, take-put_mid b (e - b) blocks (replicate (e - b) (length t)) e (omega (arith, length-replicate (e - b) (length t))) (omega arith))
+    (counted_append (take b blocks) t (e - b) (rw n below) counted)
 
 -- a word not before the blocks
 pub counted_snoc : (blocks t : List ℕ) (x : ℕ) → length blocks ≤ x / BLOCK + 1 → Counted blocks t → Counted blocks (t ++ (x ∷ []))

@@ -1,11 +1,7 @@
 -- `table::index` meets its contract.
-use Prim.Native.Nat.{◌-◌}
 use lib.ListN.{length}
 use Rattle.table.proofs.Blocks.{Counting}
 use Rattle.table.proofs.index.Given as goal
 
 abbrev pub invariant-loop-i : goal.invariant-loop-i
 invariant-loop-i l = Counting l.t l.blocks (length l.initial.blocks) l.known l.i
-
-abbrev pub decreases-loop-i : goal.decreases-loop-i
-decreases-loop-i l = length l.t - l.i
