@@ -9,12 +9,10 @@
 --   names                the names in the papers' spelling, as bytes, by number; entry 0 is empty, since no error
 --                        has the number 0
 --   name_of k             the name of the code's error k
---   padded s             the name s as the code returns it, padded with zeros
-use Rattle.std.specs.Prelude.{ℕ, List, [], ◌∷◌, ◌++◌, length, take, replicate, get_or}
-use Rattle.std.specs.Prelude.{Result, Ok, Err}
+--   shown e               the code's error e as programs print it: its name, a space and its place in decimal
+use Rattle.std.specs.Prelude.{ℕ, List, [], ◌∷◌, ◌++◌, get_or, codes, decimal, Result, Ok, Err}
 use Rattle.prelude.specs.Answer.{Answer, ok, error}
 use Rattle.error.specs.declared.Error.{Error}
-use Rattle.error.specs.declared.ErrorName.{ErrorName}
 use Rattle.error.specs.declared.ErrorKind.{ErrorKind}
 use Rattle.error.specs.declared.ErrorKind.TheVariants.{Empty, TooLong, Trunc, Reserved, Overlong, Range, Nested, BadText, BadTarget}
 use Rattle.error.specs.declared.ErrorKind.TheVariants.{Full, BadEntry, Outside, NoItem, WrongKind, NoRoom, Owed, Closed, BadState, LongBody, LongList}
@@ -121,30 +119,30 @@ answered f (Err e) = error (fault_of e)
 abbrev pub names : List (List ℕ)
 names =
     []
-    ∷ (69 ∷ 77 ∷ 80 ∷ 84 ∷ 89 ∷ [])  -- EMPTY
-    ∷ (84 ∷ 79 ∷ 79 ∷ 95 ∷ 76 ∷ 79 ∷ 78 ∷ 71 ∷ [])  -- TOO_LONG
-    ∷ (84 ∷ 82 ∷ 85 ∷ 78 ∷ 67 ∷ [])  -- TRUNC
-    ∷ (82 ∷ 69 ∷ 83 ∷ 69 ∷ 82 ∷ 86 ∷ 69 ∷ 68 ∷ [])  -- RESERVED
-    ∷ (79 ∷ 86 ∷ 69 ∷ 82 ∷ 76 ∷ 79 ∷ 78 ∷ 71 ∷ [])  -- OVERLONG
-    ∷ (82 ∷ 65 ∷ 78 ∷ 71 ∷ 69 ∷ [])  -- RANGE
-    ∷ (78 ∷ 69 ∷ 83 ∷ 84 ∷ 69 ∷ 68 ∷ [])  -- NESTED
-    ∷ (66 ∷ 65 ∷ 68 ∷ 95 ∷ 84 ∷ 69 ∷ 88 ∷ 84 ∷ [])  -- BAD_TEXT
-    ∷ (66 ∷ 65 ∷ 68 ∷ 95 ∷ 84 ∷ 65 ∷ 82 ∷ 71 ∷ 69 ∷ 84 ∷ [])  -- BAD_TARGET
-    ∷ (70 ∷ 85 ∷ 76 ∷ 76 ∷ [])  -- FULL
-    ∷ (66 ∷ 65 ∷ 68 ∷ 95 ∷ 69 ∷ 78 ∷ 84 ∷ 82 ∷ 89 ∷ [])  -- BAD_ENTRY
-    ∷ (79 ∷ 85 ∷ 84 ∷ 83 ∷ 73 ∷ 68 ∷ 69 ∷ [])  -- OUTSIDE
-    ∷ (78 ∷ 79 ∷ 95 ∷ 73 ∷ 84 ∷ 69 ∷ 77 ∷ [])  -- NO_ITEM
-    ∷ (87 ∷ 82 ∷ 79 ∷ 78 ∷ 71 ∷ 95 ∷ 75 ∷ 73 ∷ 78 ∷ 68 ∷ [])  -- WRONG_KIND
-    ∷ (78 ∷ 79 ∷ 95 ∷ 82 ∷ 79 ∷ 79 ∷ 77 ∷ [])  -- NO_ROOM
-    ∷ (79 ∷ 87 ∷ 69 ∷ 68 ∷ [])  -- OWED
-    ∷ (67 ∷ 76 ∷ 79 ∷ 83 ∷ 69 ∷ 68 ∷ [])  -- CLOSED
-    ∷ (66 ∷ 65 ∷ 68 ∷ 95 ∷ 83 ∷ 84 ∷ 65 ∷ 84 ∷ 69 ∷ [])  -- BAD_STATE
-    ∷ (76 ∷ 79 ∷ 78 ∷ 71 ∷ 95 ∷ 66 ∷ 79 ∷ 68 ∷ 89 ∷ [])  -- LONG_BODY
-    ∷ (76 ∷ 79 ∷ 78 ∷ 71 ∷ 95 ∷ 76 ∷ 73 ∷ 83 ∷ 84 ∷ [])  -- LONG_LIST
+    ∷ codes "EMPTY"
+    ∷ codes "TOO_LONG"
+    ∷ codes "TRUNC"
+    ∷ codes "RESERVED"
+    ∷ codes "OVERLONG"
+    ∷ codes "RANGE"
+    ∷ codes "NESTED"
+    ∷ codes "BAD_TEXT"
+    ∷ codes "BAD_TARGET"
+    ∷ codes "FULL"
+    ∷ codes "BAD_ENTRY"
+    ∷ codes "OUTSIDE"
+    ∷ codes "NO_ITEM"
+    ∷ codes "WRONG_KIND"
+    ∷ codes "NO_ROOM"
+    ∷ codes "OWED"
+    ∷ codes "CLOSED"
+    ∷ codes "BAD_STATE"
+    ∷ codes "LONG_BODY"
+    ∷ codes "LONG_LIST"
     ∷ []
 
 unfoldable pub name_of : ErrorKind → List ℕ
 name_of k = get_or names (number_of k) []
 
-unfoldable pub padded : List ℕ → ErrorName
-padded s = record { text = take 11 (s ++ replicate 11 0); len = length s }
+abbrev pub shown : Error → List ℕ
+shown e = name_of e.kind ++ codes " " ++ decimal e.place
