@@ -2,15 +2,19 @@
 --
 -- In order: the bytes of a number hold it (`value_little`), and the number that bytes hold has these bytes
 -- (`little_from`); bytes of two numbers in one (`little_append`); how many bytes, and how large a number; `load` gives back a number whose bytes are in front
--- (`load_little`), and the bytes of what it returns are those in front (`little_load`); `load` as the code computes it.
-use mathlib.Core.Path.{◌≡◌, refl, ap}
+-- (`load_little`), and the bytes of what it returns are those in front (`little_load`); the same in the terms of std's `to_le_bytes`
+-- (`to_le_little`) and `from_le_bytes`, as the code has them.
+use mathlib.Core.Path.{◌≡◌, refl, sym, ap, ◌∙◌}
 use mathlib.Core.List.{List, [], ◌∷◌, ◌++◌}
 use Prim.Native.Nat.{ℕ, zero, suc, ◌+◌, ◌*◌, ◌/◌, ◌%◌, ◌^◌, ◌≤◌, ◌<◌}
-use native.Mathlib.Nat.{zero-add, suc-add, pow-suc}
+use native.Mathlib.Nat.{zero-add, suc-add, pow-suc, div-div-eq-div-mul}
 use native.Mathlib.Omega.{arith}
-use lib.ListN.{length, take, drop, get_or, length-append}
+use lib.ListN.{length, take, drop, get_or, length-append, drop_of_length-le}
 use lib.Seq.{drop-cons, take_at, length-take-le}
 use borrow.Author.Tests.{le-leb, lt-leb}
+use Rattle.std.proofs.Common.{Fits, w8}
+use Rattle.std.specs.Array.{IsFirstChunk}
+use Rattle.std.specs.Int.{Width, w32, w64, byte_len, bytes_low_first, to_le_bytes, from_le_bytes}
 use Rattle.prelude.specs.Bytes.{Bytes}
 use Rattle.little_endian.specs.LittleEndian.{little, from_little, load}
 
@@ -65,26 +69,54 @@ little_load k s h l =
     let own = length-take-le k s l in
     rw (le-leb _ _ l) (rw own at (little_from (take k s) (bytes_take k s h)))
 
--- ---- as the code has it
+-- ---- std's `to_le_bytes` and `from_le_bytes`
+
+low_first_little : (k i n : ℕ) → bytes_low_first i k n ≡ little k (n / 256 ^ i)
+unfolding little
+low_first_little zero i n = refl
+low_first_little (suc k) zero n =
+    let whole : n / 1 ≡ n = omega arith in
+    let rest : n / 256 ^ 1 ≡ n / 256 = omega arith in
+    rw (whole, low_first_little k 1 n, rest)
+low_first_little (suc k) (suc i) n =
+    rw (low_first_little k (suc (suc i)) n, pow-suc 256 (suc i), ← div-div-eq-div-mul n (256 ^ suc i) 256)
+
+pub to_le_little : (w : Width) (n : ℕ) → to_le_bytes w n ≡ little (byte_len w) n
+to_le_little w n = let whole : n / 1 ≡ n = omega arith in low_first_little (byte_len w) 0 n ∙ ap (little (byte_len w)) whole
 
 -- the k bytes of s from the index i on, one by one
-abbrev pub listed : ℕ → ℕ → List ℕ → List ℕ
+abbrev listed : ℕ → ℕ → List ℕ → List ℕ
 listed zero i s = []
 listed (suc k) i s = get_or s i 0 ∷ listed k (suc i) s
 
-listed_take : (k i : ℕ) (s : List ℕ) → i + k ≤ length s → listed k i s ≡ take k (drop i s)
-listed_take zero i s h = refl
-listed_take (suc k) i s h = rw (drop-cons s i 0 (omega arith), listed_take k (suc i) s (omega arith))
+listed_drop : (k i : ℕ) (s : List ℕ) → i + k ≡ length s → listed k i s ≡ drop i s
+listed_drop zero i s h = let past : length s ≤ i = omega arith in rw drop_of_length-le
+listed_drop (suc k) i s h = rw (drop-cons s i 0 (omega arith), listed_drop k (suc i) s (omega arith))
+
+-- the number of the first k bytes
+load_chunk : (k : ℕ) (s p : List ℕ) {n : ℕ} → IsFirstChunk s p k → (length p ≡ k → n ≡ from_little p) → n ≡ load k s
+unfolding load
+load_chunk k s p h e = rw (le-leb k (length s) h.enough) (rw h.same at (e (rw h.same (length-take-le k s h.enough))))
+
+pub load_chunk4 : {s p : List ℕ} {n : ℕ} → IsFirstChunk s p 4 → n ≡ from_le_bytes w32 p → n ≡ load 4 s
+unfolding from_little
+load_chunk4 {s} {p} h e =
+    let sum : from_le_bytes w32 p ≡ from_little (listed 4 0 p) = omega arith in
+    load_chunk 4 s p h (λ l. e ∙ sum ∙ ap from_little (listed_drop 4 0 p (sym l)))
+
+pub load_chunk8 : {s p : List ℕ} {n : ℕ} → IsFirstChunk s p 8 → n ≡ from_le_bytes w64 p → n ≡ load 8 s
+unfolding from_little
+load_chunk8 {s} {p} h e =
+    let sum : from_le_bytes w64 p ≡ from_little (listed 8 0 p) = omega arith in
+    load_chunk 8 s p h (λ l. e ∙ sum ∙ ap from_little (listed_drop 8 0 p (sym l)))
 
 pub load_short : (k : ℕ) (s : List ℕ) → length s < k → 0 ≡ load k s
 unfolding load
 load_short k s h = rw (lt-leb k (length s) h)
 
-pub little_listed : (k : ℕ) (s : List ℕ) {r : ℕ} → k ≤ length s → Bytes (listed k 0 s) → r ≡ from_little (listed k 0 s) → little k r ≡ take k s
-little_listed k s h b e =
-    let front = listed_take k 0 s (omega arith) in
-    rw (e, front) (rw (length-take-le k s h) at (little_from (take k s) (rw front at b)))
+bytes_of : (s : List ℕ) → ((i : ℕ) → Fits w8 (get_or s i 0)) → Bytes s
+bytes_of [] h = tt
+bytes_of (b ∷ s) h = (omega (arith, h 0), bytes_of s (λ i. h (suc i)))
 
-pub load_listed : (k : ℕ) (s : List ℕ) {r : ℕ} → k ≤ length s → r ≡ from_little (listed k 0 s) → r ≡ load k s
-unfolding load
-load_listed k s h e = rw (le-leb k (length s) h, ← listed_take k 0 s (omega arith)) e
+pub little_of : (k : ℕ) (s : List ℕ) {n : ℕ} → ((i : ℕ) → Fits w8 (get_or s i 0)) → n ≡ load k s → k ≤ length s → little k n ≡ take k s
+little_of k s h e l = rw e (little_load k s (bytes_of s h) l)

@@ -1,8 +1,8 @@
--- `little_endian::bytes8` meets its contract: the definition computes to it.
-use mathlib.Core.Path.{refl}
-use Rattle.little_endian.specs.LittleEndian.{little}
+-- `little_endian::bytes8` meets its contract.
+use mathlib.Core.Path.{◌∙◌}
+use Rattle.std.specs.Int.{w64}
+use Rattle.little_endian.proofs.Laws.{to_le_little}
 use Rattle.little_endian.proofs.bytes8.Goals as goal
 
 pub returns : goal.returns
-unfolding little
-returns c = refl
+returns c = c.to_le_bytes.ensures ∙ to_le_little w64 _
