@@ -32,6 +32,11 @@ pub last_more : (mode : Mode) (b left : ℕ) → 1 ≤ b → ok (b, left) ≡ la
 unfolding last
 last_more mode b left h = let least : least_of mode ≤ b = omega (arith, least_one mode) in rw le-leb
 
+-- the first byte has no least
+pub last_first : (b left : ℕ) → ok (b, left) ≡ last 0 b left
+unfolding last
+last_first b left = rw (le-leb 0 b (omega arith))
+
 raised_then : (d : ℕ) (r : Res ℕ ℕ) → raised d 128 (measured r) ≡ measured (then r (λ n rest. got (d + 128 * n) rest))
 unfolding then measured
 raised_then d (got n s) = refl
@@ -43,35 +48,25 @@ get_nil mode zero least [] e = refl
 get_nil mode (suc k) least [] e = refl
 get_nil mode k least (b ∷ s) e = absurd (omega arith)
 
-pub get_tenth : (mode : Mode) (k least : ℕ) (s : List ℕ) → (length s ≡ 0 → ⊥) → k ≡ 0 → tenth least (get_or s 0 0) (length s - 1) ≡ measured (get mode k least s)
-unfolding get measured last
-get_tenth mode k least [] ne e = absurd (ne refl)
-get_tenth mode zero least (b ∷ s) ne e = rw (measured_guard, measured_guard, sub-one)
-get_tenth mode (suc k) least (b ∷ s) ne e = absurd (omega arith)
+-- the bytes are b and those after it
+module _ (mode : Mode) (k least : ℕ) {s rest : List ℕ} {b : ℕ} (is : s ≡ b ∷ rest) where
+  pub get_tenth : k ≡ 0 → tenth least b (length rest) ≡ measured (get mode k least s)
+  unfolding get measured last
+  get_tenth e = rw (is, e, measured_guard, measured_guard)
 
-pub get_step : (mode : Mode) (k least : ℕ) (s : List ℕ) → (length s ≡ 0 → ⊥) → (k ≡ 0 → ⊥)
-    → measured (get mode k least s) ≡ pick (ltb (get_or s 0 0) 128) (last least (get_or s 0 0) (length s - 1))
-    (raised (get_or s 0 0 % 128) 128 (measured (get mode (k - 1) (least_of mode) (drop 1 s))))
-unfolding get measured last
-get_step mode k least [] ne nk = absurd (ne refl)
-get_step mode zero least (b ∷ s) ne nk = absurd (nk refl)
-get_step mode (suc k) least (b ∷ s) ne nk =
-    rw (sub-one (suc k), sub-one (suc (length s)))
-    (split b 128 (λ small. rw (lt-ltb b 128 small, measured_guard)) (λ large. rw (le-ltb b 128 large, raised_then)))
+  module _ {j : ℕ} (more : k ≡ suc j) where
+    pub get_last : b < 128 → last least b (length rest) ≡ measured (get mode k least s)
+    unfolding get measured last
+    get_last h = rw (is, more, lt-ltb _ _ h, measured_guard)
 
--- the first byte: the last one, or followed by more
-module _ (mode : Mode) (s : List ℕ) (pos : 0 < length s) where
-  pub get_one : get_or s 0 0 < 128 → ok (get_or s 0 0, length s - 1) ≡ measured (get mode 9 0 s)
-  unfolding last
-  get_one h = rw (get_step mode 9 0 s (λ e. omega arith) (λ e. omega arith), lt-ltb _ _ h, le-leb 0 (get_or s 0 0) (omega arith))
-
-  pub get_more : 128 ≤ get_or s 0 0 → measured (get mode 9 0 s) ≡ raised (get_or s 0 0 % 128) 128 (measured (get mode 8 (least_of mode) (drop 1 s)))
-  get_more h = rw (get_step mode 9 0 s (λ e. omega arith) (λ e. omega arith), le-ltb _ _ h)
+    pub get_more : 128 ≤ b → {a : Answer ℕ (ℕ × ℕ)} → a ≡ measured (get mode j (least_of mode) rest)
+        → raised (b % 128) 128 a ≡ measured (get mode k least s)
+    unfolding get measured
+    get_more h e = rw (is, more, le-ltb _ _ h, e, raised_then)
 
 -- with at most j bytes after the first
-pub get_small : (mode : Mode) (k least : ℕ) (s : List ℕ) (r : Result Number ErrorKind) → answer_of r ≡ measured (get mode k least s) → (j : ℕ) → k ≤ j
-    → value_of r < 2 * 128 ^ j
-get_small mode k least s (Ok g) e j h =
+pub get_small : (mode : Mode) (k least : ℕ) (s : List ℕ) {n left : ℕ} → ok (n, left) ≡ measured (get mode k least s) → (j : ℕ) → k ≤ j
+    → n < 2 * 128 ^ j
+get_small mode k least s e j h =
     measured_ok (get mode k least s) e (λ rest q l.
-    omega (arith, (get_ends mode k least g.value s rest q).below, pow-le-pow_right {n = 128} (lit< tt) {i = k} {j = j} h))
-get_small mode k least s (Err f) e j h = omega (arith, one-le-pow j 128 (lit< tt))
+    omega (arith, (get_ends mode k least _ s rest q).below, pow-le-pow_right {n = 128} (lit< tt) {i = k} {j = j} h))

@@ -45,7 +45,7 @@ fn last_byte(b: u8, left: usize, mode: Mode) -> Result<Number, ErrorKind>
         return padded(left, mode);
     }
     Ok(Number {
-        value: b as u64,
+        value: u64::from(b),
         left,
     })
 }
@@ -62,13 +62,13 @@ fn tenth_byte(b: u8, left: usize, mode: Mode) -> Result<Number, ErrorKind>
 }
 
 // The number `high` times `unit`, plus `low`.
-fn with_low(low: u64, unit: u64, high: Number) -> Number
+fn with_low(low: u8, unit: u64, high: Number) -> Number
     requires { low + unit * high.value < 2 ^ 64 }
-    ensures { (result.value ≡ low + unit * high.value) × (result.left ≡ high.left) }
+    ensures { result ≡ record high { value = low + unit * high.value } }
 {
     Number {
-        value: low + unit * high.value,
-        left: high.left,
+        value: u64::from(low) + unit * high.value,
+        ..high
     }
 }
 
@@ -88,8 +88,7 @@ fn get_from(s: &[u8], k: usize, mode: Mode) -> Result<Number, ErrorKind>
     if b < 128 {
         return last_byte(b, left, mode);
     }
-    let high = get_from(rest, k - 1, mode)?;
-    Ok(with_low((b % 128) as u64, 128, high))
+    Ok(with_low(b % 128, 128, get_from(rest, k - 1, mode)?))
 }
 
 // Reads the number at the front of s, of at most ten bytes. A number of one byte is read here, in code that is short
@@ -103,12 +102,11 @@ pub fn get(s: &[u8], mode: Mode) -> Result<Number, ErrorKind>
     };
     if b < 128 {
         return Ok(Number {
-            value: b as u64,
+            value: u64::from(b),
             left: rest.len(),
         });
     }
-    let high = get_from(rest, 8, mode)?;
-    Ok(with_low((b % 128) as u64, 128, high))
+    Ok(with_low(b % 128, 128, get_from(rest, 8, mode)?))
 }
 
 // How many bytes n takes.

@@ -1,22 +1,29 @@
 -- `leb128::get_from` meets its contract: each call reads one byte, and the bytes allowed after it fall.
+use mathlib.Core.Path.{◌≡◌}
+use Prim.Native.Nat.{ℕ, suc, ◌-◌}
 use native.Mathlib.Omega.{arith}
 use borrow.Author.Rules.{rules}
-use borrow.Author.Tests.{lt-ltb, le-ltb}
-use Rattle.prelude.proofs.Parts.{part_from}
-use Rattle.leb128.proofs.Steps.{get_nil, get_tenth, get_step, get_small}
+use Rattle.leb128.specs.Leb.{least_of}
+use Rattle.leb128.proofs.Steps.{get_nil, get_tenth, get_last, get_more, get_small}
 use Rattle.leb128.proofs.+get_from.Goals as goal
 
-pub returns-then-s-eq0 : goal.returns-then-s-eq0
-returns-then-s-eq0 t c = search (rules, get_nil)
+above : {k : ℕ} → (k ≡ 0 → ⊥) → k ≡ suc (k - 1)
+above h = omega arith
+
+pub returns-in_default : goal.returns-in_default
+returns-in_default t c = get_nil _ _ _ _ c.in_default.ensures.cases
 
 pub returns-then-k-eq0 : goal.returns-then-k-eq0
-returns-then-k-eq0 t c = search (rules, get_tenth, c.tenth_byte.ensures)
+returns-then-k-eq0 t c = rw c.tenth_byte.ensures (get_tenth _ _ _ c.in-Some.ensures.cases.0 c.if-k-eq0.true)
 
 pub returns-then-b-lt128 : goal.returns-then-b-lt128
-returns-then-b-lt128 t c = search (rules, get_step, lt-ltb, c.last_byte.ensures)
+returns-then-b-lt128 t c = rw c.last_byte.ensures (get_last _ _ _ c.in-Some.ensures.cases.0 (above c.if-k-eq0.false) c.if-b-lt128.true)
 
 pub with_low-requires : goal.with_low-requires
-with_low-requires t c = omega (arith, get_small _ _ _ _ c.get_from.result c.get_from.ensures 8 (omega arith))
+with_low-requires t c = omega (arith, get_small _ _ _ _ c.in_ok-get_from.ensures 8 (omega arith))
+
+pub returns-in_err-get_from : goal.returns-in_err-get_from
+returns-in_err-get_from t c = search (rules, get_more _ _ (least_of c.args.mode) c.in-Some.ensures.cases.0 (above c.if-k-eq0.false) c.if-b-lt128.false c.in_err-get_from.ensures)
 
 pub returns : goal.returns
-returns t c = search (rules, get_step, le-ltb, part_from, c.with_low.ensures, c.get_from.ensures)
+returns t c = rw c.with_low.ensures (get_more _ _ _ c.in-Some.ensures.cases.0 (above c.if-k-eq0.false) c.if-b-lt128.false c.in_ok-get_from.ensures)

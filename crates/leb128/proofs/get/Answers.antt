@@ -1,21 +1,21 @@
 -- `leb128::get` meets its contract: the first byte, and after a continuation byte the rest by `get_from`.
+use mathlib.Core.Path.{refl, ◌∙◌}
 use native.Mathlib.Omega.{arith}
 use borrow.Author.Rules.{rules}
-use Rattle.prelude.proofs.Parts.{part_from}
-use Rattle.leb128.proofs.Steps.{get_nil, get_one, get_more, get_small}
+use Rattle.leb128.proofs.Steps.{get_nil, last_first, get_last, get_more, get_small}
 use Rattle.leb128.proofs.get.Goals as goal
 
 pub returns-in_default : goal.returns-in_default
-returns-in_default c = ?
+returns-in_default c = get_nil _ _ _ _ c.in_default.ensures.cases
 
 pub returns-then-b-lt128 : goal.returns-then-b-lt128
-returns-then-b-lt128 c = ?
+returns-then-b-lt128 c = rw (c.from.ensures) (last_first _ _ ∙ get_last _ _ _ c.in-Some.ensures.cases.0 refl c.if-b-lt128.true)
 
 pub with_low-requires : goal.with_low-requires
-with_low-requires c = ?
+with_low-requires c = omega (arith, get_small _ _ _ _ c.in_ok-get_from.ensures 8 (omega arith))
 
-pub returns-in_err-high : goal.returns-in_err-high
-returns-in_err-high c = ?
+pub returns-in_err-get_from : goal.returns-in_err-get_from
+returns-in_err-get_from c = search (rules, get_more _ _ 0 c.in-Some.ensures.cases.0 refl c.if-b-lt128.false c.in_err-get_from.ensures)
 
 pub returns : goal.returns
-returns c = ?
+returns c = rw c.with_low.ensures (get_more _ _ _ c.in-Some.ensures.cases.0 refl c.if-b-lt128.false c.in_ok-get_from.ensures)
