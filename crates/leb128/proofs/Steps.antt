@@ -10,16 +10,19 @@ use native.Mathlib.Omega.{arith}
 use lib.Dec.{ltb, lit<}
 use lib.ListN.{length, get_or, drop}
 use borrow.Author.Tests.{lt-ltb, le-ltb, le-leb}
-use Rattle.std.specs.Prelude.{Result, Ok, Err}
+use Rattle.std.specs.Prelude.{Option, Some, None, Result, Err, MatchOption, ok_or}
+use Rattle.std.specs.List.{IsFirstAndRest}
+use Rattle.std.proofs.Common.{Bor}
 use Rattle.prelude.specs.Pick.{pick}
 use Rattle.prelude.specs.Answer.{Answer, Res, got, bad, then, ok, error, measured}
 use Rattle.prelude.proofs.Tests.{split}
 use Rattle.prelude.proofs.Readers.{measured_guard, measured_ok}
-use Rattle.error.specs.Error.{TRUNC}
+use Rattle.error.specs.Error.{TRUNC, number_of}
 use Rattle.error.specs.declared.ErrorKind.{ErrorKind}
+use Rattle.error.specs.declared.ErrorKind.TheVariants.{Trunc}
 use Rattle.leb128.specs.Leb.{least_of, get}
 use Rattle.leb128.specs.Answers.{answer_of}
-use Rattle.leb128.specs.Internal.{last, tenth, raised, value_of}
+use Rattle.leb128.specs.Internal.{last, tenth, raised}
 use Rattle.leb128.specs.declared.Number.{Number}
 use Rattle.leb128.specs.declared.Mode.{Mode}
 use Rattle.leb128.proofs.Laws.{least_one, get_ends}
@@ -42,11 +45,23 @@ unfolding then measured
 raised_then d (got n s) = refl
 raised_then d (bad e) = refl
 
-pub get_nil : (mode : Mode) (k least : ℕ) (s : List ℕ) → length s ≡ 0 → error TRUNC ≡ measured (get mode k least s)
+get_nil : (mode : Mode) (k least : ℕ) (s : List ℕ) → length s ≡ 0 → error TRUNC ≡ measured (get mode k least s)
 unfolding get measured
 get_nil mode zero least [] e = refl
 get_nil mode (suc k) least [] e = refl
 get_nil mode k least (b ∷ s) e = absurd (omega arith)
+
+-- what `split_first` says, in either case
+module _ (s : List ℕ) {o : Option (Bor ℕ × Bor (List ℕ))}
+    (first : MatchOption o (length s ≡ 0) (λ p. IsFirstAndRest s p.0.now p.1.now)) where
+  pub get_none : (mode : Mode) (k least : ℕ) {f : ErrorKind} → o ≡ None → ◌≡◌ {A = Result (Bor ℕ × Bor (List ℕ)) ErrorKind} (Err f) (ok_or o Trunc)
+      → error (number_of f) ≡ measured (get mode k least s)
+  get_none mode k least {f} none e =
+      let is : f ≡ Trunc = cc in
+      rw is (get_nil mode k least s (rw none at first))
+
+  pub first_rest : {p : Bor ℕ × Bor (List ℕ)} → o ≡ Some p → s ≡ p.0.now ∷ p.1.now
+  first_rest some = (rw some at first).0
 
 -- the bytes are b and those after it
 module _ (mode : Mode) (k least : ℕ) {s rest : List ℕ} {b : ℕ} (is : s ≡ b ∷ rest) where

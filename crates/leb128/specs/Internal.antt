@@ -3,7 +3,6 @@
 --   last least b left   the answer at a last byte b, with `left` bytes after it
 --   tenth least b left  the same for the tenth byte, the last allowed one
 --   raised d u a        the answer a with its number times u, plus d
---   value_of r           the number of an answer, or 0
 --   left_of r            the bytes left after an answer, or 0; for the laws of crate scan
 use Rattle.std.specs.Prelude.{ℕ, ◌+◌, ◌*◌, ltb, leb, Result, Ok, Err}
 use Rattle.prelude.specs.Pick.{pick}
@@ -21,10 +20,6 @@ tenth least b left = pick (ltb b 2) (last least b left) (error RANGE)
 abbrev pub raised : ℕ → ℕ → Answer ℕ (ℕ × ℕ) → Answer ℕ (ℕ × ℕ)
 raised d u (ok a) = ok (d + u * a.0, a.1)
 raised d u (error e) = error e
-
-abbrev pub value_of : Result Number ErrorKind → ℕ
-value_of (Ok g) = g.value
-value_of (Err k) = 0
 
 abbrev pub left_of : Result Number ErrorKind → ℕ
 left_of (Ok g) = g.left

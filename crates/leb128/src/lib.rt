@@ -6,7 +6,7 @@ ghost use Rattle.prelude.specs.Answer.{measured};
 ghost use Rattle.prelude.specs.Bytes.{store, stored, Put};
 ghost use Rattle.leb128.specs.Leb.{put, least_of, get};
 ghost use Rattle.leb128.specs.Answers.{answer_of};
-ghost use Rattle.leb128.specs.Internal.{last, tenth, raised, value_of};
+ghost use Rattle.leb128.specs.Internal.{last, tenth};
 
 use error::ErrorKind;
 
@@ -73,14 +73,12 @@ fn with_low(low: u8, unit: u64, high: Number) -> Number
 }
 
 // Reads the rest of a number after a continuation byte: a byte, and at most k after it, which it calls itself on.
-fn get_from(s: &[u8], k: usize, mode: Mode) -> Result<Number, ErrorKind>
+fn get_from(tail: &[u8], k: usize, mode: Mode) -> Result<Number, ErrorKind>
     requires { k ≤ 8 }
-    ensures { answer_of result ≡ measured (get mode k (least_of mode) s.now) }
+    ensures { answer_of result ≡ measured (get mode k (least_of mode) tail.now) }
 {
     // TRUNC: a byte is wanted at the end
-    let Some((&b, rest)) = s.split_first() else {
-        return Err(ErrorKind::Trunc);
-    };
+    let (&b, rest) = tail.split_first().ok_or(ErrorKind::Trunc)?;
     let left = rest.len();
     if k == 0 {
         return tenth_byte(b, left, mode);
@@ -97,9 +95,7 @@ pub fn get(s: &[u8], mode: Mode) -> Result<Number, ErrorKind>
     ensures { answer_of result ≡ measured (get mode 9 0 s.now) }
 {
     // TRUNC: the first byte is wanted at the end
-    let Some((&b, rest)) = s.split_first() else {
-        return Err(ErrorKind::Trunc);
-    };
+    let (&b, rest) = s.split_first().ok_or(ErrorKind::Trunc)?;
     if b < 128 {
         return Ok(Number {
             value: u64::from(b),
