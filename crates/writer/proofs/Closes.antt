@@ -16,16 +16,14 @@ use Rattle.leb128.proofs.Sizes.{length_put_le}
 use Rattle.kind.specs.Kind.{rule}
 use Rattle.token.specs.Token.{Token, token, put_if, emit}
 use Rattle.token.proofs.Laws.{length_emit, emit_pos}
-use Rattle.writer_refusal.specs.Refusal.{limit, Verdict, is_ok, refusal_of}
+use Rattle.writer_refusal.specs.Refusal.{limit, is_ok, refusal_of}
 use Rattle.writer_refusal.specs.declared.State.{State}
 use Rattle.writer_refusal.specs.declared.CallFlags.{CallFlags}
 use Rattle.writer_refusal.proofs.Refusals.{sound, ok_of_is_ok, refusal_same, refusal_owed, refusal_short}
-use Rattle.writer.specs.Step.{opens, token_flags, delta_flags, token_refusal, delta_refusal, Result, result, write, write_delta, write_pointer_delta, settled}
+use Rattle.writer.specs.Step.{opens, token_flags, delta_flags, token_refusal, delta_refusal, Result, result, write, write_delta, write_pointer_delta}
 use Rattle.writer.specs.Step.{put_token, close_at}
-use Rattle.writer.specs.Answers.{wrote}
-use Rattle.writer.specs.Internal.{ListedTest, Refused, WroteDelta, close_near, close_far}
-use Rattle.writer.specs.declared.WriteResult.{WriteResult}
-use Rattle.writer.specs.declared.WriteAnswer.TheVariants.{Ok, Err}
+use Rattle.writer.specs.Internal.{ListedTest, Fits, WroteDelta, close_near, close_far}
+use Rattle.writer.specs.declared.Fit.{Fit}
 use Rattle.writer.proofs.Accepted.{token_inv, room_after, delta_inv, delta_fits}
 use Rattle.writer.proofs.Settled.{refused_settled}
 
@@ -57,10 +55,10 @@ module _ (g : Bool) (e : ℕ) (s : State) (out table : List ℕ) (h : ListedTest
       pub near_ok : (d : ℕ) (r : State) (o : List ℕ) → WroteDelta d s out r o → result (ok tt) r o table ≡ close_near e d s out table
       near_ok d r o k = rw accepted (k.same table)
 
-    pub near_refused : may ≡ false → (d : ℕ) (w : WriteResult) → Refused request s (length out) (length table) w
-        → wrote w out table ≡ close_near e d s out table
-    near_refused q d w k =
-        refused_settled request s out table w k _ (refusal_short request full s (length out) (length table) (sym is ∙ q) ∙ flags_same)
+    pub near_refused : may ≡ false → (d : ℕ) (f : ErrorKind) → error (number_of f) ≡ refusal_of request true s (length out) (length table)
+        → result (error (number_of f)) s out table ≡ close_near e d s out table
+    near_refused q d f k =
+        refused_settled request s out table f k _ (refusal_short request full s (length out) (length table) (sym is ∙ q) ∙ flags_same)
         (write_delta d s out table)
 
 -- ---- by a pointer and its delta byte
@@ -70,10 +68,10 @@ unfolding put_if
 length_put_if true n = length_put_le 9 n
 length_put_if false n = omega arith
 
--- a pointer from w up to `next`, in an output of n bytes: its delta fits in a byte, and has room
-pub record Far (w next n : ℕ) : Type 0 where
-  pub after : w < next
-  pub delta : next - w < 256
+-- a pointer of that size that ends at `next`, in an output of n bytes: its delta fits in a byte, and has room
+pub record Far (size next n : ℕ) : Type 0 where
+  pub after : 0 < size
+  pub delta : size < 256
   pub room : next < n
 
 -- what a written token leaves
@@ -86,73 +84,49 @@ module _ (t : Token) (s : State) (out table : List ℕ) (next : State) (o words 
   unfolding write
   length_is = ap (λ (r : Result). length r.out) w ∙ length-sets out s.written (emit t)
 
--- a result, by the answer that a call returned: an error is the refusal, and ok means that there was none
-settled_error : (v : Verdict) (s : State) (out table : List ℕ) (w x : Result) → w.answer ≡ ok tt
-    → (f : ℕ) (n : State) (o words : List ℕ) → result (error f) n o words ≡ settled v s out table w → result (error f) n o words ≡ settled v s out table x
-settled_error (ok u) s out table w x k f n o words e =
-    let q : error f ≡ ok tt = ap (λ (r : Result). r.answer) e ∙ k in
-    let z : ◌≡◌ {A = ℕ} 0 1 = cc in absurd (omega arith)
-settled_error (error g) s out table w x k f n o words e = e
-
-settled_ok : (v : Verdict) (s : State) (out table : List ℕ) (w : Result) (n : State) (o words : List ℕ)
-    → result (ok tt) n o words ≡ settled v s out table w → (v ≡ ok tt) × (result (ok tt) n o words ≡ w)
-settled_ok (ok u) s out table w n o words e = (refl, e)
-settled_ok (error g) s out table w n o words e =
-    let q = ap (λ (r : Result). r.answer) e in
-    let z : ◌≡◌ {A = ℕ} 0 1 = cc in absurd (omega arith)
-
 module _ (e back : ℕ) (s : State) (out table : List ℕ) where
   abbrev pointer : Token
   pointer = token 15 back 0 []
 
-  pub far_refused : (q : CallFlags) → q.alone ≡ true → 0 < s.pending → (w : WriteResult)
-      → Refused q s (length out) (length table) w → wrote w out table ≡ close_far e back s out table
+  pub far_refused : (q : CallFlags) → q.alone ≡ true → 0 < s.pending → (f : ErrorKind)
+      → error (number_of f) ≡ refusal_of q true s (length out) (length table) → result (error (number_of f)) s out table ≡ close_far e back s out table
   unfolding token_refusal
-  far_refused q a p w k =
-      refused_settled q s out table w k _ (refusal_owed q (token_flags true pointer e s table) _ _ s _ _ a refl p) (write_pointer_delta pointer s out table)
+  far_refused q a p f k =
+      refused_settled q s out table f k _ (refusal_owed q (token_flags true pointer e s table) _ _ s _ _ a refl p) (write_pointer_delta pointer s out table)
 
   -- while no items are pending, a close is refused for the same reason as its pointer
-  module _ (z : s.pending ≤ 0) (r : WriteResult) (o words : List ℕ) (j : wrote r o words ≡ put_token pointer e s out table) where
+  module _ (z : s.pending ≤ 0) where
     alone_is : token_refusal true pointer e s out table ≡ token_refusal (opens pointer) pointer e s out table
     unfolding token_refusal refusal_of
     alone_is = let q : s.pending ≡ 0 = omega arith in rw (q, and_none (opens pointer))
 
-    pub far_error : (f : ErrorKind) → r.answer ≡ Err f → result (error (number_of f)) r.writer.state o words ≡ close_far e back s out table
-    unfolding put_token write
-    far_error f q =
-        rw alone_is
-        (settled_error (token_refusal (opens pointer) pointer e s out table) s out table (write pointer s out table) (write_pointer_delta pointer s out table) refl
-        _ _ o words (rw q at j))
+    pub far_error : (f : ℕ) → token_refusal (opens pointer) pointer e s out table ≡ error f → result (error f) s out table ≡ close_far e back s out table
+    far_error f q = rw (alone_is, q)
 
-    module _ (q : r.answer ≡ Ok) where
-      taken : (token_refusal (opens pointer) pointer e s out table ≡ ok tt) × (result (ok tt) r.writer.state o words ≡ write pointer s out table)
+    module _ (r : Fit) (a : Fits pointer e s out table r) (next : State) (o words : List ℕ)
+        (j : result (ok tt) next o words ≡ put_token pointer e s out table) where
+      taken : result (ok tt) next o words ≡ write pointer s out table
       unfolding put_token
-      taken = settled_ok (token_refusal (opens pointer) pointer e s out table) s out table (write pointer s out table) _ o words (rw q at j)
-
-      far_size : r.writer.state.written ≡ s.written + length (emit pointer)
-      far_size = written_is pointer s out table r.writer.state o words taken.1
+      taken = rw a.accepted at j
 
       size_le : length (emit pointer) ≤ 21
       size_le = omega (arith, length_emit 15 back 0 [], length_put_if (leb 15 back) (back - 15), length_put_if (rule 15).args 0)
 
-      pub far_room : Far s.written r.writer.state.written (length o)
+      pub far_room : Far r.size next.written (length o)
       far_room = record {
-        after = omega (arith, far_size, emit_pos pointer);
-        delta = omega (arith, far_size, size_le);
+        after = omega (arith, a.size, emit_pos pointer);
+        delta = omega (arith, a.size, size_le);
         room = omega (
           arith,
-          far_size,
-          length_is pointer s out table r.writer.state o words taken.1,
-          room_after _ pointer e s out table (token_inv _ pointer e s out table taken.0),
+          written_is pointer s out table next o words taken,
+          length_is pointer s out table next o words taken,
+          room_after _ pointer e s out table (token_inv _ pointer e s out table a.accepted),
         );
       }
 
-      pub far_ok : (d : ℕ) → d ≡ r.writer.state.written - s.written - 1 → (w : State) (p : List ℕ) → WroteDelta d r.writer.state o w p
-          → result (ok tt) w p words ≡ close_far e back s out table
+      pub far_ok : (w : State) (p : List ℕ) → WroteDelta (r.size - 1) next o w p → result (ok tt) w p words ≡ close_far e back s out table
       unfolding write_pointer_delta
-      far_ok d y w p h =
-          let is : d ≡ length (emit pointer) - 1 = omega (arith, far_size) in
-          rw (alone_is, taken.0, ← taken.1, ← is) (h.same words)
+      far_ok w p h = rw (alone_is, a.accepted, ← taken, ← a.size) (h.same words)
 
 -- ---- which of the two
 

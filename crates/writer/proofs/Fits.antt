@@ -1,5 +1,5 @@
 -- What becomes of a token, by what the code finds about its text and its target: it is accepted, or refused for the first reason of its flags.
-use mathlib.Core.Path.{◌≡◌, refl, ◌∙◌}
+use mathlib.Core.Path.{◌≡◌, refl, sym, ◌∙◌}
 use mathlib.Core.Bool.{Bool, true, false, not, ◌&&◌}
 use mathlib.Core.List.{List}
 use Prim.Native.Nat.{ℕ, ◌+◌, ◌-◌, ◌≤◌, ◌<◌}
@@ -13,14 +13,12 @@ use Rattle.kind.specs.Kind.{rule, pending, due}
 use Rattle.kind.specs.declared.Rule.{Rule}
 use Rattle.token.specs.Token.{Token, token, put_if, emit}
 use Rattle.token.proofs.Laws.{length_emit}
-use Rattle.writer_refusal.specs.Refusal.{limit, room, is_listed, refusal_of}
+use Rattle.writer_refusal.specs.Refusal.{limit, room, is_listed, Verdict, is_ok, refusal_of}
 use Rattle.writer_refusal.specs.declared.State.{State}
 use Rattle.writer_refusal.specs.declared.CallFlags.{CallFlags}
-use Rattle.writer_refusal.proofs.Refusals.{sound, refusal_same}
+use Rattle.writer_refusal.proofs.Refusals.{sound, refusal_same, ok_of_is_ok, refusal_short}
 use Rattle.writer.specs.Step.{opens, bytes_needed, token_flags, token_refusal}
-use Rattle.writer.specs.Answers.{answer_of}
-use Rattle.writer.specs.Internal.{ListedTest, IfElse, ArgumentTest, token_flags_by, FitOf}
-use Rattle.writer.specs.declared.WriteAnswer.{WriteAnswer}
+use Rattle.writer.specs.Internal.{ListedTest, IfElse, ArgumentTest, token_flags_by, Fits}
 use Rattle.writer.proofs.Room.{room_limit}
 
 not_four : (k : ℕ) → leb 14 k ≡ true → eqb k 4 ≡ false
@@ -57,19 +55,28 @@ module _ (t : Token) (x : ℕ) (s : State) (out table : List ℕ) (g : Bool) (h 
       })
 
 -- what `fit` returns, by what it learns of the flags, the size, the items left, and the answer
-pub fit_is : (k n a : ℕ) (b : List ℕ) (x : ℕ) (s : State) (out table : List ℕ) (g : Bool) (row : Rule) (q : CallFlags) (answer : WriteAnswer) (size left : ℕ)
-    → k < 16 → row ≡ rule k → ArgumentTest g k b x s table → q ≡ token_flags_by row k g
-    → size ≡ 1 + length (put_if (leb 15 n) (n - 15)) + length (put_if row.args a) + length b
-    → left ≡ due s.pending (limit (pending row n a))
-    → answer_of answer ≡ refusal_of q (ltb (room s (length out)) (size + left)) s (length out) (length table)
-    → FitOf (token k n a b) x s out table (record { answer = answer; second = row.args; size = size; left = left })
-fit_is k n a b x s out table g row q answer size left small r h i z l f =
-    let t = token k n a b in
-    let size_is : size ≡ length (emit t) = z ∙ rw (r, length_emit k n a b) in
-    record {
+module _ (k n a : ℕ) (b : List ℕ) (x : ℕ) (s : State) (out table : List ℕ) (g : Bool) (row : Rule) (q : CallFlags) (size left : ℕ)
+    (r : row ≡ rule k) (h : ArgumentTest g k b x s table) (i : q ≡ token_flags_by row k g)
+    (z : size ≡ 1 + length (put_if (leb 15 n) (n - 15)) + length (put_if row.args a) + length b)
+    (l : left ≡ due s.pending (limit (pending row n a))) where
+  abbrev asked : Token
+  asked = token k n a b
+
+  size_is : size ≡ length (emit asked)
+  size_is = z ∙ rw (r, length_emit k n a b)
+
+  refusal_is : refusal_of q (ltb (room s (length out)) (size + left)) s (length out) (length table) ≡ token_refusal (opens asked) asked x s out table
+  refusal_is = rw (i, size_is, l, r, room_limit s asked (length out)) (flags_same asked x s out table g h)
+
+  module _ (may : Bool) (m : may ≡ is_ok (refusal_of q (ltb (room s (length out)) (size + left)) s (length out) (length table))) where
+    pub fits : k < 16 → may ≡ true → Fits asked x s out table (record { second = row.args; size = size; left = left })
+    fits small e = record {
       kind = small;
-      answer = rw (i, size_is, l, r, room_limit s t (length out)) at f ∙ flags_same t x s out table g h;
+      accepted = sym refusal_is ∙ ok_of_is_ok _ (sym m ∙ e);
       second = rw r refl;
       size = size_is;
       left = rw (l, r);
     }
+
+    pub refused : may ≡ false → (v : Verdict) → v ≡ refusal_of q true s (length out) (length table) → token_refusal (opens asked) asked x s out table ≡ v
+    refused e v k = sym refusal_is ∙ sym (k ∙ refusal_short _ _ s _ _ (sym m ∙ e))

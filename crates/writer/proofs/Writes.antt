@@ -1,11 +1,12 @@
 -- What a token leaves, as the code computes it: one that fits, and one that is refused.
-use mathlib.Core.Path.{◌≡◌, sym, ap, ◌∙◌}
+use mathlib.Core.Path.{◌≡◌, ◌∙◌}
 use mathlib.Core.List.{List, []}
 use Prim.Native.Nat.{ℕ, ◌+◌, ◌-◌, ◌≤◌, ◌<◌, ◌^◌}
 use native.Mathlib.Omega.{arith}
 use lib.Dec.{leb}
 use lib.ListN.{length, take, drop, get_or}
 use borrow.Rule.Slice.PartMut.{put_mid}
+use Rattle.std.specs.Prelude as code
 use Rattle.prelude.specs.Pick.{pick}
 use Rattle.prelude.specs.Answer.{ok, error}
 use Rattle.prelude.specs.Bytes.{Put}
@@ -15,18 +16,16 @@ use Rattle.error.specs.declared.ErrorKind.{ErrorKind}
 use Rattle.token.specs.Token.{Token, token, emit}
 use Rattle.writer_refusal.specs.declared.State.{State}
 use Rattle.writer.specs.Step.{opens, token_refusal, start_of, Result, result, write, put_token, moved_to, put_moved}
-use Rattle.writer.specs.Answers.{answer_of, wrote}
-use Rattle.writer.specs.Internal.{FitOf, Advanced, Failed}
+use Rattle.writer.specs.Answers.{wrote}
+use Rattle.writer.specs.Internal.{Fits, Advanced}
 use Rattle.writer.specs.declared.Fit.{Fit}
-use Rattle.writer.specs.declared.WriteAnswer.TheVariants.{Ok, Err}
-use Rattle.writer.specs.declared.WriteResult.{WriteResult}
 use Rattle.writer.proofs.Room.{left_is}
-use Rattle.writer.proofs.Accepted.{Accepted, token_inv, token_ok, token_fits, free_word, room_after, start_lt}
+use Rattle.writer.proofs.Accepted.{Accepted, token_inv, token_fits, free_word, room_after, start_lt}
 
-module _ (t : Token) (x : ℕ) (s : State) (out table : List ℕ) (r : Fit) (a : FitOf t x s out table r) where
-  module _ (e : r.answer ≡ Ok) where
+module _ (t : Token) (x : ℕ) (s : State) (out table : List ℕ) where
+  module _ (r : Fit) (a : Fits t x s out table r) where
     accepted : Accepted (opens t) t x s out table
-    accepted = token_inv (opens t) t x s out table (sym a.answer ∙ ap answer_of e)
+    accepted = token_inv (opens t) t x s out table a.accepted
 
     pub inside : s.written ≤ length out
     inside = omega (arith, room_after (opens t) t x s out table accepted)
@@ -50,7 +49,7 @@ module _ (t : Token) (x : ℕ) (s : State) (out table : List ℕ) (r : Fit) (a :
     unfolding put_token write
     put_ok o n p next words d =
         rw (
-          token_ok (opens t) t x s out table accepted,
+          a.accepted,
           d.state,
           d.listed,
           (put_at_part (emit t) out o s.written n inside p).bytes,
@@ -58,10 +57,10 @@ module _ (t : Token) (x : ℕ) (s : State) (out table : List ℕ) (r : Fit) (a :
           a.left ∙ left_is s t (length out) (omega (arith, token_fits (opens t) t x s out table accepted)),
         )
 
-  pub put_refused : (f : ErrorKind) → r.answer ≡ Err f → (w : WriteResult) → Failed f s w → wrote w out table ≡ put_token t x s out table
+  pub put_refused : (a : code.Result (Unit {0}) ErrorKind) (e : ErrorKind) → a ≡ code.Err e → token_refusal (opens t) t x s out table ≡ error (number_of e)
+      → wrote a s out table ≡ put_token t x s out table
   unfolding put_token
-  put_refused f e w k =
-      let is : token_refusal (opens t) t x s out table ≡ error (number_of f) = sym a.answer ∙ ap answer_of e in rw (k.writer, k.answer, is)
+  put_refused a e i k = rw (i, k)
 
 -- what a call writes, by the number or the body that a callee made of its argument
 module _ (k x : ℕ) (s : State) (out table : List ℕ) (r : Result) where

@@ -30,7 +30,7 @@ use Rattle.utf8.specs.Text.{is_text}
 use Rattle.kind.specs.Kind.{rule, due, immediate}
 use Rattle.kind.specs.declared.Rule.{Rule}
 use Rattle.token.specs.Token.{Token, token, emit}
-use Rattle.writer_refusal.specs.Refusal.{limit, is_listed, refusal_of}
+use Rattle.writer_refusal.specs.Refusal.{limit, is_listed}
 use Rattle.writer_refusal.specs.declared.State.{State}
 use Rattle.writer_refusal.specs.declared.CallFlags.{CallFlags}
 use Rattle.writer.specs.Step.{opens, pending_of, token_refusal, delta_refusal, start_of, Result, result, write_delta, write_pointer_delta, settled}

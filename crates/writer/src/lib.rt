@@ -2,7 +2,6 @@
 #![tactic(auto)]
 
 ghost use Rattle.std.specs.Prelude.{◌≡◌, [], ◌+◌, ◌-◌, ◌<◌, ◌^◌, length};
-ghost use Rattle.prelude.specs.Pick.{pick};
 ghost use Rattle.prelude.specs.Answer.{ok};
 ghost use Rattle.kind.specs.Kind.{rule};
 ghost use Rattle.token.specs.Token.{token};
@@ -37,16 +36,6 @@ struct Fit {
     size: usize,
     // The items pending after it; its own count as LIMIT if they are more.
     left: u64,
-}
-
-// x if the test passes, else y.
-fn pick(test: bool, x: usize, y: usize) -> usize
-    ensures { result ≡ pick test x y }
-{
-    if test {
-        return x;
-    }
-    y
 }
 
 // ---- what a token holds
@@ -135,8 +124,11 @@ impl Writer {
         requires { (start_of self.old.state < 2 ^ 32) × (self.old.state.count < length starts.old) × (self.old.state.written + fit.size < 2 ^ 64) }
         ensures { Advanced fit self.old.state starts.old self.new.state starts.new }
     {
-        let first = self.state.pending == 0;
-        let start = pick(first, self.state.written, self.state.start);
+        let start = if self.state.pending == 0 {
+            self.state.written
+        } else {
+            self.state.start
+        };
         self.state = State {
             written: self.state.written + fit.size,
             count: writer_listing::list_start(fit.left, start, self.state.count, starts),
@@ -298,9 +290,12 @@ impl Writer {
         self.write_delta((fit.size - 1) as u8, out);
         Ok(())
     }
+}
 
-    // ---- the calls
+// ---- the calls
 
+#[tactic(auto, using(crate::proofs::Writes::put_refused))]
+impl Writer {
     // A writer that has written nothing.
     pub fn new() -> Self
         ensures { result.state ≡ fresh }

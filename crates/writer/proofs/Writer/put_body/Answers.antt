@@ -1,6 +1,6 @@
 -- `writer::Writer::put_body` meets its contract, as `put_token` does.
 use borrow.Author.Rules.{rules}
-use Rattle.writer.proofs.Writes.{inside, fits_rest, may_advance, put_ok, put_refused}
+use Rattle.writer.proofs.Writes.{inside, fits_rest, may_advance, put_ok}
 use Rattle.writer.proofs.Writer.put_body.Goals as goal
 
 pub slice_bounds-put_within-count : goal.slice_bounds-put_within-count
@@ -15,8 +15,5 @@ put_within-requires c = search (fits_rest, rules)
 pub advance-requires : goal.advance-requires
 advance-requires c = search may_advance
 
-pub returns-in-Err : goal.returns-in-Err
-returns-in-Err c = search put_refused
-
-pub returns-in-Ok : goal.returns-in-Ok
-returns-in-Ok c = search put_ok
+pub returns : goal.returns
+returns c = search put_ok
