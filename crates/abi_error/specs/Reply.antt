@@ -4,8 +4,10 @@
 --   name_c n            the name of error number n in this form; zeros alone if no error has this number
 --   Reply, reply n ws  the number n, and the words of the array
 --   error_c e           an error: its number, and its place and 0
-use Rattle.std.specs.Prelude.{ℕ, ◌-◌, List, [], ◌∷◌, ◌++◌, length, get_or, replicate}
-use Rattle.error.specs.Error.{names, Fault}
+--   answer_c n a        an answer of n words: 0 and the words; or the error's number, and its place and zeros
+use Rattle.std.specs.Prelude.{ℕ, ◌-◌, List, [], ◌∷◌, ◌++◌, length, get_or, replicate, take, Result, Ok, Err}
+use Rattle.error.specs.Error.{names, number_of, Fault}
+use Rattle.error.specs.declared.Error.{Error}
 
 abbrev pub ended : List ℕ → List ℕ
 ended name = name ++ replicate (11 - length name) 0
@@ -24,3 +26,7 @@ reply n ws = record { number = n; words = ws }
 
 abbrev pub error_c : Fault → Reply
 error_c e = reply e.number (e.place ∷ 0 ∷ [])
+
+abbrev pub answer_c : ℕ → Result (List ℕ) Error → Reply
+answer_c n (Ok ws) = reply 0 ws
+answer_c n (Err e) = reply (number_of e.kind) (take n (e.place ∷ replicate n 0))

@@ -2,8 +2,7 @@
 #![tactic(auto)]
 
 ghost use Rattle.std.specs.Prelude.{◌≡◌};
-ghost use Rattle.error.specs.Error as errors;
-ghost use Rattle.abi_error.specs.Reply.{name_c, reply, error_c};
+ghost use Rattle.abi_error.specs.Reply.{name_c, reply, answer_c};
 
 use error::Error;
 
@@ -15,20 +14,31 @@ pub fn abi() -> u32
 }
 
 // `error::name_of`: the name, with zeros after it; zeros alone if no error has this number.
+#[tactic(auto, unfolding(crate::specs::Reply::name_c))]
 pub fn spell_error(number: u32, name: &mut [u8; 11]) -> u32
     ensures { reply result name.new ≡ reply 0 (name_c number) }
 {
-    let found = error::name_of(number);
-    let text = found.text;
-    *name = text;
+    let text = error::name_of(number).as_bytes();
+    name.fill(0);
+    name[..text.len()].copy_from_slice(text);
     0
 }
 
-// An error: its place and 0.
-pub fn answer_error(e: Error, out: &mut [u64; 2]) -> u32
-    ensures { reply result out.new ≡ error_c (errors.fault_of e) }
+// The words of an answer; an error's place, and zeros after it.
+pub fn answer<const N: usize>(answer: Result<[u64; N], Error>, out: &mut [u64; N]) -> u32
+    ensures { reply result out.new ≡ answer_c N answer.entry }
 {
-    let kind = e.kind;
-    *out = [e.place as u64, 0];
-    error::number(kind)
+    match answer {
+        Ok(words) => {
+            *out = words;
+            0
+        }
+        Err(Error { kind, place }) => {
+            out.fill(0);
+            if let Some(first) = out.first_mut() {
+                *first = place as u64;
+            }
+            error::number(kind)
+        }
+    }
 }
