@@ -22,62 +22,38 @@ use scan::Head;
 pub fn mode_of(n: u32) -> Mode
     ensures { result ≡ mode_of n }
 {
-    if n == 1 {
-        return Mode::Tolerant;
+    match n {
+        1 => Mode::Tolerant,
+        _ => Mode::Strict,
     }
-    Mode::Strict
 }
 
 // An offset and 0.
 pub fn answer_offset(answer: Result<usize, Error>, out: &mut [u64; 2]) -> u32
     ensures { reply result out.new ≡ offset_c (offset_answer answer) }
 {
-    match answer {
-        Ok(at) => {
-            *out = [at as u64, 0];
-            0
-        }
-        Err(e) => abi_error::answer_error(e, out),
-    }
+    abi_error::answer(answer.map(|at| [at as u64, 0]), out)
 }
 
 // Count and entry.
 pub fn answer_entry(answer: Result<Summary, Error>, out: &mut [u64; 2]) -> u32
     ensures { reply result out.new ≡ pair_c (check_answer answer) }
 {
-    match answer {
-        Ok(Summary { count, entry }) => {
-            *out = [count as u64, entry as u64];
-            0
-        }
-        Err(e) => abi_error::answer_error(e, out),
-    }
+    abi_error::answer(answer.map(|r| [r.count as u64, r.entry as u64]), out)
 }
 
 // Offset and hops.
 pub fn answer_follow(answer: Result<Followed, Error>, out: &mut [u64; 2]) -> u32
     ensures { reply result out.new ≡ pair_c (follow_answer answer) }
 {
-    match answer {
-        Ok(Followed { at, hops }) => {
-            *out = [at as u64, hops as u64];
-            0
-        }
-        Err(e) => abi_error::answer_error(e, out),
-    }
+    abi_error::answer(answer.map(|r| [r.at as u64, r.hops as u64]), out)
 }
 
 // First offset and length.
 pub fn answer_body(answer: Result<Place, Error>, out: &mut [u64; 2]) -> u32
     ensures { reply result out.new ≡ pair_c (body_answer answer) }
 {
-    match answer {
-        Ok(Place { first, len }) => {
-            *out = [first as u64, len as u64];
-            0
-        }
-        Err(e) => abi_error::answer_error(e, out),
-    }
+    abi_error::answer(answer.map(|r| [r.first as u64, r.len as u64]), out)
 }
 
 // ---- one value
@@ -93,85 +69,40 @@ fn float_bits(file: &[u8], h: Head) -> u64
     requires { h.first ≤ length file.now }
     ensures { result ≡ float_bits file.now h }
 {
-    let first = h.first;
-    if h.n == 0 {
-        return little_endian::load4(&file[first..]) as u64;
+    let bytes = &file[h.first..];
+    match h.n {
+        0 => little_endian::load4(bytes) as u64,
+        _ => little_endian::load8(bytes),
     }
-    little_endian::load8(&file[first..])
 }
 
-// The row for a value with head h at `at`: the kinds in their order; 9 and 13 are reserved.
+// The row for a value with head h at `at`; kinds 9 and 13 are reserved.
 fn row_of(file: &[u8], at: usize, h: Head) -> Row
     requires { Peeked file.now at h }
     ensures { result ≡ row_of file.now at h }
 {
-    let kind = h.kind;
     let n = h.n;
-    let items = h.items;
     let body = (h.end - h.first) as u64;
-    if kind < kind::KIND_NEGATIVE {
-        return Row {
-            number: n,
-            count: 0,
-        };
-    }
-    if kind < kind::KIND_FLOAT {
+    let (number, count) = match h.kind {
+        kind::KIND_SCALAR | kind::KIND_INTEGER | kind::KIND_VARIANT => (n, 0),
         // -n-1 in two's complement
-        return Row {
-            number: 18446744073709551615 - n,
-            count: 0,
-        };
-    }
-    if kind < kind::KIND_TEXT {
-        return Row {
-            number: float_bits(file, h),
-            count: body,
-        };
-    }
-    if kind < kind::KIND_ARRAY {
-        return Row {
-            number: body,
-            count: body,
-        };
-    }
-    if kind < 9 {
-        return Row {
-            number: n,
-            count: items,
-        };
-    }
-    if kind < kind::KIND_VARIANT1 {
-        return Row {
-            number: n,
-            count: 0,
-        };
-    }
-    if kind < kind::KIND_REFERENCE {
-        return Row {
-            number: n,
-            count: items,
-        };
-    }
-    Row {
-        number: at as u64 - n - 1,
-        count: 0,
-    }
+        kind::KIND_NEGATIVE => (u64::MAX - n, 0),
+        kind::KIND_FLOAT => (float_bits(file, h), body),
+        kind::KIND_TEXT | kind::KIND_BYTES => (body, body),
+        kind::KIND_REFERENCE | kind::KIND_POINTER => (at as u64 - n - 1, 0),
+        // an array, a map, a tag, a variant with items
+        _ => (n, h.items),
+    };
+    Row { number, count }
 }
 
 // Kind, number, the offset just after the numbers, and count; an error's place and zeros.
 pub fn read(file: &[u8], at: usize, out: &mut [u64; 4], mode: Mode) -> u32
     ensures { reply result out.new ≡ read_c mode file.now at }
 {
-    match reader_region::peek(file, at, mode) {
-        Ok(h) => {
-            let row = row_of(file, at, h);
-            *out = [h.kind as u64, row.number, h.first as u64, row.count];
-            0
-        }
-        Err(e) => {
-            let kind = e.kind;
-            *out = [e.place as u64, 0, 0, 0];
-            error::number(kind)
-        }
-    }
+    let words = reader_region::peek(file, at, mode).map(|h| {
+        let Row { number, count } = row_of(file, at, h);
+        [h.kind as u64, number, h.first as u64, count]
+    });
+    abi_error::answer(words, out)
 }
