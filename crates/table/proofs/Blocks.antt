@@ -13,7 +13,8 @@ use mir.Val.{Fits}
 use borrow.Rule.Slice.PartMut.{put_mid}
 use lib.ListN.{length, get_or, take, replicate, length-append, length-take, get_or-append}
 use lib.Seq.{length-take-le, take-suc, get_or-take, get_or-append_right}
-use Rattle.std.proofs.lemmas.List.{length-replicate, get_or-replicate}
+use Rattle.std.proofs.lemmas.Grind.{get_or_default_zero}
+use Rattle.std.proofs.lemmas.List.{length-replicate, get_or-replicate, get_or_past}
 use Rattle.std.proofs.lemmas.Slice.{take-put_mid}
 use Rattle.prelude.specs.Search.{rank, Rising}
 use Rattle.prelude.proofs.Tests.{split}
@@ -37,14 +38,19 @@ rank_snoc x y (z ∷ t) h = rw (rank_snoc x y t h)
 -- ---- what a count says about the rank
 
 module _ (blocks t : List ℕ) (x : ℕ) (up : Rising t) (counted : Counted blocks t) where
-  pub low_block : x / 4096 < length blocks → get_or blocks (x / 4096) 0 ≤ rank x t
-  low_block h = rw (counted (x / 4096) h) (rank_mono (x / 4096 * BLOCK) x t up (omega arith))
+  -- the rank of x is not below the count of x's block
+  pub low_block : get_or blocks (x / 4096) 0 ≤ rank x t
+  low_block =
+      split (x / 4096) (length blocks) (λ h. rw (counted (x / 4096) h) (rank_mono (x / 4096 * BLOCK) x t up (omega arith)))
+      (λ h. rw (get_or_past blocks (x / 4096) 0 h) (omega arith))
 
-  pub high_block : x / 4096 + 1 < length blocks → rank x t ≤ get_or blocks (x / 4096 + 1) 0
-  high_block h = rw (counted (x / 4096 + 1) h) (rank_mono x ((x / 4096 + 1) * BLOCK) t up (omega arith))
-
-pub block_fits : (blocks t : List ℕ) (b : ℕ) → Counted blocks t → b < length blocks → get_or blocks b 0 ≤ length t
-block_fits blocks t b counted h = rw (counted b h) (rank_le (b * BLOCK) t)
+  -- .. and not above that of the next block, which is not above the number of words
+  pub high_block : (rank x t ≤ get_or blocks (x / 4096 + 1) (length t)) × (get_or blocks (x / 4096 + 1) (length t) ≤ length t)
+  high_block =
+      split (x / 4096 + 1) (length blocks)
+      (λ h. rw (get_or_default_zero blocks (x / 4096 + 1) (length t) h, counted (x / 4096 + 1) h)
+      (rank_mono x ((x / 4096 + 1) * BLOCK) t up (omega arith), rank_le ((x / 4096 + 1) * BLOCK) t))
+      (λ h. rw (get_or_past blocks (x / 4096 + 1) (length t) h) (rank_le x t, omega arith))
 
 -- ---- more blocks, and one more word
 

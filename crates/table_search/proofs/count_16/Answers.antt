@@ -1,10 +1,11 @@
--- `table_search::count_16` meets its contract. The invariant: the words counted and those still to count add up to the rank.
+-- `table_search::count_16` meets its contract.
+use Prim.Native.Nat.{◌+◌}
 use native.Mathlib.Omega.{arith}
-use Rattle.table_search.proofs.Quarters.{count_on}
+use Rattle.table_search.proofs.Quarters.{rank_part}
 use Rattle.table_search.proofs.count_16.Goals as goal
 
-pub overflow_add-r : goal.overflow_add-r
-overflow_add-r c = omega (arith, c.loop-i.invariant, c.below-r.ensures.0)
+pub overflow_add-result : goal.overflow_add-result
+overflow_add-result c = omega (arith, c.count.ensures, rank_part c.args.x c.args.t.now c.args.base (c.args.base + 16) c.requires.0 c.requires.1 c.requires.2 c.requires.3)
 
-pub loop-i-preserved : goal.loop-i-preserved
-loop-i-preserved c = count_on _ _ _ _ _ c.loop-i.invariant c.below-r.ensures.0 (omega arith)
+pub returns : goal.returns
+returns c = omega (arith, c.count.ensures, rank_part c.args.x c.args.t.now c.args.base (c.args.base + 16) c.requires.0 c.requires.1 c.requires.2 c.requires.3)
