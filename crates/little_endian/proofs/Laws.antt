@@ -58,7 +58,7 @@ load_little k n s h =
     let there : k ≤ length (little k n ++ s) = omega (arith, length-append (little k n) s, length_little k n) in
     rw (le-leb _ _ there, take_at (little k n) s k (length_little k n)) (value_little k n h)
 
-bytes_take : (k : ℕ) (s : List ℕ) → Bytes s → Bytes (take k s)
+pub bytes_take : (k : ℕ) (s : List ℕ) → Bytes s → Bytes (take k s)
 bytes_take zero s h = tt
 bytes_take (suc k) [] h = tt
 bytes_take (suc k) (b ∷ s) h = (h.0, bytes_take k s h.1)
@@ -114,7 +114,7 @@ pub load_short : (k : ℕ) (s : List ℕ) → length s < k → 0 ≡ load k s
 unfolding load
 load_short k s h = rw (lt-leb k (length s) h)
 
-bytes_of : (s : List ℕ) → ((i : ℕ) → Fits w8 (get_or s i 0)) → Bytes s
+pub bytes_of : (s : List ℕ) → ((i : ℕ) → Fits w8 (get_or s i 0)) → Bytes s
 bytes_of [] h = tt
 bytes_of (b ∷ s) h = (omega (arith, h 0), bytes_of s (λ i. h (suc i)))
 

@@ -1,10 +1,10 @@
 -- The test of eight bytes says yes exactly if all of them are plain, and what that says of parts of bytes.
 --
 -- In order: the test, for a word of any width and for its bytes; the plain bytes in front, by the digits 0 below the lowest bit; parts of plain
--- bytes; what the code reads, and joins to one word.
+-- bytes; the word that the code reads; two words at a time; four to eight bytes joined to one word.
 use mathlib.Core.Path.{◌≡◌, refl, sym, ap, ◌∙◌}
 use mathlib.Core.Logic.{◌↔◌}
-use mathlib.Core.Bool.{Bool, true, false, ◌&&◌, false≢true}
+use mathlib.Core.Bool.{Bool, true, ◌&&◌, cond, false≢true}
 use mathlib.Core.List.{List, [], ◌∷◌, ◌++◌}
 use Prim.Native.Nat.{ℕ, zero, suc, ◌+◌, ◌*◌, ◌-◌, ◌/◌, ◌%◌, ◌^◌, ◌≤◌, ◌<◌}
 use native.Mathlib.Nat.{not-suc-le-zero, zero-add, suc-add, pow-suc, div-le_self}
@@ -13,14 +13,19 @@ use lib.Bits.{bit_and, and_block, and_high, and_zero_r}
 use lib.Count.{count_trailing_zeros, trailing_le}
 use lib.Dec.{ltb}
 use lib.ListN.{length, get_or, take, drop, length-drop, take-append-drop}
-use lib.Seq.{drop-drop, take-nil, take-add, take_all, take-take}
+use lib.Seq.{drop-drop, take-nil, take_all, take-take, length-take-le}
 use borrow.Author.Tests.{eqb-true, eq-eqb, ltb-true, ltb-false, lt-ltb, le-ltb}
 use Rattle.prelude.specs.Bytes.{Bytes}
-use Rattle.prelude.proofs.Tests.{pick_elim, split}
+use Rattle.prelude.proofs.Tests.{pick_elim, split, and_l, and_r}
 use Rattle.prelude.proofs.Lists.{each_append}
-use Rattle.prelude.proofs.Parts.{part_from, length_part}
-use Rattle.little_endian.specs.LittleEndian.{little, from_little}
-use Rattle.little_endian.proofs.Laws.{little_from, little_append}
+use Rattle.prelude.proofs.Parts.{bytes_drop, part_from, length_part}
+use Rattle.std.specs.List.{position, position_or_len}
+use Rattle.std.specs.Option.{unwrap_or}
+use Rattle.std.specs.Simd.{first_chunks}
+use Rattle.std.proofs.lemmas.List.Sums.{prefix_len-le-length}
+use Rattle.std.proofs.Common.{Some, None, not, Fits, w8}
+use Rattle.little_endian.specs.LittleEndian.{little, from_little, load}
+use Rattle.little_endian.proofs.Laws.{little_from, little_append, little_load, bytes_of, bytes_take}
 use Rattle.utf8_plain.specs.Plain.{Plain, plain_front, high_bits, are_plain}
 
 -- ---- the test
@@ -93,9 +98,6 @@ front_word (suc k) w =
 plain_parts : (k : ℕ) (s : List ℕ) → Plain s ↔ (Plain (take k s) × Plain (drop k s))
 plain_parts k s = rw (take-append-drop k s) at (each_append (λ b. b < 0x80) (take k s) (drop k s))
 
-plain_append : (m n : ℕ) (s : List ℕ) → Plain (take m s) → Plain (take n (drop m s)) → Plain (take (m + n) s)
-plain_append m n s p q = rw take-add ((each_append (λ b. b < 0x80) (take m s) (take n (drop m s))).1 (p, q))
-
 pub plain_later : (s : List ℕ) (j i : ℕ) → j ≤ i → Plain (drop j s) → Plain (drop i s)
 plain_later s j i h p =
     let sum : j + (i - j) ≡ i = omega arith in
@@ -158,12 +160,6 @@ module _ (s : List ℕ) (i w : ℕ) (h : i + 8 ≤ length s)
 pub zeros_lt : (x d : ℕ) → count_trailing_zeros 64 x / d < 2 ^ 64
 zeros_lt x d = omega (arith, trailing_le 64 x, div-le_self (count_trailing_zeros 64 x) d)
 
--- the words at i and eight bytes on
-pub plain_both : (s : List ℕ) (i : ℕ) → Plain (take i s) → Plain (take 8 (drop i s)) → Plain (take 8 (drop (i + 8) s)) → Plain (take (i + 16) s)
-plain_both s i p q r =
-    let sum : i + 8 + 8 ≡ i + 16 = omega arith in
-    rw sum at (plain_append (i + 8) 8 s (plain_append i 8 s p q) r)
-
 plain_inside : (n j k : ℕ) (s : List ℕ) → j + k ≤ n → Plain (take n s) → Plain (take k (drop j s))
 plain_inside n zero k s h p =
     let less : k ≤ n = omega arith in
@@ -177,19 +173,53 @@ skip_plain s {r} e =
     let less : 0 + r ≤ plain_front s = omega arith in
     (omega (arith, front_le s), plain_inside (plain_front s) 0 r s less (front_plain s))
 
--- the run ends at i: a word is not plain, or two are not left
-module _ (s : List ℕ) (i : ℕ) (whole : i % 16 ≡ 0) (h : i ≤ length s) (p : Plain (take i s)) where
-  pub skip_end : length s < i + 16 → i ≡ plain_front s / 16 * 16
-  skip_end l = omega (arith, front_ge i s h p, front_le s)
+-- ---- two words at a time
 
-  pub skip_stop : {x y : Bool} → ((x ≡ true) ↔ Plain (take 8 (drop i s))) → ((y ≡ true) ↔ Plain (take 8 (drop (i + 8) s))) → x && y ≡ false
-      → i ≡ plain_front s / 16 * 16
-  skip_stop {x} {y} first second other =
-      split (plain_front s) (i + 16) (λ less. omega (arith, front_ge i s h p))
-      (λ more.
-      let q = plain_inside (plain_front s) in
-      let both : x && y ≡ true = rw (first.1 (q i 8 s (omega arith) (front_plain s)), second.1 (q (i + 8) 8 s (omega arith) (front_plain s))) in
-      absurd (false≢true (sym other ∙ both)))
+front_after : (n : ℕ) (s : List ℕ) → n ≤ length s → Plain (take n s) → plain_front s ≡ n + plain_front (drop n s)
+unfolding plain_front
+front_after zero s h p = omega arith
+front_after (suc n) [] h p = absurd (not-suc-le-zero h)
+front_after (suc n) (b ∷ s) h p = rw (lt-ltb b 0x80 p.0) (omega (arith, front_after n s (omega arith) p.1))
+
+plain_load : (w : List ℕ) → Bytes w → 8 ≤ length w → (are_plain (load 8 w) ≡ true) ↔ Plain (take 8 w)
+plain_load w b h = rw (← little_load 8 w b h) (plain_word (load 8 w))
+
+-- a pair of words
+abbrev pub plain_pair : List ℕ → Bool
+plain_pair w = are_plain (load 8 w) && are_plain (load 8 (drop 8 w))
+
+plain_pair_exactly : (w : List ℕ) → Bytes w → length w ≡ 16 → (plain_pair w ≡ true) ↔ Plain w
+plain_pair_exactly w b e =
+    let own : length (drop 8 w) ≤ 8 = rw length-drop (omega arith) in
+    let more : 8 ≤ length (drop 8 w) = rw length-drop (omega arith) in
+    let first = plain_load w b (omega arith) in
+    let second = rw (take_all 8 (drop 8 w) own) at (plain_load (drop 8 w) (bytes_drop 8 w b) more) in
+    let parts = plain_parts 8 w in (
+      λ t. parts.1 (first.0 (and_l (are_plain (load 8 w)) _ t), second.0 (and_r (are_plain (load 8 w)) _ t)),
+      λ p. rw (first.1 (parts.0 p).0, second.1 (parts.0 p).1),
+    )
+
+chunks_front : (k : ℕ) (s : List ℕ) → Bytes s → length s / 16 ≡ k
+    → 16 * position_or_len (λ w. not (plain_pair w)) (first_chunks 16 k s) ≡ plain_front s / 16 * 16
+chunks_front zero s b e = omega (arith, front_le s)
+chunks_front (suc k) s b e =
+    let enough : 16 ≤ length s = omega arith in
+    let pair = plain_pair_exactly (take 16 s) (bytes_take 16 s b) (length-take-le 16 s enough) in
+    let rest : length (drop 16 s) / 16 ≡ k = rw length-drop (omega arith) in
+    let Goal : Type 0 = 16 * position_or_len (λ w. not (plain_pair w)) (first_chunks 16 (suc k) s) ≡ plain_front s / 16 * 16 in
+    pick_elim (λ (x : ℕ). Goal) (plain_pair (take 16 s)) {x = 0} {y = 0}
+    (λ t. rw t (omega (arith, front_after 16 s enough (pair.0 t), chunks_front k (drop 16 s) (bytes_drop 16 s b) rest)))
+    (λ t. rw t (split (plain_front s) 16 (λ less. omega arith)
+    (λ more. absurd (false≢true (sym t ∙ pair.1 (plain_inside (plain_front s) 0 16 s more (front_plain s)))))))
+
+first_or_all : (i n : ℕ) → i ≤ n → unwrap_or (cond (ltb i n) (Some i) None) n ≡ i
+first_or_all i n h = split i n (λ less. rw (lt-ltb i n less)) (λ more. rw (le-ltb i n more) (omega arith))
+
+pub pairs_front : (s : List ℕ) (xs : List (List ℕ)) {n : ℕ} → ((i : ℕ) → Fits w8 (get_or s i 0)) → xs ≡ first_chunks 16 (length s / 16) s
+    → n ≡ unwrap_or (position (λ w. not (plain_pair w)) xs) (length xs) → 16 * n ≡ plain_front s / 16 * 16
+pairs_front s xs b e f =
+    let p : List ℕ → Bool = λ w. not (plain_pair w) in
+    rw (f, first_or_all (position_or_len p xs) (length xs) (prefix_len-le-length _ xs), e) (chunks_front (length s / 16) s (bytes_of s b) refl)
 
 -- the first four bytes and the last four, in one word
 module _ (s : List ℕ) (a b : ℕ) (l : 4 ≤ length s) (m : length s ≤ 8) (h : a < 2 ^ 32) (front : 4 ≤ length s → little 4 a ≡ take 4 s)

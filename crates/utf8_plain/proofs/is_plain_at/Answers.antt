@@ -5,7 +5,7 @@ use Rattle.utf8_plain.proofs.is_plain_at.Goals as goal
 
 pub returns : goal.returns
 returns c =
-    let word = c.load8.ensures in
+    let word = c.load.ensures in
     record {
       value = rw (c.is_plain.ensures, word.value, part_from);
       plain = plain_at _ _ _ c.requires word.bytes c.is_plain.ensures;

@@ -6,8 +6,8 @@ use Rattle.utf8_plain.proofs.is_short_plain.Goals as goal
 
 pub returns : goal.returns
 returns c =
-    let front = c.load4.ensures in
-    let back = c.load4-last.ensures in record {
+    let front = c.load-first.ensures in
+    let back = c.load-last.ensures in record {
       value = rw (c.is_plain.ensures, front.value, back.value, part_from);
       plain = plain_short c.args.s.now _ _ c.requires.0 c.requires.1 (omega arith) front.bytes back.bytes c.is_plain.ensures;
     }

@@ -6,4 +6,4 @@ pub overflow_cast-result : goal.overflow_cast-result
 overflow_cast-result c = record { fits = zeros_lt _ _ }
 
 pub returns : goal.returns
-returns c = front_at _ _ _ c.requires c.load8-high_bits.ensures.bytes
+returns c = front_at _ _ _ c.requires c.load-high_bits.ensures.bytes
