@@ -2,7 +2,6 @@
 #![tactic(auto)]
 
 ghost use Rattle.std.specs.Prelude.{◌≡◌};
-ghost use Rattle.prelude.specs.Pick.{pick};
 ghost use Rattle.abi_error.specs.Reply.{reply};
 ghost use Rattle.writer.specs.Step.{fresh};
 ghost use Rattle.abi_writer.specs.Calls.{writer_of, words_of, truth, settle_c};
@@ -11,64 +10,62 @@ use error::ErrorKind;
 use writer::{Scalar, Writer};
 use writer_refusal::State;
 
+// The words of a writer's state.
+fn words_of(w: State) -> [u64; 5]
+    ensures { result ≡ words_of w }
+{
+    [
+        w.written as u64,
+        w.count as u64,
+        w.pending,
+        w.start as u64,
+        w.closed as u64,
+    ]
+}
+
 // The words of a new writer.
 pub fn begin(state: &mut [u64; 5]) -> u32
     ensures { reply result state.new ≡ reply 0 (words_of fresh) }
 {
-    *state = [0, 0, 0, 0, 0];
+    *state = words_of(Writer::new().state);
     0
 }
 
-// The writer that the five words stand for.
+// The writer that the five words stand for. Neither type is of this crate, so that no `From` can say it.
 pub fn writer_of(state: &[u64; 5]) -> Writer
     ensures { result.state ≡ writer_of state.now }
 {
+    let [written, count, pending, start, closed] = *state;
     Writer {
         state: State {
-            written: state[0] as usize,
-            count: state[1] as usize,
-            pending: state[2],
-            start: state[3] as usize,
-            closed: state[4] != 0,
+            written: written as usize,
+            count: count as usize,
+            pending,
+            start: start as usize,
+            closed: closed != 0,
         },
     }
-}
-
-// 1 for true, 0 for false.
-fn flag(b: bool) -> u64
-    ensures { result ≡ pick b 1 0 }
-{
-    if b {
-        return 1;
-    }
-    0
 }
 
 // Stores the next state; a refused call leaves the words as they were.
 pub fn settle(answer: Result<(), ErrorKind>, writer: Writer, state: &mut [u64; 5]) -> u32
     ensures { reply result state.new ≡ settle_c answer writer.state state.old }
 {
-    let w = writer.state;
     match answer {
         Ok(()) => {
-            *state = [
-                w.written as u64,
-                w.count as u64,
-                w.pending,
-                w.start as u64,
-                flag(w.closed),
-            ];
+            *state = words_of(writer.state);
             0
         }
         Err(e) => error::number(e),
     }
 }
 
+// The scalar for a bool; neither type is of this crate.
 pub fn truth(value: bool) -> Scalar
     ensures { result ≡ truth value }
 {
-    if value {
-        return Scalar::True;
+    match value {
+        true => Scalar::True,
+        false => Scalar::False,
     }
-    Scalar::False
 }
