@@ -20,7 +20,7 @@ pub fn number(low: u8, most: u64, s: &[u8], mode: Mode) -> Result<Number, ErrorK
 {
     if low < kind::EXTENDED as u8 {
         return Ok(Number {
-            value: low as u64,
+            value: u64::from(low),
             left: s.len(),
         });
     }

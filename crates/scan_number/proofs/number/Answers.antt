@@ -5,14 +5,11 @@ use Prim.Native.Nat.{ℕ, ◌+◌, ◌-◌, ◌≤◌, ◌<◌}
 use native.Mathlib.Nat.{add-zero}
 use native.Mathlib.Omega.{arith}
 use lib.ListN.{length}
+use borrow.Author.Rules.{rules}
 use borrow.Author.Tests.{le-leb, lt-leb}
-use Rattle.prelude.specs.Answer.{ok, error, measured}
-use Rattle.error.specs.Error.{RANGE, number_of}
-use Rattle.error.specs.declared.ErrorKind.{ErrorKind}
+use Rattle.prelude.specs.Answer.{Answer, ok, error, measured}
+use Rattle.error.specs.Error.{RANGE}
 use Rattle.leb128.specs.Leb.{get}
-use Rattle.leb128.specs.Answers as numbers
-use Rattle.leb128.specs.declared.GetResult.{GetResult}
-use Rattle.leb128.specs.declared.GetResult.TheVariants.{Ok, Err}
 use Rattle.leb128.specs.declared.Mode.{Mode}
 use Rattle.token.specs.Scan.{get_if}
 use Rattle.scan_number.specs.Internal.{in_range, numbered}
@@ -23,31 +20,27 @@ module _ (mode : Mode) (low most : ℕ) (s : List ℕ) where
   unfolding numbered get_if measured
   numbered_low h l = rw (lt-leb 15 low h, add-zero low, le-leb low most l)
 
-  module _ (h : 15 ≤ low) (l : low < 16) (g x : GetResult) (e : numbers.answer_of g ≡ measured (get mode 9 0 s)) (is : g ≡ x) where
-    numbered_by : in_range 15 most (numbers.answer_of x) ≡ numbered mode low most s
+  module _ (h : 15 ≤ low) (l : low < 16) where
+    numbered_by : {a : Answer ℕ (ℕ × ℕ)} → a ≡ measured (get mode 9 0 s) → in_range 15 most a ≡ numbered mode low most s
     unfolding numbered get_if
-    numbered_by = let same : low ≡ 15 = omega arith in rw (same, rw is at e)
+    numbered_by e = let same : low ≡ 15 = omega arith in rw (same, e)
 
-  module _ (h : 15 ≤ low) (l : low < 16) (fits : low ≤ most) (g : GetResult) {v left : ℕ}
-      (e : numbers.answer_of g ≡ measured (get mode 9 0 s)) (is : g ≡ Ok v left) where
-    numbered_over : most - 15 < v → error RANGE ≡ numbered mode low most s
-    numbered_over o = rw (← numbered_by h l g (Ok v left) e is, lt-leb (15 + v) most (omega arith))
+    module _ {n left : ℕ} (e : ok (n, left) ≡ measured (get mode 9 0 s)) where
+      numbered_over : most - 15 < n → error RANGE ≡ numbered mode low most s
+      numbered_over o = rw (← numbered_by e, lt-leb (15 + n) most (omega arith))
 
-    numbered_in : v ≤ most - 15 → ok (15 + v, left) ≡ numbered mode low most s
-    numbered_in i = rw (← numbered_by h l g (Ok v left) e is, le-leb (15 + v) most (omega arith))
-
-  numbered_error : 15 ≤ low → low < 16 → (g : GetResult) {f : ErrorKind} → numbers.answer_of g ≡ measured (get mode 9 0 s)
-      → g ≡ Err f → error (number_of f) ≡ numbered mode low most s
-  numbered_error h l g {f} e is = numbered_by h l g (Err f) e is
+      numbered_in : low ≤ most → n ≤ most - 15 → ok (15 + n, left) ≡ numbered mode low most s
+      numbered_in fits i = rw (← numbered_by e, le-leb (15 + n) most (omega arith))
 
 pub returns-then-low : goal.returns-then-low
-returns-then-low c = search (numbered_low, arith)
+returns-then-low c = rw c.from.ensures (numbered_low _ _ _ _ (omega arith) (omega arith))
 
-pub returns-then-most-value : goal.returns-then-most-value
-returns-then-most-value c = search (numbered_over, arith)
+pub returns-in_err-above : goal.returns-in_err-above
+returns-in_err-above c =
+    search (rules, numbered_by c.args.mode c.args.low c.args.most c.args.s.now (omega arith) (omega arith) c.in_err-above.ensures)
 
-pub returns-else-most-value : goal.returns-else-most-value
-returns-else-most-value c = search (numbered_in, arith)
+pub returns-then-most-above : goal.returns-then-most-above
+returns-then-most-above c = numbered_over _ _ _ _ (omega arith) (omega arith) c.in_ok-above.ensures (omega arith)
 
-pub returns-in-Err : goal.returns-in-Err
-returns-in-Err c = search (numbered_error, arith)
+pub returns : goal.returns
+returns c = numbered_in _ _ _ _ (omega arith) (omega arith) c.in_ok-above.ensures (omega arith) (omega arith)
