@@ -20,10 +20,8 @@ use Rattle.token.specs.Token.{Token, emit, Fits}
 use Rattle.token.specs.Scan.{scan}
 use Rattle.token.proofs.Laws.{length_token, drop_emit, scan_emit, emit_scan}
 use Rattle.token.proofs.Ends.{Left, scan_left, scan_item, item_pending}
-use Rattle.scan.specs.Answers.{answer_of, head_of, scan_at}
+use Rattle.scan.specs.Answers.{head_of, scan_at}
 use Rattle.scan.specs.declared.Head.{Head}
-use Rattle.scan.specs.declared.ScanResult.{ScanResult}
-use Rattle.scan.specs.declared.ScanResult.TheVariants.{Ok}
 
 -- a head scanned at `at` of the region s: its offsets, that its kind allows its number, and that the body's bytes and,
 -- for a kind without a second number, the items are those that the kind has for n
@@ -70,13 +68,13 @@ pub scan_within : (mode : Mode) (inner : Bool) (s : List ℕ) (at : ℕ) (h : He
 unfolding scan_at
 scan_within mode inner s at h e = within_left s at h (scan mode inner at (drop at s)) (scan_left mode inner at (drop at s)) e
 
--- what the code read at an offset ends after it, in the region
-module _ (mode : Mode) (s : List ℕ) (at : ℕ) (r : ScanResult) (reported : answer_of r ≡ scan_at mode false s at) (h : Head) (is : r ≡ Ok h) where
+-- a token ends after its offset, in the region
+module _ (mode : Mode) (s : List ℕ) (at : ℕ) (h : Head) (read : ok h ≡ scan_at mode false s at) where
   pub token_less : length s - h.end < length s - at
-  token_less = let i = scan_within mode false s at h (rw is at reported) in omega (arith, i.numbers, i.body, i.end)
+  token_less = let i = scan_within mode false s at h read in omega (arith, i.numbers, i.body, i.end)
 
   pub token_inside : h.end ≤ length s
-  token_inside = (scan_within mode false s at h (rw is at reported)).end
+  token_inside = (scan_within mode false s at h read).end
 
 seen_items : (len : ℕ) (h : Head) (t : Token) (rest : List ℕ) → ok h ≡ head_of len (got t rest) → h.items ≡ pending (rule t.kind) t.n t.args
 unfolding head_of

@@ -17,12 +17,8 @@ use Rattle.prelude.specs.Pick.{pick}
 use Rattle.prelude.specs.Answer.{Answer, ok, error, Res, got, bad, guard, then, or_error, measured, need, ◌>>◌, ◌>>=◌}
 use Rattle.prelude.proofs.Tests.{pick_cong, facts, and_l, and_r}
 use Rattle.prelude.proofs.Readers.{measured_ok}
-use Rattle.error.specs.Error.{Fault, fault, number_of, TRUNC, RESERVED, RANGE, NESTED, LONG_LIST}
+use Rattle.error.specs.Error.{Fault, fault, TRUNC, RESERVED, RANGE, NESTED, LONG_LIST}
 use Rattle.leb128.specs.Leb.{get}
-use Rattle.leb128.specs.Answers as numbers
-use Rattle.leb128.specs.Internal.{left_of}
-use Rattle.leb128.specs.declared.GetResult.{GetResult}
-use Rattle.leb128.specs.declared.GetResult.TheVariants.{Ok, Err}
 use Rattle.leb128.specs.declared.Mode.{Mode}
 use Rattle.kind.specs.Kind.{rule, size, counted, pending, immediate}
 use Rattle.kind.specs.Internal.{Row}
@@ -36,9 +32,8 @@ use Rattle.scan.specs.Internal.{fitted, and_then, ranged}
 use Rattle.scan.specs.declared.Head.{Head}
 use Rattle.token.proofs.Ends.{End, end_drop, get_if_end}
 
-pub left_le : (mode : Mode) (w : Bool) (s : List ℕ) (n : ℕ) (r : GetResult) → numbers.answer_of r ≡ measured (get_if mode w s) → length s ≤ n → left_of r ≤ n
-left_le mode w s n (Ok v left) e h = measured_ok (get_if mode w s) e (λ rest q l. omega (arith, (get_if_end mode w s v rest q).short))
-left_le mode w s n (Err f) e h = omega arith
+left_le : (mode : Mode) (w : Bool) (s : List ℕ) (n : ℕ) {v left : ℕ} → ok (v, left) ≡ measured (get_if mode w s) → length s ≤ n → left ≤ n
+left_le mode w s n {v} e h = measured_ok (get_if mode w s) e (λ rest q l. omega (arith, (get_if_end mode w s v rest q).short))
 
 -- ---- `head_of`
 
@@ -124,18 +119,10 @@ pub record Number (mode : Mode) (inner : Bool) (s : List ℕ) (at k : ℕ) (r : 
   pub short : left ≤ length s
   pub whole : ranged mode s at k r n left ≡ scan_at mode inner s at
 
-abbrev pub AfterNumber : Mode → Bool → List ℕ → ℕ → Rule → GetResult → Type 0
-AfterNumber mode inner s at r (Ok n left) = Number mode inner s at (get_or s at 0 / 16) r n left
-AfterNumber mode inner s at r (Err e) = error (fault (number_of e) at) ≡ scan_at mode inner s at
-
 -- after the second number a
 pub record Second (mode : Mode) (inner : Bool) (s : List ℕ) (at k n a left : ℕ) : Type 0 where
   pub short : left ≤ length s
   pub whole : pick (leb a left) (ok (head k n a (length s - left) (length s - left))) (error (fault LONG_LIST (length s - left))) ≡ scan_at mode inner s at
-
-abbrev pub Counted : Mode → Bool → List ℕ → ℕ → ℕ → ℕ → GetResult → Type 0
-Counted mode inner s at k n (Ok a left) = Second mode inner s at k n a left
-Counted mode inner s at k n (Err e) = error (fault (number_of e) at) ≡ scan_at mode inner s at
 
 -- ---- the whole
 
@@ -179,47 +166,42 @@ module _ (mode : Mode) (inner : Bool) (s : List ℕ) (at : ℕ) (there : at < le
       pub scan_nested : inner && not i ≡ true → error (fault NESTED at) ≡ scan_at mode inner s at
       scan_nested h = rw (scan_head, ← ruled, lt-ltb _ _ used, ← flat, h)
 
-      scan_numbered : inner && not i ≡ false → and_then at (ranged mode s at kind r) (numbered mode low r.most (drop (at + 1) s)) ≡ scan_at mode inner s at
-      scan_numbered h = rw (scan_head, ← ruled, lt-ltb _ _ used, ← flat, h)
+      -- the number, or its error
+      module _ (plain : inner && not i ≡ false) {a : Answer ℕ (ℕ × ℕ)} (e : a ≡ numbered mode low r.most (drop (at + 1) s)) where
+        pub scan_numbered : and_then at (ranged mode s at kind r) a ≡ scan_at mode inner s at
+        scan_numbered = rw (scan_head, ← ruled, lt-ltb _ _ used, ← flat, plain, e)
 
-      after : inner && not i ≡ false → (g : GetResult) → numbers.answer_of g ≡ numbered mode low r.most (drop (at + 1) s) → AfterNumber mode inner s at r g
+      pub scan_number : inner && not i ≡ false → {n left : ℕ} → ok (n, left) ≡ numbered mode low r.most (drop (at + 1) s)
+          → Number mode inner s at kind r n left
       unfolding numbered
-      after h (Ok n left) e = range_ok low r.most (measured (get_if mode (leb 15 low) (drop (at + 1) s))) e (λ v q l. record {
+      scan_number plain {n} {left} e = range_ok low r.most (measured (get_if mode (leb 15 low) (drop (at + 1) s))) e (λ v q l. record {
         row = ruled_row kind ruled;
         most = l;
-        short = left_le mode (leb 15 low) (drop (at + 1) s) (length s) (Ok v left) q (rw length-drop (omega arith));
-        whole = rw (← scan_numbered h, ← e);
+        short = left_le mode (leb 15 low) (drop (at + 1) s) (length s) q (rw length-drop (omega arith));
+        whole = scan_numbered plain e;
       })
-      after h (Err f) e = rw (← scan_numbered h, ← e)
-
-      pub scan_number : inner && not i ≡ false → (g x : GetResult) → numbers.answer_of g ≡ numbered mode low r.most (drop (at + 1) s)
-          → g ≡ x → AfterNumber mode inner s at r x
-      scan_number h g x e is = after h x (rw is at e)
 
 -- ---- after n
 
 module _ {mode : Mode} {inner : Bool} {s : List ℕ} {at k : ℕ} {r : Rule} {n left : ℕ} (b : Number mode inner s at k r n left) where
-  -- items that a second number counts
-  pub scan_second : r.args ≡ true → (g x : GetResult) → numbers.answer_of g ≡ measured (get mode 9 0 (drop (length s - left) s)) → g ≡ x
-      → Counted mode inner s at k n x
-  unfolding get_if
-  scan_second e g x q is = go x (rw is at q)
-    where
-      whole : and_then at (fitted (length s) at k r n) (measured (get mode 9 0 (drop (length s - left) s))) ≡ scan_at mode inner s at
-      whole = rw (← b.whole, e)
+  -- items that a second number counts: the number, or its error
+  module _ (e : r.args ≡ true) where
+    pub scan_counted : {a : Answer ℕ (ℕ × ℕ)} → a ≡ measured (get mode 9 0 (drop (length s - left) s)) → and_then at (fitted (length s) at k r n) a ≡ scan_at mode inner s at
+    unfolding get_if
+    scan_counted q = rw (← b.whole, e, q)
 
-      go : (g : GetResult) → numbers.answer_of g ≡ measured (get mode 9 0 (drop (length s - left) s)) → Counted mode inner s at k n g
-      go (Ok a l) q =
-          let none = b.row.many e in
-          let scale : r.scale ≡ 0 = omega arith in
-          let fixed : r.fixed ≡ 0 = omega (arith, b.row.fixed) in
-          let each : r.each ≡ 0 = omega arith in
-          let single : r.single ≡ 0 = omega arith in
-          record {
-            short = left_le mode true (drop (length s - left) s) (length s) (Ok a l) q (rw length-drop (omega arith));
-            whole = rw (← whole, ← q) (rw (fixed, scale, each, single) (simp (zero-mul, zero-add, add-zero)));
-          }
-      go (Err x) q = rw (← whole, ← q)
+    pub scan_second : {a l : ℕ} → ok (a, l) ≡ measured (get mode 9 0 (drop (length s - left) s)) → Second mode inner s at k n a l
+    unfolding get_if
+    scan_second q =
+        let none = b.row.many e in
+        let scale : r.scale ≡ 0 = omega arith in
+        let fixed : r.fixed ≡ 0 = omega (arith, b.row.fixed) in
+        let each : r.each ≡ 0 = omega arith in
+        let single : r.single ≡ 0 = omega arith in
+        record {
+          short = left_le mode true (drop (length s - left) s) (length s) q (rw length-drop (omega arith));
+          whole = rw (← scan_counted q) (rw (fixed, scale, each, single) (simp (zero-mul, zero-add, add-zero)));
+        }
 
   -- none
   module _ (e : r.args ≡ false) where

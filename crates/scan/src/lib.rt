@@ -62,18 +62,16 @@ pub fn scan(region: &[u8], at: usize, inner: bool, mode: Mode) -> Result<Head, E
             place: at,
         });
     }
-    let number = match scan_number::number(low, rule.most, &region[at + 1..], mode) {
-        Ok(number) => number,
-        Err(kind) => return Err(Error { kind, place: at }),
-    };
+    let rest = &region[at + 1..];
+    let number = scan_number::number(low, rule.most, rest, mode).map_err(|kind| Error {
+        kind,
+        place: at,
+    })?;
     let n = number.value;
     let first = len - number.left;
     // items that a second number counts, and no body
     if rule.args {
-        let args = match leb128::get(&region[first..], mode) {
-            Ok(args) => args,
-            Err(kind) => return Err(Error { kind, place: at }),
-        };
+        let args = leb128::get(&region[first..], mode).map_err(|kind| Error { kind, place: at })?;
         let after = len - args.left;
         // LONG_LIST: the count of arguments exceeds the bytes left
         if (args.left as u64) < args.value {
