@@ -63,15 +63,13 @@ pub fn scan(region: &[u8], at: usize, inner: bool, mode: Mode) -> Result<Head, E
         });
     }
     let rest = &region[at + 1..];
-    let number = scan_number::number(low, rule.most, rest, mode).map_err(|kind| Error {
-        kind,
-        place: at,
-    })?;
+    let placed = |kind| Error { kind, place: at };
+    let number = scan_number::number(low, rule.most, rest, mode).map_err(placed)?;
     let n = number.value;
     let first = len - number.left;
     // items that a second number counts, and no body
     if rule.args {
-        let args = leb128::get(&region[first..], mode).map_err(|kind| Error { kind, place: at })?;
+        let args = leb128::get(&region[first..], mode).map_err(placed)?;
         let after = len - args.left;
         // LONG_LIST: the count of arguments exceeds the bytes left
         if (args.left as u64) < args.value {
