@@ -1,11 +1,13 @@
 -- `table_search::count_16` meets its contract.
-use Prim.Native.Nat.{◌+◌}
+use Prim.Native.Nat.{ℕ}
 use native.Mathlib.Omega.{arith}
+use lib.ListN.{length-take}
+use Rattle.prelude.proofs.Searches.{rank_le}
 use Rattle.table_search.proofs.Quarters.{rank_part}
 use Rattle.table_search.proofs.count_16.Goals as goal
 
 pub overflow_add-result : goal.overflow_add-result
-overflow_add-result c = omega (arith, c.count.ensures, rank_part c.args.x c.args.t.now c.args.base (c.args.base + 16) c.requires.0 c.requires.1 c.requires.2 c.requires.3)
+overflow_add-result c = grind (arith, rank_le, length-take {A = ℕ})
 
 pub returns : goal.returns
-returns c = omega (arith, c.count.ensures, rank_part c.args.x c.args.t.now c.args.base (c.args.base + 16) c.requires.0 c.requires.1 c.requires.2 c.requires.3)
+returns c = search (rank_part, arith)
