@@ -3,11 +3,8 @@
 #![tactic(auto)]
 
 ghost use Rattle.std.specs.Prelude.{◌≡◌, ◌-◌, length, take};
-ghost use Rattle.prelude.specs.Pick.{pick};
-ghost use Rattle.prelude.specs.Answer.{ok, error};
-ghost use Rattle.error.specs.Error.{fault, BAD_TARGET};
 ghost use Rattle.scan.specs.Answers as scans;
-ghost use Rattle.reader_region.specs.Region.{region_len, below, peek_in, peek_of};
+ghost use Rattle.reader_region.specs.Region.{region_len, peek_in, peek_of};
 ghost use Rattle.reader_region.specs.Answers.{offset_answer};
 
 use error::{Error, ErrorKind};
@@ -15,6 +12,7 @@ use leb128::Mode;
 use scan::Head;
 
 // How long the region of a file of len bytes is, if `at` is in it.
+#[tactic(auto, unfolding(crate::specs::Region::region_len))]
 pub fn region_len(len: usize, at: usize) -> Result<usize, Error>
     ensures { offset_answer result ≡ region_len len at }
 {
@@ -39,12 +37,15 @@ pub fn region_len(len: usize, at: usize) -> Result<usize, Error>
     })
 }
 
-// The head h at `at`, or BAD_TARGET if its target is below 0.
-fn check_target(at: usize, h: Head) -> Result<Head, Error>
-    ensures { scans.answer_of result ≡ pick (below at h) (error (fault BAD_TARGET at)) (ok h) }
+// The head at `at` of a region, as a query looks at it; as an item's if `inner` is true. Region and mode come apart: this holds
+// for a region of any length, and `scan::Region`, which has the two, is for regions within the limit.
+#[tactic(auto, unfolding(crate::specs::Region::peek_in, prelude::specs::Answer::bind))]
+pub fn peek_in(region: &[u8], at: usize, inner: bool, mode: Mode) -> Result<Head, Error>
+    ensures { scans.answer_of result ≡ peek_in mode inner region.now at }
 {
-    let q = at as u64;
-    if (kind::KIND_REFERENCE <= h.kind) & (q <= h.n) {
+    let h = scan::scan(region, at, inner, mode)?;
+    // BAD_TARGET: the target of a reference or pointer is below 0
+    if kind::KIND_REFERENCE <= h.kind && at as u64 <= h.n {
         return Err(Error {
             kind: ErrorKind::BadTarget,
             place: at,
@@ -53,15 +54,9 @@ fn check_target(at: usize, h: Head) -> Result<Head, Error>
     Ok(h)
 }
 
-// The head at `at` of a region, as a query looks at it; as an item's if `inner` is true.
-pub fn peek_in(region: &[u8], at: usize, inner: bool, mode: Mode) -> Result<Head, Error>
-    ensures { scans.answer_of result ≡ peek_in mode inner region.now at }
-{
-    check_target(at, scan::scan(region, at, inner, mode)?)
-}
-
 // The head of the value at `at`, with the errors of `read`: its kind and numbers as they are, and where its body or
 // first item starts.
+#[tactic(auto, using(crate::proofs::Laws::in_region_ok, crate::proofs::Laws::in_region_error, crate::proofs::Laws::length_region))]
 pub fn peek(file: &[u8], at: usize, mode: Mode) -> Result<Head, Error>
     ensures { scans.answer_of result ≡ peek_of mode file.now at }
 {
