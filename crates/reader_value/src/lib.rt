@@ -1,7 +1,7 @@
 // What the value at an offset of any file is (document 01, "Questions at an offset").
 #![tactic(auto)]
 
-ghost use Rattle.std.specs.Prelude.{◌≡◌, ◌≤◌, ◌<◌, ◌^◌, pos, negsuc, length};
+ghost use Rattle.std.specs.Prelude.{◌≡◌, ◌≤◌, length};
 ghost use Rattle.reader_region.specs.Internal.{Peeked};
 ghost use Rattle.reader_value.specs.Value.{scalar, float, value_on, read_of};
 ghost use Rattle.reader_value.specs.Row.{read_row_of};
@@ -12,7 +12,7 @@ use leb128::Mode;
 use scan::Head;
 
 // One value. Items and text bytes are not looked at.
-#[derive(Clone, Copy)]
+#[derive(Clone, Copy, Debug, PartialEq, Eq)]
 pub enum Value {
     False,
     True,
@@ -71,44 +71,27 @@ pub enum Value {
 fn scalar_of(n: u64) -> Value
     ensures { result ≡ scalar n }
 {
-    if n == 0 {
-        return Value::False;
+    match n {
+        0 => Value::False,
+        1 => Value::True,
+        _ => Value::Null,
     }
-    if n == 1 {
-        return Value::True;
-    }
-    Value::Null
 }
 
 fn float_of(region: &[u8], h: Head) -> Value
     requires { h.first ≤ length region.now }
     ensures { result ≡ float region.now h }
 {
-    let first = h.first;
+    let body = &region[h.first..];
     if h.n == 0 {
-        return Value::Float32(little_endian::load4(&region[first..]));
+        Value::Float32(little_endian::load4(body))
+    } else {
+        Value::Float64(little_endian::load8(body))
     }
-    Value::Float64(little_endian::load8(&region[first..]))
-}
-
-fn positive(n: u64) -> Value
-    requires { n < 2 ^ 63 }
-    ensures { result ≡ Value.Integer (pos n) }
-{
-    Value::Integer(n as i64)
-}
-
-// -n-1
-fn negative(n: u64) -> Value
-    requires { n < 2 ^ 63 }
-    ensures { result ≡ Value.Integer (negsuc n) }
-{
-    let m = n as i64;
-    let z = -1 - m;
-    Value::Integer(z)
 }
 
 // The value at `at` with head h: the kinds in their order; 9 and 13 are reserved.
+#[tactic(auto, unfolding(crate::specs::Value::value_on, kind::specs::Kind::rule))]
 fn value_on(region: &[u8], at: usize, h: Head) -> Value
     requires { Peeked region.now at h }
     ensures { result ≡ value_on region.now at h }
@@ -118,8 +101,8 @@ fn value_on(region: &[u8], at: usize, h: Head) -> Value
     let first = h.first;
     match kind {
         kind::KIND_SCALAR => scalar_of(n),
-        kind::KIND_INTEGER => positive(n),
-        kind::KIND_NEGATIVE => negative(n),
+        kind::KIND_INTEGER => Value::Integer(n as i64),
+        kind::KIND_NEGATIVE => Value::Integer(-1 - n as i64),
         kind::KIND_FLOAT => float_of(region, h),
         kind::KIND_TEXT => Value::Text {
             first,
