@@ -10,6 +10,7 @@ use leb128::Mode;
 use scan::Head;
 
 // The offset after `items` items from `at` on.
+#[tactic(auto, using(crate::proofs::Laws::walk_none, crate::proofs::Laws::walk_item, crate::proofs::Laws::walk_error))]
 fn skip_items(region: &[u8], at: usize, items: u64, mode: Mode) -> Result<usize, Error>
     ensures { offset_answer result ≡ skip_items mode region.now items at }
 {
@@ -29,6 +30,7 @@ pub fn skip(file: &[u8], at: usize, mode: Mode) -> Result<usize, Error>
 }
 
 // An offset where an item is to start, in a region of len bytes.
+#[tactic(auto, unfolding(crate::specs::Items::starts_in))]
 pub fn starts_in(len: usize, q: usize) -> Result<usize, Error>
     ensures { offset_answer result ≡ starts_in len q }
 {
@@ -43,13 +45,12 @@ pub fn starts_in(len: usize, q: usize) -> Result<usize, Error>
 }
 
 // The offset of an item of the value at `at` of a region, which has the head h.
+#[tactic(auto, unfolding(crate::specs::Items::item_on, prelude::specs::Answer::bind))]
 fn item_on(region: &[u8], at: usize, index: usize, h: Head, mode: Mode) -> Result<usize, Error>
     ensures { offset_answer result ≡ item_on mode region.now at index h }
 {
-    let kind = h.kind;
-    let rule = kind::rule_of(kind);
     // WRONG_KIND: a kind without items
-    if kind::is_immediate(rule) {
+    if kind::is_immediate(kind::rule_of(h.kind)) {
         return Err(Error {
             kind: ErrorKind::WrongKind,
             place: at,

@@ -58,15 +58,15 @@ module _ (file : List ℕ) (at : ℕ) where
 
     -- an answer made from it in turn
     module _ {B : Type 0} (f : List ℕ → A → Answer Fault B) where
-      pub in_region_then : {a : A} {r : Answer Fault B} → ok a ≡ in_region file at k → r ≡ f (take (length file - 1) file) a
+      pub in_region_then : {s : List ℕ} {a : A} {r : Answer Fault B} → ok a ≡ in_region file at k → s ≡ take (length file - 1) file → r ≡ f s a
           → r ≡ in_region file at (λ s. bind (k s) (f s))
       unfolding in_region
-      in_region_then {a} {r} e q =
-          bind_ok_by _ _ e (λ n g o. bind_ok _ g (bind_ok _ o (subst (λ n. r ≡ f (take n file) a) (sym (region_length (length file) at n g)) q)))
+      in_region_then {s} {a} {r} e i q =
+          bind_ok_by _ _ e (λ n g o. bind_ok _ g (bind_ok _ o (rw (region_length (length file) at n g, ← i) q)))
 
-      pub in_region_failed : {e : Fault} → error e ≡ in_region file at k → error e ≡ in_region file at (λ s. bind (k s) (f s))
+      pub in_region_failed : {e : Fault} {r : Answer Fault B} → error e ≡ in_region file at k → r ≡ error e → r ≡ in_region file at (λ s. bind (k s) (f s))
       unfolding in_region
-      in_region_failed q = bind_error_by _ _ q (λ g. bind_error _ g) (λ n g o. bind_ok _ g (bind_error _ o))
+      in_region_failed q i = rw i (bind_error_by _ _ q (λ g. bind_error _ g) (λ n g o. bind_ok _ g (bind_error _ o)))
 
 -- ---- heads
 
