@@ -15,7 +15,7 @@ use Rattle.leb128.specs.declared.Mode.{Mode}
 use Rattle.scan.specs.declared.Head.{Head}
 use Rattle.scan.proofs.Places.{Within, scan_within}
 use Rattle.reader_region.specs.Region.{peek_in}
-use Rattle.reader_region.proofs.Laws.{TargetBelow, peek_target, peek_scan}
+use Rattle.reader_region.proofs.Laws.{TargetBelow, peek_target, peek_scan, pointer_lt}
 use Rattle.reader_follow.specs.Follow.{Followed, followed, Position, position, follow_turned, follow_turn, follow_from}
 
 -- a turn that goes on goes down
@@ -44,6 +44,9 @@ module _ (mode : Mode) (s : List ℕ) where
   pub follow_from_error : (q hops : ℕ) (f : Fault) → error f ≡ peek_in mode false s q → error f ≡ follow_from mode s (position q hops)
   unfolding follow_from follow_turn
   follow_from_error q hops f e = sym (from_stop (follow_turn mode s) (λ p. p.place) _ turn_falls (position q hops) _ (rw (← e)))
+
+-- for a loop from pointer to pointer
+pub ruleset hops = (pointer_lt, follow_from_pointer, follow_from_end, follow_from_error)
 
 -- ---- what following reaches
 

@@ -8,10 +8,10 @@ use Rattle.error.specs.Error.{Fault, answered}
 use Rattle.error.specs.declared.Error.{Error}
 use Rattle.reader_follow.specs.Follow as reached
 use Rattle.reader_follow.specs.declared.Followed.{Followed}
-use Rattle.reader_follow.specs.declared.FollowedHead.{FollowedHead}
+use Rattle.scan.specs.declared.Head.{Head}
 
-abbrev pub follow_head_answer : Result FollowedHead Error → Answer Fault reached.Followed
-follow_head_answer = answered (λ f. reached.followed f.at f.hops f.head)
+abbrev pub follow_head_answer : Result (Followed × Head) Error → Answer Fault reached.Followed
+follow_head_answer = answered (λ f. reached.followed f.0.at f.0.hops f.1)
 
 abbrev pub follow_answer : Result Followed Error → Answer Fault (ℕ × ℕ)
 follow_answer = answered (λ f. (f.at, f.hops))

@@ -10,38 +10,32 @@ use leb128::Mode;
 use scan::Head;
 
 // The value that is not a pointer, and how many pointers led to it.
-#[derive(Clone, Copy)]
+#[derive(Clone, Copy, Debug, PartialEq, Eq)]
 pub struct Followed {
     pub at: usize,
     pub hops: usize,
 }
 
-// The same, with the value's head.
-#[derive(Clone, Copy)]
-pub struct FollowedHead {
-    pub at: usize,
-    pub hops: usize,
-    pub head: Head,
-}
-
-// From pointer to pointer, from `at` of a region to a value of another kind.
-pub fn follow_from(region: &[u8], at: usize, mode: Mode) -> Result<FollowedHead, Error>
+// From pointer to pointer, from `at` of a region to a value of another kind, which is returned with its head. A `loop`, since
+// only the token read says where it goes on.
+#[tactic(auto, using(crate::proofs::Laws::hops))]
+pub fn follow_from(region: &[u8], at: usize, mode: Mode) -> Result<(Followed, Head), Error>
     ensures { follow_head_answer result ≡ follow_from mode region.now (position at 0) }
 {
-    let mut q = at;
-    let mut hops: usize = 0;
+    let mut here = Followed { at, hops: 0 };
     loop {
-        let head = reader_region::peek_in(region, q, false, mode)?;
+        let head = reader_region::peek_in(region, here.at, false, mode)?;
         if head.kind != kind::KIND_POINTER {
-            return Ok(FollowedHead { at: q, hops, head });
+            return Ok((here, head));
         }
-        q = q - head.n as usize - 1;
-        hops += 1;
+        here.at = here.at - head.n as usize - 1;
+        here.hops += 1;
     }
 }
 
 // The same from an offset of a file.
-pub fn follow_head(file: &[u8], at: usize, mode: Mode) -> Result<FollowedHead, Error>
+#[tactic(auto, using(reader_region::proofs::Laws::regions))]
+pub fn follow_head(file: &[u8], at: usize, mode: Mode) -> Result<(Followed, Head), Error>
     ensures { follow_head_answer result ≡ follow_head_of mode file.now at }
 {
     let n = reader_region::region_len(file.len(), at)?;
@@ -52,6 +46,6 @@ pub fn follow_head(file: &[u8], at: usize, mode: Mode) -> Result<FollowedHead, E
 pub fn follow(file: &[u8], at: usize, mode: Mode) -> Result<Followed, Error>
     ensures { follow_answer result ≡ follow_of mode file.now at }
 {
-    let FollowedHead { at, hops, head: _ } = follow_head(file, at, mode)?;
-    Ok(Followed { at, hops })
+    let (followed, _) = follow_head(file, at, mode)?;
+    Ok(followed)
 }

@@ -21,3 +21,6 @@ module _ (mode : Mode) (s : List ℕ) (q : ℕ) where
     pub walk_error : (f : Fault) → error f ≡ peek_in mode true s q → skip_items mode s (items - i) q ≡ error f
     unfolding skip_items bind
     walk_error f e = let one : items - i ≡ suc (items - (i + 1)) = omega arith in rw (one, ← e)
+
+-- for a loop over items
+pub ruleset walk = (walk_none, walk_item, walk_error)

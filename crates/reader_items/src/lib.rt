@@ -10,7 +10,7 @@ use leb128::Mode;
 use scan::Head;
 
 // The offset after `items` items from `at` on.
-#[tactic(auto, using(crate::proofs::Laws::walk_none, crate::proofs::Laws::walk_item, crate::proofs::Laws::walk_error))]
+#[tactic(auto, using(crate::proofs::Laws::walk))]
 fn skip_items(region: &[u8], at: usize, items: u64, mode: Mode) -> Result<usize, Error>
     ensures { offset_answer result ≡ skip_items mode region.now items at }
 {

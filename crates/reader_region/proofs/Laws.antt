@@ -68,6 +68,9 @@ module _ (file : List ℕ) (at : ℕ) where
       unfolding in_region
       in_region_failed q i = rw i (bind_error_by _ _ q (λ g. bind_error _ g) (λ n g o. bind_ok _ g (bind_error _ o)))
 
+-- for a function that takes the region first
+pub ruleset regions = (length_region, in_region_ok, in_region_error)
+
 -- ---- heads
 
 -- a head that was looked at was scanned

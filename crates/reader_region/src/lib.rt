@@ -56,7 +56,7 @@ pub fn peek_in(region: &[u8], at: usize, inner: bool, mode: Mode) -> Result<Head
 
 // The head of the value at `at`, with the errors of `read`: its kind and numbers as they are, and where its body or
 // first item starts.
-#[tactic(auto, using(crate::proofs::Laws::in_region_ok, crate::proofs::Laws::in_region_error, crate::proofs::Laws::length_region))]
+#[tactic(auto, using(crate::proofs::Laws::regions))]
 pub fn peek(file: &[u8], at: usize, mode: Mode) -> Result<Head, Error>
     ensures { scans.answer_of result ≡ peek_of mode file.now at }
 {
