@@ -51,3 +51,6 @@ module _ (mode : Mode) (file : List ℕ) (at : ℕ) (whole : ℕ × ℕ) where
 
   pub placed_none : (f : Fault) → error f ≡ body_place_of mode file at → Placed whole (body_place_of mode file at) (whole.0, 0 + whole.1)
   placed_none f e = rw (← e) refl
+
+-- for the function that hands the part out
+pub ruleset parts = (body_within, part_of_body, body_none, placed_part, placed_none)
