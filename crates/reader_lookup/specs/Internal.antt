@@ -7,7 +7,9 @@
 --   pair_at mode s key q
 --                       one pair of a map, from q on: where the next one starts, or the answer; the key is looked at and followed
 --   pair_answer r        what the answer of one pair means: go on at an offset, or stop with an answer
-use Rattle.std.specs.Prelude.{ℕ, true, List, Result, Ok, Err, ControlFlow, Continue, Break, length}
+use Rattle.std.specs.Prelude.{ℕ, true, List, Result, Ok, Err, length}
+use Rattle.std.specs.declared.ops.ControlFlow.{ControlFlow}
+use Rattle.std.specs.declared.ops.ControlFlow.TheVariants.{Continue, Break}
 use Rattle.prelude.specs.Pick.{pick}
 use Rattle.prelude.specs.Answer.{Answer, ok, error}
 use Rattle.prelude.specs.Loop.{Turn, go, stop}

@@ -3,7 +3,7 @@
 
 ghost use Rattle.std.specs.Prelude.{◌≡◌, ◌≤◌, length};
 ghost use Rattle.reader_region.specs.Answers.{offset_answer};
-ghost use Rattle.reader_lookup.specs.Lookup.{same, is_key, pairs, lookup_on, lookup_of};
+ghost use Rattle.reader_lookup.specs.Lookup.{is_key, pairs, lookup_on, lookup_of};
 ghost use Rattle.reader_lookup.specs.Internal.{match_key, pair_at, pair_answer};
 
 use error::{Error, ErrorKind};
@@ -12,15 +12,17 @@ use scan::Head;
 use std::ops::ControlFlow;
 
 // Whether the value with head h is a text with the bytes of `key`.
+#[tactic(auto, using(crate::proofs::Laws::same_slices))]
 fn is_key(region: &[u8], key: &[u8], h: Head) -> bool
     requires { (h.first ≤ h.end) × (h.end ≤ length region.now) }
     ensures { result ≡ is_key region.now key.now h }
 {
-    (h.kind == kind::KIND_TEXT) & (&region[h.first..h.end] == key)
+    h.kind == kind::KIND_TEXT && &region[h.first..h.end] == key
 }
 
 // A pair whose key, followed, has the head h, and whose value starts at q: a break with the offset of that value, or, if the key
 // differs, the offset of the next pair. The value is then read, to find where the next pair starts.
+#[tactic(auto, unfolding(crate::specs::Internal::or_stop))]
 fn match_key(
     region: &[u8],
     key: &[u8],
@@ -39,15 +41,17 @@ fn match_key(
 }
 
 // A pair whose key starts at q.
+#[tactic(auto, unfolding(crate::specs::Internal::or_stop))]
 fn pair(region: &[u8], key: &[u8], q: usize, mode: Mode) -> Result<ControlFlow<usize, usize>, Error>
     ensures { pair_answer result ≡ pair_at mode region.now key.now q }
 {
     let h = reader_region::peek_in(region, q, true, mode)?;
-    let followed = reader_follow::follow_from(region, q, mode)?;
-    match_key(region, key, h.end, followed.head, mode)
+    let (_, head) = reader_follow::follow_from(region, q, mode)?;
+    match_key(region, key, h.end, head, mode)
 }
 
 // Looks the key up in the map at `at`, of which `count` pairs are left from `first` on.
+#[tactic(auto, using(crate::proofs::Laws::pair_by_pair))]
 fn pairs(
     region: &[u8],
     at: usize,
