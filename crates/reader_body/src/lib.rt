@@ -16,7 +16,8 @@ pub struct Place {
     pub len: usize,
 }
 
-// The body of the value at `at` with head h.
+// The body of the value at `at` with head h. That first is at most end stays a clause, as in `reader_lookup`: specs/ compute with
+// heads too, and as a ghost field it would be a proof in each of them.
 fn body_place_on(at: usize, h: Head) -> Result<Place, Error>
     requires { h.first ≤ h.end }
     ensures { body_answer result ≡ body_place_on at h }
