@@ -26,7 +26,8 @@ pub fn scan_item(region: &[u8], at: usize, mode: Mode) -> Result<Head, Error>
     if !plain {
         return scan::scan(region, at, true, mode);
     }
-    let Ok(number) = scan_number::number(low, rule.most, &region[at + 1..], mode) else {
+    let rest = &region[at + 1..];
+    let Ok(number) = scan_number::number(low, rule.most, rest, mode) else {
         return scan::scan(region, at, true, mode);
     };
     let n = number.value;
