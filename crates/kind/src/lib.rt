@@ -75,31 +75,29 @@ const KINDS: [u16; 16] = [
     16 + BITS_64 + IMMEDIATE,
 ];
 
+#[tactic(auto, unfolding(crate::specs::Internal::bound))]
 fn bound(code: u16) -> u64
     ensures { result ≡ bound code }
 {
-    if code == 5 {
-        return 0xffff_ffff_ffff_ffff;
+    match code {
+        5 => 0xffff_ffff_ffff_ffff,
+        4 => 0x7fff_ffff_ffff_ffff,
+        3 => 0xffff_ffff,
+        small => u64::from(small),
     }
-    if code == 4 {
-        return 0x7fff_ffff_ffff_ffff;
-    }
-    if code == 3 {
-        return 0xffff_ffff;
-    }
-    code as u64
 }
 
+#[tactic(auto, unfolding(crate::specs::Internal::unpack))]
 fn unpacked(c: u16) -> Rule
     ensures { result ≡ unpack c }
 {
     Rule {
         lows: (c % 32) as u8,
         most: bound(c / BOUND % 8),
-        fixed: (c / FIXED % 2 * 4) as u64,
-        scale: (c / SCALE % 8) as u64,
-        single: (c / SINGLE % 2) as u64,
-        each: (c / EACH % 4) as u64,
+        fixed: u64::from(c / FIXED % 2 * 4),
+        scale: u64::from(c / SCALE % 8),
+        single: u64::from(c / SINGLE % 2),
+        each: u64::from(c / EACH % 4),
         args: c / ARGS % 2 == 1,
         immediate: c / IMMEDIATE == 1,
     }
@@ -107,6 +105,9 @@ fn unpacked(c: u16) -> Rule
 
 // The low nibble that means that a number follows the header (document 01: "extension").
 pub const EXTENDED: u64 = 15;
+
+// A kind is a number here and not an enum: document 01 and C name it by its number, the table is indexed by it, and definitions
+// compare it with these, so an enum would be turned into its number at each place.
 
 // False, true, null.
 pub const KIND_SCALAR: u8 = 0;
@@ -154,10 +155,7 @@ pub const KIND_POINTER: u8 = 15;
 pub fn rule_of(kind: u8) -> Rule
     ensures { result ≡ rule kind }
 {
-    if 15 < kind {
-        return unpacked(0);
-    }
-    unpacked(KINDS[kind as usize])
+    unpacked(KINDS.get(usize::from(kind)).copied().unwrap_or(0))
 }
 
 // Whether a value of this rule may be an item, as the table has it.

@@ -1,8 +1,11 @@
 -- `kind::rule_of` meets its contract: unpacked, the code's table is the table of rules.
-use mathlib.Core.Path.{refl}
+use mathlib.Core.Path.{◌≡◌, refl}
 use mathlib.Core.List.{List, [], ◌∷◌}
 use Prim.Native.Nat.{ℕ}
+use native.Mathlib.Omega.{arith}
+use lib.ListN.{get_or, get_or-eq_default}
 use borrow.Author.Rules.{rules}
+use Rattle.prelude.proofs.Tests.{split}
 use Rattle.prelude.proofs.Tables.{get_d_coded}
 use Rattle.kind.specs.Kind.{rule, table, reserved}
 use Rattle.kind.specs.Internal.{unpack, bound}
@@ -14,10 +17,11 @@ abbrev packed : List ℕ
 packed =
     32835 ∷ 32912 ∷ 32912 ∷ 33826 ∷ 33200 ∷ 33200 ∷ 4272 ∷ 8368 ∷ 2224 ∷ 0 ∷ 32880 ∷ 2160 ∷ 16496 ∷ 0 ∷ 32944 ∷ 32944 ∷ []
 
-pub returns-then-kind-gt15 : goal.returns-then-kind-gt15
-unfolding rule unpack bound
-returns-then-kind-gt15 c = rw (c.unpacked.ensures, rule_past _ c.if-kind-gt15.true)
-
 pub returns : goal.returns
 unfolding rule unpack bound
-returns c = rw c.unpacked-2.ensures (get_d_coded unpack packed table c.args.kind 0 reserved refl (search rules))
+returns c =
+    let is : c.unwrap_or.result ≡ get_or packed c.args.kind 0 = search rules in
+    rw (c.unpacked.ensures, is)
+    (split c.args.kind 16
+    (λ below. get_d_coded unpack packed table c.args.kind 0 reserved refl below)
+    (λ past. rw (get_or-eq_default packed 0 {n = c.args.kind} past, rule_past c.args.kind (omega arith))))
