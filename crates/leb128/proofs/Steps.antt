@@ -1,29 +1,25 @@
--- The steps of `get`, as the code takes them: on a list known by its first element, with the bytes left counted.
+-- The steps of `get`, as the code takes them: by the first byte and those after it, with the bytes left counted.
 --
--- In order: each way through `get_from` and `get`; what is read has room for the bits below it.
+-- In order: a last byte; the first byte of the rest, or none; each way through `get_from` and `get`; what is read has room for
+-- the bits below it.
 use mathlib.Core.Path.{◌≡◌, refl}
 use mathlib.Core.List.{List, [], ◌∷◌}
-use Prim.Native.Nat.{ℕ, zero, suc, ◌-◌, ◌*◌, ◌+◌, ◌%◌, ◌^◌, ◌<◌, ◌≤◌}
-use native.Mathlib.Nat.{one-le-pow, pow-le-pow_right}
-use native.Mathlib.Numerals.{sub-one}
+use Prim.Native.Nat.{ℕ, zero, suc, ◌*◌, ◌+◌, ◌%◌, ◌^◌, ◌<◌, ◌≤◌}
+use native.Mathlib.Nat.{pow-le-pow_right}
 use native.Mathlib.Omega.{arith}
-use lib.Dec.{ltb, lit<}
-use lib.ListN.{length, get_or, drop}
+use lib.Dec.{lit<}
+use lib.ListN.{length}
 use borrow.Author.Tests.{lt-ltb, le-ltb, le-leb}
 use Rattle.std.specs.Prelude.{Option, Some, None, Result, Err, MatchOption, ok_or}
 use Rattle.std.specs.List.{IsFirstAndRest}
 use Rattle.std.proofs.Common.{Bor}
-use Rattle.prelude.specs.Pick.{pick}
 use Rattle.prelude.specs.Answer.{Answer, Res, got, bad, then, ok, error, measured}
-use Rattle.prelude.proofs.Tests.{split}
 use Rattle.prelude.proofs.Readers.{measured_guard, measured_ok}
 use Rattle.error.specs.Error.{TRUNC, number_of}
 use Rattle.error.specs.declared.ErrorKind.{ErrorKind}
 use Rattle.error.specs.declared.ErrorKind.TheVariants.{Trunc}
 use Rattle.leb128.specs.Leb.{least_of, get}
-use Rattle.leb128.specs.Answers.{answer_of}
-use Rattle.leb128.specs.Internal.{last, tenth, raised}
-use Rattle.leb128.specs.declared.Number.{Number}
+use Rattle.leb128.specs.Internal.{last, tenth}
 use Rattle.leb128.specs.declared.Mode.{Mode}
 use Rattle.leb128.proofs.Laws.{least_one, get_ends}
 
@@ -39,6 +35,11 @@ last_more mode b left h = let least : least_of mode ≤ b = omega (arith, least_
 pub last_first : (b left : ℕ) → ok (b, left) ≡ last 0 b left
 unfolding last
 last_first b left = rw (le-leb 0 b (omega arith))
+
+-- the answer a with its number times u, plus d
+abbrev raised : ℕ → ℕ → Answer ℕ (ℕ × ℕ) → Answer ℕ (ℕ × ℕ)
+raised d u (ok a) = ok (d + u * a.0, a.1)
+raised d u (error e) = error e
 
 raised_then : (d : ℕ) (r : Res ℕ ℕ) → raised d 128 (measured r) ≡ measured (then r (λ n rest. got (d + 128 * n) rest))
 unfolding then measured

@@ -1,7 +1,7 @@
 // LEB128 numbers of up to 64 bits (document 01, "Row of a file"), written in the shortest form, and read in that form only or in any.
 #![tactic(auto)]
 
-ghost use Rattle.std.specs.Prelude.{◌≡◌, ◌+◌, ◌*◌, ◌≤◌, ◌<◌, ◌^◌, length};
+ghost use Rattle.std.specs.Prelude.{◌≡◌, ◌+◌, ◌*◌, ◌≤◌, ◌<◌, ◌^◌, ◌↔◌, length, unwrap_or, IsSome};
 ghost use Rattle.prelude.specs.Answer.{measured};
 ghost use Rattle.prelude.specs.Bytes.{store, stored, Put};
 ghost use Rattle.leb128.specs.Leb.{put, least_of, get};
@@ -27,6 +27,7 @@ pub struct Number {
 }
 
 // A last byte of 0 after others: the number has more bytes than it needs.
+#[tactic(auto, unfolding(crate::specs::Internal::last))]
 fn padded(left: usize, mode: Mode) -> Result<Number, ErrorKind>
     ensures { answer_of result ≡ last (least_of mode) 0 left }
 {
@@ -112,7 +113,7 @@ pub fn size(n: u64) -> usize
     if n == 0 {
         return 1;
     }
-    ((70 - u64::leading_zeros(n)) / 7) as usize
+    ((70 - n.leading_zeros()) / 7) as usize
 }
 
 // Writes n at the front of rest, which has room for it, and returns how many bytes that took.
@@ -120,23 +121,25 @@ pub fn put_within(rest: &mut [u8], n: u64) -> usize
     requires { length (put 9 n) ≤ length rest.old }
     ensures { Put (put 9 n) rest.old rest.new result }
 {
-    let mut i: usize = 0;
+    let mut i = 0;
     let mut m = n;
+    // The loop goes by what is left of n. One over the bytes of rest would need an answer at their end, which is not reached.
     while 128 <= m {
         rest[i] = (m % 128 + 128) as u8;
-        m = m / 128;
+        m /= 128;
         i += 1;
     }
     rest[i] = m as u8;
     i + 1
 }
 
-// Writes n at the front of rest and returns how many bytes that took; if it does not fit, writes nothing and returns 0.
-pub fn put(rest: &mut [u8], n: u64) -> usize
-    ensures { stored result rest.new ≡ store (put 9 n) rest.old }
+// Writes n at the front of rest and returns how many bytes that took; if it does not fit, writes nothing.
+pub fn put(rest: &mut [u8], n: u64) -> Option<usize>
+    ensures fits { IsSome result ↔ (length (put 9 n) ≤ length rest.old) }
+    ensures stores { stored (unwrap_or result 0) rest.new ≡ store (put 9 n) rest.old }
 {
     if rest.len() < size(n) {
-        return 0;
+        return None;
     }
-    put_within(rest, n)
+    Some(put_within(rest, n))
 }
