@@ -20,15 +20,10 @@ use Rattle.prelude.proofs.Tests.{pick_elim, split}
 use Rattle.prelude.proofs.Lists.{get_d_in}
 use Rattle.prelude.proofs.Searches.{rising_ge}
 use Rattle.prelude.proofs.Turns.{from_go, from_stop, from_all}
-use Rattle.error.specs.Error as errors
 use Rattle.error.specs.Error.{Fault, LIMIT}
-use Rattle.error.specs.declared.Error.{Error}
 use Rattle.leb128.specs.declared.Mode.{Mode}
-use Rattle.scan.specs.Answers as scans
 use Rattle.scan.specs.Answers.{scan_at}
 use Rattle.scan.specs.declared.Head.{Head}
-use Rattle.scan.specs.declared.ScanResult.{ScanResult}
-use Rattle.scan.specs.declared.ScanResult.TheVariants.{Ok, Err}
 use Rattle.scan.proofs.Places.{scan_within}
 use Rattle.depths_value.specs.Depth.{target_depth, DepthState, depth_state, depth_turned, depth_turn, deepest_from, deepest_in, depth_at, depths_to}
 use Rattle.depths_value.specs.Internal.{Starts}
@@ -63,18 +58,15 @@ module _ (mode : Mode) (s ss ds : List ℕ) (end : ℕ) where
     unfolding deepest_from depth_turn
     deepest_end h = sym (from_stop (depth_turn mode s ss ds end) _ _ falls (depth_state at deep) _ (rw (le-leb _ _ h))) ∙ so
 
-    module _ (more : at < end) (r : ScanResult) (reported : scans.answer_of r ≡ scan_at mode false s at) where
-      pub deepest_error : (f : Error) → r ≡ Err f → deep ≡ x
+    module _ (more : at < end) where
+      pub deepest_error : (f : Fault) → error f ≡ scan_at mode false s at → deep ≡ x
       unfolding deepest_from depth_turn
-      deepest_error f is =
-          let e : error (errors.fault_of f) ≡ scan_at mode false s at = rw is at reported in
-          sym (from_stop (depth_turn mode s ss ds end) _ _ falls (depth_state at deep) _ (rw (lt-leb _ _ more, ← e))) ∙ so
+      deepest_error f e = sym (from_stop (depth_turn mode s ss ds end) _ _ falls (depth_state at deep) _ (rw (lt-leb _ _ more, ← e))) ∙ so
 
-      pub deepest_token : (h : Head) → r ≡ Ok h → (d m : ℕ) → d ≡ target_depth ss ds at h → m ≡ max deep d
+      pub deepest_token : (h : Head) → ok h ≡ scan_at mode false s at → (d m : ℕ) → d ≡ target_depth ss ds at h → m ≡ max deep d
           → deepest_from mode s ss ds end (depth_state h.end m) ≡ x
       unfolding deepest_from depth_turn
-      deepest_token h is d m ed em =
-          let e : ok h ≡ scan_at mode false s at = rw is at reported in
+      deepest_token h e d m ed em =
           sym (from_go (depth_turn mode s ss ds end) _ _ falls (depth_state at deep) (depth_state h.end m) (rw (lt-leb _ _ more, ← e, em, ed))) ∙ so
 
 -- ---- no depth is more than one above its value's number

@@ -6,7 +6,7 @@ ghost use Rattle.prelude.specs.Search.{Rising};
 ghost use Rattle.error.specs.Error.{LIMIT};
 ghost use Rattle.table.specs.Blocks.{Counted};
 ghost use Rattle.depths_value.specs.Depth.{target_depth, deepest_in, depth_at, depths_to};
-ghost use Rattle.depths_value.specs.Internal.{Starts};
+ghost use Rattle.depths_value.specs.Internal.{Starts as AreStarts};
 
 use scan::{Head, Region};
 use table_search::Starts;
@@ -15,7 +15,7 @@ use table_search::Starts;
 // one have the depths `before`.
 fn target_depth(starts: Starts, before: &[u32], at: usize, h: Head) -> u32
     requires { at < 2 ^ 32 }
-    ensures { result ≡ target_depth starts.words.now before.now at h }
+    ensures { result ≡ target_depth starts.entry.words.now before.now at h }
 {
     let q = at as u64;
     if (kind::KIND_REFERENCE <= h.kind) & (h.n < q) {
@@ -30,7 +30,7 @@ fn target_depth(starts: Starts, before: &[u32], at: usize, h: Head) -> u32
 // The greatest depth of a target of the tokens from `start` to `end`.
 fn deepest(region: Region, starts: Starts, before: &[u32], start: usize, end: usize) -> u32
     requires { start ≤ length region.bytes.now }
-    ensures { result ≡ deepest_in region.mode region.bytes.now starts.words.now before.now end start }
+    ensures { result ≡ deepest_in region.entry.mode region.entry.bytes.now starts.entry.words.now before.now end start }
 {
     let mut at = start;
     let mut deep: u32 = 0;
@@ -49,17 +49,14 @@ fn end_of(len: usize, starts: &[u32], i: usize) -> usize
     requires { i < length starts.now }
     ensures { result ≡ get_or starts.now (suc i) len }
 {
-    match starts.get(i + 1) {
-        Some(&next) => next as usize,
-        None => len,
-    }
+    starts.get(i + 1).map_or(len, |&next| next as usize)
 }
 
 // The depth of value number i; the first i words of the table hold the depths of the values before it.
 pub fn depth_at(region: Region, starts: Starts, depths: &[u32], i: usize) -> u32
-    requires { (i < length starts.words.now) × (i ≤ length depths.now) × (Starts region.bytes.now starts.words.now)
+    requires { (i < length starts.words.now) × (i ≤ length depths.now) × (AreStarts region.bytes.now starts.words.now)
         × (take i depths.now ≡ depths_to region.mode region.bytes.now starts.words.now i) }
-    ensures { result ≡ depth_at region.mode region.bytes.now starts.words.now (take i depths.now) i }
+    ensures { result ≡ depth_at region.entry.mode region.entry.bytes.now starts.entry.words.now (take i depths.now) i }
 {
     let start = starts.words[i] as usize;
     let end = end_of(region.bytes.len(), starts.words, i);

@@ -8,10 +8,10 @@ pub loop-at-smaller : goal.loop-at-smaller
 loop-at-smaller c = search (token_less, arith)
 
 pub loop-at-preserved : goal.loop-at-preserved
-loop-at-preserved c = (search (token_inside, arith), search deepest_token)
+loop-at-preserved c = (search (token_inside, arith), search (deepest_token, c.in-Ok.ensures))
 
-pub returns-in-Err : goal.returns-in-Err
-returns-in-Err c = search deepest_error
+pub returns-in_default : goal.returns-in_default
+returns-in_default c = search (deepest_error, c.in_default.ensures)
 
 pub returns : goal.returns
 returns c = search deepest_end

@@ -7,8 +7,10 @@ use Rattle.depths_value.proofs.deepest.Given as goal
 
 abbrev pub invariant-loop-at : goal.invariant-loop-at
 invariant-loop-at l =
-    (l.at ≤ length l.region)
-    × (deepest_from l.mode l.region l.starts l.before l.end (depth_state l.at l.deep) ≡ deepest_in l.mode l.region l.starts l.before l.end l.start)
+    let s = l.region.bytes.now in
+    let ss = l.starts.words.now in
+    (l.at ≤ length s)
+    × (deepest_from l.region.mode s ss l.before l.end (depth_state l.at l.deep) ≡ deepest_in l.region.mode s ss l.before l.end l.start)
 
 abbrev pub decreases-loop-at : goal.decreases-loop-at
-decreases-loop-at l = length l.region - l.at
+decreases-loop-at l = length l.region.bytes.now - l.at
