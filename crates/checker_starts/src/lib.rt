@@ -15,7 +15,7 @@ use table_search::Starts;
 // many they are.
 fn walk(region: Region, starts: &mut [u32], blocks: &mut [u32]) -> Result<usize, Error>
     requires { (length region.bytes.now < length blocks.old * BLOCK) × (get_or blocks.old 0 0 ≡ 0) }
-    ensures { (list_answer result starts.new ≡ starts_from region.mode region.bytes.now (length starts.old) (between 0 []))
+    ensures { (list_answer result starts.new ≡ starts_from region.entry.mode region.entry.bytes.now (length starts.old) (between 0 []))
         × (Listed result starts.new) }
 {
     let mut at: usize = 0;
@@ -48,7 +48,7 @@ fn walk(region: Region, starts: &mut [u32], blocks: &mut [u32]) -> Result<usize,
 // blocks: for a small file, clearing the large array would take longer than the walk.
 pub fn list_starts(region: Region, starts: &mut [u32]) -> Result<usize, Error>
     requires { length region.bytes.now < LIMIT }
-    ensures { (list_answer result starts.new ≡ starts_from region.mode region.bytes.now (length starts.old) (between 0 []))
+    ensures { (list_answer result starts.new ≡ starts_from region.entry.mode region.entry.bytes.now (length starts.old) (between 0 []))
         × (Listed result starts.new) }
 {
     if region.bytes.len() < table::LONG {

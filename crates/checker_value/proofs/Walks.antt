@@ -19,20 +19,15 @@ use Rattle.prelude.proofs.Lists.{below_snoc}
 use Rattle.prelude.proofs.Readers.{bind_ok, bind_error}
 use Rattle.prelude.proofs.Turns.{from_go, from_stop, from_all}
 use Rattle.prelude.proofs.Searches.{rising_nil, rising_snoc}
-use Rattle.error.specs.Error as errors
 use Rattle.error.specs.Error.{Fault, fault, BAD_TEXT, BAD_TARGET, FULL}
 use Rattle.error.specs.declared.Error.{Error}
 use Rattle.leb128.specs.declared.Mode.{Mode}
 use Rattle.utf8.specs.Text.{is_text}
 use Rattle.kind.specs.Kind.{due}
-use Rattle.scan.specs.Answers as scans
+use Rattle.std.specs.Prelude.{Result, Ok, Err}
 use Rattle.scan.specs.Answers.{scan_at, body_on}
-use Rattle.scan.specs.declared.ScanResult.{ScanResult}
-use Rattle.scan.specs.declared.ScanResult.TheVariants.{Ok, Err}
 use Rattle.scan.specs.declared.Head.{Head}
 use Rattle.scan.proofs.Places.{Within, scan_within}
-use Rattle.checker_value.specs.declared.ValueResult.{ValueResult}
-use Rattle.checker_value.specs.declared.ValueResult.TheVariants as results-are
 use Rattle.checker_value.specs.Walk.{has_target, token_fault, Walk, between, next_token, walk_after, walk_turned, walk_turn, starts_from}
 use Rattle.checker_value.specs.Internal.{in_value, Ends}
 
@@ -200,23 +195,23 @@ abbrev token : Mode → Bool → List ℕ → List ℕ → ℕ → Answer Fault 
 token mode inner s done at = bind (scan_at mode inner s at) (token_fault s done at)
 
 -- what `scan` answered for it, and the tests of its text and its target
-module _ (mode : Mode) (inner : Bool) (s done : List ℕ) (at : ℕ) (r : ScanResult) (scanned : scans.answer_of r ≡ scan_at mode inner s at) where
-  pub token_unscanned : (f : Error) → r ≡ Err f → error (errors.fault_of f) ≡ token mode inner s done at
-  token_unscanned f is = bind_error _ (rw is at scanned)
+module _ (mode : Mode) (inner : Bool) (s done : List ℕ) (at : ℕ) where
+  pub token_unscanned : (f : Fault) → error f ≡ scan_at mode inner s at → error f ≡ token mode inner s done at
+  token_unscanned f scanned = bind_error _ scanned
 
-  module _ (h : Head) (is : r ≡ Ok h) (x : Bool) (text : x ≡ (eqb h.kind 4 && not (is_text (body_on s h)))) where
+  module _ (h : Head) (scanned : ok h ≡ scan_at mode inner s at) (x : Bool) (text : x ≡ (eqb h.kind 4 && not (is_text (body_on s h)))) where
     pub token_bad_text : x ≡ true → error (fault BAD_TEXT at) ≡ token mode inner s done at
     unfolding token_fault
-    token_bad_text bad = bind_ok _ (rw is at scanned) (rw (sym text ∙ bad))
+    token_bad_text bad = bind_ok _ scanned (rw (sym text ∙ bad))
 
     module _ (good : x ≡ false) (y : Bool) (target : y ≡ (leb 14 h.kind && not (has_target done at h))) where
       pub token_bad_target : y ≡ true → error (fault BAD_TARGET at) ≡ token mode inner s done at
       unfolding token_fault
-      token_bad_target bad = bind_ok _ (rw is at scanned) (rw (sym text ∙ good, sym target ∙ bad))
+      token_bad_target bad = bind_ok _ scanned (rw (sym text ∙ good, sym target ∙ bad))
 
       pub token_taken : y ≡ false → ok h ≡ token mode inner s done at
       unfolding token_fault
-      token_taken fine = bind_ok _ (rw is at scanned) (rw (sym text ∙ good, sym target ∙ fine))
+      token_taken fine = bind_ok _ scanned (rw (sym text ∙ good, sym target ∙ fine))
 
 next_item : (mode : Mode) (s : List ℕ) (cap : ℕ) (done : List ℕ) (pending at : ℕ) → 0 < pending
     → next_token mode s cap done pending at ≡ token mode true s done at
@@ -242,9 +237,10 @@ module _ (mode : Mode) (s done : List ℕ) (at pending : ℕ) (more : 0 < pendin
   unfolding walk_after
   after_item h = rw is_open
 
-  pub item_further : (h : Head) → ok h ≡ token mode true s done at
-      → starts_from mode s cap (in_value h.end start (pending - 1) done) ≡ starts_from mode s cap (in_value at start pending done)
-  item_further h e = rw (is_open, ← after_item h) (walk_token mode s cap open_value (rw is_open) h (e ∙ sym (next_item mode s cap done pending at more)))
+  pub item_further : (h : Head) → ok h ≡ token mode true s done at → (left : ℕ) → left ≡ pending - 1
+      → starts_from mode s cap (in_value h.end start left done) ≡ starts_from mode s cap (in_value at start pending done)
+  item_further h e left one =
+      rw (one, is_open, ← after_item h) (walk_token mode s cap open_value (rw is_open) h (e ∙ sym (next_item mode s cap done pending at more)))
 
 pub items_end : (mode : Mode) (s done : List ℕ) (at pending : ℕ) → pending ≤ 0 → (cap start : ℕ)
     → starts_from mode s cap (between at (done ++ (start ∷ []))) ≡ starts_from mode s cap (in_value at start pending done)
@@ -270,6 +266,6 @@ module _ (mode : Mode) (s done : List ℕ) (at : ℕ) (more : at < length s) (ca
     value_further h e items = items ∙ walk_token mode s cap (between at done) is_more h (e ∙ sym (next_value mode s cap done at word))
 
 -- the items end after the token
-pub ends_after : (r : ValueResult) (s : List ℕ) (at : ℕ) (h : Head) → Within s at h → Ends r h.end (length s) → Ends r (at + 1) (length s)
-ends_after (results-are.Ok end) s at h w e = (omega (arith, w.numbers, w.body, e.0), e.1)
-ends_after (results-are.Err f) s at h w e = tt
+pub ends_after : (r : Result ℕ Error) (s : List ℕ) (at : ℕ) (h : Head) → Within s at h → Ends r h.end (length s) → Ends r (at + 1) (length s)
+ends_after (Ok end) s at h w e = (omega (arith, w.numbers, w.body, e.0), e.1)
+ends_after (Err f) s at h w e = tt

@@ -2,10 +2,7 @@
 #![tactic(auto)]
 
 ghost use Rattle.std.specs.Prelude.{◌≡◌, not, ◌&&◌, ◌≤◌, ◌<◌, ◌^◌, eqb, leb, length};
-ghost use Rattle.prelude.specs.Search.{Rising};
-ghost use Rattle.error.specs.Error.{LIMIT};
 ghost use Rattle.utf8.specs.Text.{is_text};
-ghost use Rattle.table.specs.Blocks.{Counted};
 ghost use Rattle.scan.specs.Answers as scans;
 ghost use Rattle.checker_value.specs.Walk.{has_target};
 ghost use Rattle.checker_value.specs.Internal.{ChecksItems, ChecksValue};
@@ -27,19 +24,16 @@ fn is_bad_text(region: &[u8], h: Head) -> bool
 // Whether the target of the reference or pointer with head h at `at` is one of the starts.
 fn has_target(starts: Starts, at: usize, h: Head) -> bool
     requires { at < 2 ^ 32 }
-    ensures { result ≡ has_target starts.words.now at h }
+    ensures { result ≡ has_target starts.entry.words.now at h }
 {
     let q = at as u64;
-    if h.n < q {
-        return starts.is_among((q - h.n - 1) as u32);
-    }
-    false
+    h.n < q && starts.is_among((q - h.n - 1) as u32)
 }
 
 // Whether the token with head h at `at` is a reference or pointer whose target is not a start.
 fn is_bad_target(starts: Starts, at: usize, h: Head) -> bool
     requires { at < 2 ^ 32 }
-    ensures { result ≡ leb 14 h.kind && not (has_target starts.words.now at h) }
+    ensures { result ≡ leb 14 h.kind && not (has_target starts.entry.words.now at h) }
 {
     kind::KIND_REFERENCE <= h.kind && !has_target(starts, at, h)
 }
@@ -51,7 +45,7 @@ fn is_bad_target(starts: Starts, at: usize, h: Head) -> bool
 // than the tests.
 fn check_items(region: Region, starts: Starts, from: usize, items: u64) -> Result<usize, Error>
     requires { from ≤ length region.bytes.now }
-    ensures { ChecksItems region.mode result region.bytes.now starts.words.now from items }
+    ensures { ChecksItems region.entry.mode result region.entry.bytes.now starts.entry.words.now from items }
 {
     let mut at = from;
     for _ in 0..items {
@@ -76,7 +70,7 @@ fn check_items(region: Region, starts: Starts, from: usize, items: u64) -> Resul
 // Checks the value at `at` with its items, after the values that begin at `starts`; returns the offset after it.
 pub fn check_value(region: Region, starts: Starts, at: usize) -> Result<usize, Error>
     requires { at < length region.bytes.now }
-    ensures { ChecksValue region.mode result region.bytes.now starts.words.now at }
+    ensures { ChecksValue region.entry.mode result region.entry.bytes.now starts.entry.words.now at }
 {
     let h = scan::scan(region.bytes, at, false, region.mode)?;
     if is_bad_text(region.bytes, h) {

@@ -1,5 +1,5 @@
 -- A search by quarters: where the rank r of a word may be, in a table of n words; and the words of a part counted.
-use mathlib.Core.Path.{◌≡◌, refl, ap, ◌∙◌}
+use mathlib.Core.Path.{◌≡◌, refl, sym, ap, ◌∙◌}
 use Prim.Native.Nat.{ℕ, ◌+◌, ◌-◌, ◌*◌, ◌/◌, ◌≤◌, ◌<◌}
 use mathlib.Core.List.{List}
 use native.Mathlib.Omega.{arith}
@@ -9,7 +9,7 @@ use denote.Ref.{Bor}
 use Rattle.std.specs.Prelude.{Option, None, Some, MatchOption}
 use lib.Dec.{eqb, ltb}
 use lib.ListN.{length, get_or, take, drop, length-drop}
-use lib.Seq.{length-take-le, get_or-take, get_or-drop}
+use lib.Seq.{length-take-le, take_all, get_or-take, get_or-drop}
 use mir.Val.{bool_byte}
 use Rattle.std.specs.List.{HoldsAt, count_by}
 use Rattle.std.proofs.lemmas.List.Recursion.{is_count_by}
@@ -72,10 +72,14 @@ module _ (r n lo size : ℕ) (b : Between r n lo size) where
 
 -- ---- words counted one by one
 
-pub count_rank : (x : ℕ) (t : List ℕ) → rank x t ≡ count_by (λ y. ltb y x) t
+count_rank : (x : ℕ) (t : List ℕ) → rank x t ≡ count_by (λ y. ltb y x) t
 unfolding rank
 count_rank x = is_count_by (rank x) (λ y. ltb y x) refl (λ y ys. pick_elim (λ n. n + rank x ys ≡ cond (ltb y x) (1 + rank x ys) (rank x ys)) (ltb y x)
     (λ e. rw e refl) (λ e. rw e (omega arith)))
+
+-- all words counted, one by one
+pub count_all : (x : ℕ) (t : List ℕ) (i r : ℕ) → length t ≤ i → r ≡ count_by (λ y. ltb y x) (take i t) → r ≡ rank x t
+count_all x t i r h e = e ∙ ap (count_by (λ y. ltb y x)) (take_all i t h) ∙ sym (count_rank x t)
 
 -- from the word at lo on, up to the one before hi
 pub rank_part : (x : ℕ) (t : List ℕ) (lo hi : ℕ) → Rising t → lo ≤ rank x t → rank x t ≤ hi → hi ≤ length t

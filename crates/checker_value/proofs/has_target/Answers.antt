@@ -7,6 +7,6 @@ pub returns-then-h-q : goal.returns-then-h-q
 unfolding has_target
 returns-then-h-q c = rw (lt-ltb _ _ c.if-h-q.true) c.is_among.ensures
 
-pub returns : goal.returns
+pub returns-else-h-q : goal.returns-else-h-q
 unfolding has_target
-returns c = rw (le-ltb _ _ c.if-h-q.false)
+returns-else-h-q c = rw (le-ltb _ _ c.if-h-q.false)
