@@ -9,21 +9,18 @@ use native.Mathlib.Omega.{arith}
 use borrow.Author.Tests.{le-leb}
 use lib.ListN.{length, take, get_or, set, length-set, length-take, length-append}
 use lib.Seq.{length-take-le, take-set-le, take-suc-set}
+use Rattle.std.specs.Prelude.{Ok}
 use Rattle.prelude.specs.Answer.{ok, error}
 use Rattle.prelude.specs.Search.{Rising}
 use Rattle.prelude.proofs.Tests.{split}
 use Rattle.prelude.proofs.Lists.{below_snoc}
 use Rattle.prelude.proofs.Searches.{rising_ge}
-use Rattle.error.specs.Error as errors
 use Rattle.error.specs.Error.{fault, LIMIT, FULL}
-use Rattle.error.specs.declared.Error.{Error}
 use Rattle.leb128.specs.declared.Mode.{Mode}
 use Rattle.table.specs.Blocks.{BLOCK, Counted, Below}
 use Rattle.table.proofs.Blocks.{counted_first, counted_snoc}
-use Rattle.checker_value.specs.declared.ValueResult.{ValueResult}
-use Rattle.checker_value.specs.declared.ValueResult.TheVariants as results-are
 use Rattle.checker_value.specs.Walk.{between, starts_from}
-use Rattle.checker_value.specs.Internal.{Ends, ChecksValue}
+use Rattle.checker_value.specs.Internal.{ChecksValue}
 use Rattle.checker_value.proofs.Walks.{WalkInvariant, invariant_begun, invariant_finished, walk_end, value_full}
 
 -- between two values at `at`, with the starts in the first `count` words of the table t
@@ -40,10 +37,6 @@ pub record Indexed (s t blocks : List ℕ) (at count : ℕ) : Type 0 where
 
 pub indexed_start : (s t blocks : List ℕ) → length s < length blocks * BLOCK → get_or blocks 0 0 ≡ 0 → Indexed s t blocks 0 0
 indexed_start s t blocks h e = record { long = h; counted = counted_first blocks e }
-
-pub known_fits : (mode : Mode) (s t : List ℕ) (cap at count : ℕ) → TableInvariant mode s t cap at count → (blocks : List ℕ)
-    → Indexed s t blocks at count → at / BLOCK + 1 ≤ length blocks
-known_fits mode s t cap at count a blocks i = omega (arith, a.going.inside, i.long)
 
 pub indexed_on : (s t u blocks after : List ℕ) (at end count n : ℕ) → Indexed s t blocks at count → length after ≡ length blocks
     → Counted (take (end / BLOCK + 1) after) (take n u) → Indexed s u after end n
@@ -77,34 +70,26 @@ module _ (mode : Mode) (s t : List ℕ) (cap at count : ℕ) (a : TableInvariant
     pub opened_counted : (blocks : List ℕ) → Indexed s t blocks at count → Counted (take (at / BLOCK + 1) blocks) (take count (set t count at))
     opened_counted blocks i = rw opened i.counted
 
-    module _ (r : ValueResult) (reported : ChecksValue mode r s (take count (set t count at)) at) where
-      pub table_error : (f : Error) → r ≡ results-are.Err f → error (errors.fault_of f) ≡ starts_from mode s cap (between 0 [])
-      table_error f is = let e = (rw opened at reported).0 cap word in rw is at e ∙ a.leads
-
-    module _ (end : ℕ) (r : ValueResult) (ends : Ends r (at + 1) (length s)) (is : r ≡ results-are.Ok end) where
+    module _ (end : ℕ) (reported : ChecksValue mode (Ok end) s (take count (set t count at)) at) where
       table_ends : (at < end) × (end ≤ length s)
-      table_ends = let h : (at + 1 ≤ end) × (end ≤ length s) = rw is at ends in (omega (arith, h.0), h.1)
+      table_ends = (omega (arith, reported.1.0), reported.1.1)
 
-      pub table_less : length s - end < length s - at
-      table_less = let h = table_ends in omega (arith, h.0, h.1)
-
-      pub table_finished : ChecksValue mode r s (take count (set t count at)) at → TableInvariant mode s (set t count at) cap end (count + 1)
-      table_finished reported = let h = table_ends in let e = (rw opened at reported).0 cap word in record {
+      pub table_finished : TableInvariant mode s (set t count at) cap end (count + 1)
+      table_finished = let h = table_ends in let e = (rw opened at reported).0 cap word in record {
         long = length-set t count at ∙ a.long;
         fits = rw length-set (omega (arith, free));
         going = rw finished (invariant_finished s cap (between at (take count t)) a.going word end h.0 h.1);
-        leads = rw finished (rw is at e ∙ a.leads);
+        leads = rw finished (e ∙ a.leads);
       }
 
-      -- what `table::count_blocks` asks for
       module _ (blocks : List ℕ) (short : length s ≤ LIMIT) (i : Indexed s t blocks at count) where
-        pub along_next : at / BLOCK + 1 ≤ end / BLOCK + 1
+        along_next : at / BLOCK + 1 ≤ end / BLOCK + 1
         along_next = omega (arith, table_ends.0)
 
-        pub along_last : end / BLOCK < length blocks
+        along_last : end / BLOCK < length blocks
         along_last = omega (arith, table_ends.1, i.long)
 
-        pub along_few : length (take (count + 1) (set t count at)) < 2 ^ 32
+        along_few : length (take (count + 1) (set t count at)) < 2 ^ 32
         along_few =
             let g = a.going in
             let n = length-take-le count t a.fits in
@@ -113,9 +98,15 @@ module _ (mode : Mode) (s t : List ℕ) (cap at count : ℕ) (a : TableInvariant
             (λ z. omega arith) in
             rw (finished, length-append) (omega (arith, g.inside))
 
-        pub along_below : Below ((at / BLOCK + 1) * BLOCK) (take (count + 1) (set t count at))
+        along_below : Below ((at / BLOCK + 1) * BLOCK) (take (count + 1) (set t count at))
         along_below = rw finished (below_snoc (take count t) at _ (λ k b. omega (arith, a.going.below k b)) (omega arith))
 
-        pub along_counted : Counted (take (at / BLOCK + 1) blocks) (take (count + 1) (set t count at))
+        along_counted : Counted (take (at / BLOCK + 1) blocks) (take (count + 1) (set t count at))
         along_counted =
             rw finished (counted_snoc (take (at / BLOCK + 1) blocks) (take count t) at (omega (arith, length-take (at / BLOCK + 1) blocks)) i.counted)
+
+        -- what `table::count_blocks` asks for
+        pub along : (at / BLOCK + 1 ≤ end / BLOCK + 1) × (end / BLOCK < length blocks) × (length (take (count + 1) (set t count at)) < 2 ^ 32)
+            × Below ((at / BLOCK + 1) * BLOCK) (take (count + 1) (set t count at))
+            × Counted (take (at / BLOCK + 1) blocks) (take (count + 1) (set t count at))
+        along = (along_next, along_last, along_few, along_below, along_counted)

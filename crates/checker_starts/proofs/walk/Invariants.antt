@@ -7,8 +7,8 @@ use Rattle.checker_starts.proofs.walk.Given as goal
 
 abbrev pub invariant-loop-at : goal.invariant-loop-at
 invariant-loop-at l =
-    (TableInvariant l.mode l.region l.starts (length l.initial.starts) l.at l.count)
-    × (Indexed l.region l.starts l.blocks l.at l.count) × (length l.blocks ≡ length l.initial.blocks)
+    (TableInvariant l.region.mode l.region.bytes.now l.starts (length l.initial.starts) l.at l.count)
+    × (Indexed l.region.bytes.now l.starts l.blocks l.at l.count) × (length l.blocks ≡ length l.initial.blocks)
 
 abbrev pub decreases-loop-at : goal.decreases-loop-at
-decreases-loop-at l = length l.region - l.at
+decreases-loop-at l = length l.region.bytes.now - l.at
