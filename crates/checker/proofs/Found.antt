@@ -13,17 +13,12 @@ use lib.Seq.{take-append_seam}
 use Rattle.prelude.specs.Answer.{Answer, ok, error, bind}
 use Rattle.prelude.specs.Search.{among, Rising}
 use Rattle.prelude.proofs.Tests.{pick_elim, facts, and_r}
-use Rattle.error.specs.Error as errors
 use Rattle.error.specs.Error.{Fault, LIMIT}
-use Rattle.error.specs.declared.Error.{Error}
 use Rattle.leb128.specs.declared.Mode.{Mode}
 use Rattle.table.specs.Blocks.{Below}
 use Rattle.checker_value.specs.Walk.{between, starts_from}
 use Rattle.checker_value.proofs.Walks.{come}
-use Rattle.checker.specs.declared.CheckResult.{CheckResult}
-use Rattle.checker.specs.declared.CheckResult.TheVariants.{Ok, Err}
 use Rattle.checker.specs.Check.{entry_at, check_in, filled, Checked, checked, listed, check_of}
-use Rattle.checker.specs.Answers.{check_answer}
 
 -- the file has bytes, not too many; its starts rise and are offsets of the region, and one of them is the entry
 record Inside (file : List ℕ) (cap : ℕ) (ss : List ℕ) (entry : ℕ) : Type 0 where
@@ -73,10 +68,10 @@ pub record Found (mode : Mode) (file t : List ℕ) (cap count entry : ℕ) : Typ
   pub inside : Below (length (take (length file - 1) file)) (take count t)
   pub start : among entry (take count t) ≡ true
 
-module _ (mode : Mode) (file t : List ℕ) (cap : ℕ) (r : CheckResult) (left : checked (check_answer r) t ≡ check_of mode file cap) where
-  pub accepted : (count entry : ℕ) → r ≡ Ok count entry → Found mode file t cap count entry
+module _ (mode : Mode) (file t : List ℕ) (cap : ℕ) where
+  pub accepted : (count entry : ℕ) → checked (ok (count, entry)) t ≡ check_of mode file cap → Found mode file t cap count entry
   unfolding check_of
-  accepted count entry is = by_cases (check_in mode file cap) refl (finds mode file cap) (rw is at left)
+  accepted count entry left = by_cases (check_in mode file cap) refl (finds mode file cap) left
     where
       by_cases : (a : Answer Fault ((List ℕ) × ℕ)) → check_in mode file cap ≡ a → Finds mode file cap a → checked (ok (count, entry)) t ≡ listed cap a
           → Found mode file t cap count entry
@@ -101,14 +96,13 @@ module _ (mode : Mode) (file t : List ℕ) (cap : ℕ) (r : CheckResult) (left :
       by_cases (error f) e i q = ok_error (ap (λ (x : Checked). x.answer) q)
 
   -- the error, and zeros
-  pub refused : (f : Error) → r ≡ Err f → (check_in mode file cap ≡ error (errors.fault_of f)) × (t ≡ replicate cap 0)
+  pub refused : (f : Fault) → checked (error f) t ≡ check_of mode file cap → (check_in mode file cap ≡ error f) × (t ≡ replicate cap 0)
   unfolding check_of
-  refused f is = by_cases (check_in mode file cap) (rw is at left)
+  refused f left = by_cases (check_in mode file cap) left
     where
-      by_cases : (a : Answer Fault ((List ℕ) × ℕ)) → checked (error (errors.fault_of f)) t ≡ listed cap a
-          → (a ≡ error (errors.fault_of f)) × (t ≡ replicate cap 0)
+      by_cases : (a : Answer Fault ((List ℕ) × ℕ)) → checked (error f) t ≡ listed cap a → (a ≡ error f) × (t ≡ replicate cap 0)
       by_cases (ok p) q = ok_error (sym (ap (λ (x : Checked). x.answer) q))
       by_cases (error g) q =
-          let same : ◌≡◌ {A = Answer Fault (ℕ × ℕ)} (error (errors.fault_of f)) (error g) = ap (λ (x : Checked). x.answer) q in
-          let own : g ≡ errors.fault_of f = cc in
+          let same : ◌≡◌ {A = Answer Fault (ℕ × ℕ)} (error f) (error g) = ap (λ (x : Checked). x.answer) q in
+          let own : g ≡ f = cc in
           (ap error own, ap (λ (x : Checked). x.starts) q)

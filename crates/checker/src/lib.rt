@@ -74,16 +74,6 @@ fn check_in(file: &[u8], starts: &mut [u32], mode: Mode) -> Result<Summary, Erro
     entry_at(&starts[..count], p, file[p])
 }
 
-// How many words of the table an answer keeps: a start for each value, none on an error.
-fn kept_words(answer: Result<Summary, Error>) -> usize
-    ensures { result ≡ kept_words answer }
-{
-    match answer {
-        Ok(found) => found.count,
-        Err(_) => 0,
-    }
-}
-
 // Checks a file in a mode. The table gets the offsets where its values start, in rising order, and 0 in every other word; on an
 // error, 0 in every word. The first start is itself 0, so only the count says how many words are starts. A table
 // with as many words as the file has bytes is never too short. Apart from the table, check takes some 17 KB of stack.
@@ -91,7 +81,8 @@ pub fn check(file: &[u8], starts: &mut [u32], mode: Mode) -> Result<Summary, Err
     ensures { checked (check_answer result) starts.new ≡ check_of mode file.now (length starts.old) }
 {
     let answer = check_in(file, starts, mode);
-    let words = kept_words(answer);
+    // an answer keeps a start for each value, and none on an error
+    let words = answer.map_or(0, |found| found.count);
     starts[words..].fill(0);
     answer
 }

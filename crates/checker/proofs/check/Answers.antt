@@ -1,6 +1,7 @@
 -- `checker::check` meets its contract.
-use Rattle.checker.proofs.Checks.{check_left}
+use Rattle.std.proofs.Common.{rules}
+use Rattle.checker.proofs.Checks.{kept_is, check_left}
 use Rattle.checker.proofs.check.Goals as goal
 
 pub returns : goal.returns
-returns c = search check_left
+returns c = let words = kept_is c.check_in-answer.result c.map_or-words.result (search rules) in search (check_left, rules)

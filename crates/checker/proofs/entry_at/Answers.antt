@@ -1,14 +1,9 @@
 -- `checker::entry_at` meets its contract.
 use mathlib.Core.Path.{sym, ◌∙◌}
-use borrow.Author.Rules.{rules}
 use borrow.Author.Tests.{lt-ltb, le-ltb}
 use Rattle.prelude.specs.Answer.{bind}
-use Rattle.table.proofs.Blocks.{counted_none}
 use Rattle.checker.specs.Check.{entry_at}
 use Rattle.checker.proofs.entry_at.Goals as goal
-
-pub is_among-requires : goal.is_among-requires
-is_among-requires c = (search rules, counted_none _)
 
 pub returns-then-is_among : goal.returns-then-is_among
 unfolding entry_at bind
