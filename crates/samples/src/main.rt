@@ -23,78 +23,35 @@
 // begins with # is printed as it is.
 #![tactic(auto)]
 
-ghost use Rattle.std.specs.Io.{ReadsAtMost};
-
 mod calls;
 mod parts;
 mod print;
 mod words;
 
-use calls::call_all_in;
+use calls::call_all;
 use leb128::Mode;
-use parts::{JUNK_WORD, lend_words};
+use parts::{JUNK_WORD, lend};
 use print::{
-    print_body_place, print_bytes, print_check, print_error, print_follow, print_head,
-    print_offset, print_read, print_table,
+    print_body_place, print_bytes, print_check, print_follow, print_head, print_offset, print_read,
+    print_table,
 };
 use std::io;
-use std::io::{Input, Read};
-use words::{find_byte, find_last_word, first_word, parse_hex, parse_number, skip_word};
-
-// What a line asks.
-#[derive(Clone, Copy)]
-enum Query {
-    Tokens,
-    Read,
-    Skip,
-    Item,
-    Follow,
-    Lookup,
-    Body,
-    Check,
-    Depths,
-    Write,
-    Unknown,
-}
-
-// The query of a name.
-fn query_of(name: &[u8]) -> Query {
-    match name {
-        b"tokens" => Query::Tokens,
-        b"read" => Query::Read,
-        b"skip" => Query::Skip,
-        b"item" => Query::Item,
-        b"follow" => Query::Follow,
-        b"lookup" => Query::Lookup,
-        b"body" => Query::Body,
-        b"check" => Query::Check,
-        b"depths" => Query::Depths,
-        b"write" => Query::Write,
-        _ => Query::Unknown,
-    }
-}
+use std::io::Input;
+use words::{first_word, last_word, parse_hex, parse_number, skip_word};
 
 // ---- the queries
-
-// The items pending after a token.
-fn pending_after(pending: u64, items: u64) -> u64 {
-    if pending == 0 {
-        return items;
-    }
-    pending - 1
-}
 
 fn answer_tokens(rt: &impl Print, region: &[u8]) -> io::Result<()> {
     let mut at: usize = 0;
     let mut pending: u64 = 0;
-    while (at < region.len()) | (0 < pending) {
+    while at < region.len() || 0 < pending {
         match scan::scan(region, at, 0 < pending, Mode::Strict) {
             Ok(h) => {
                 print_head(rt, at, h)?;
-                pending = pending_after(pending, h.items);
+                pending = pending.checked_sub(1).unwrap_or(h.items);
                 at = h.end;
             }
-            Err(e) => return print_error(rt, e),
+            Err(e) => return print!(rt; " {e}"),
         }
     }
     print!(rt; " end")
@@ -103,8 +60,8 @@ fn answer_tokens(rt: &impl Print, region: &[u8]) -> io::Result<()> {
 // A lookup of the key that s spells in hex.
 fn answer_lookup(rt: &impl Print, file: &[u8], at: usize, s: &[u8]) -> io::Result<()> {
     let mut space = [0u8; 16384];
-    let n = parse_hex(s, &mut space);
-    print_offset(rt, reader::lookup(file, at, &space[..n], Mode::Strict))
+    let key = parse_hex(s, &mut space);
+    print_offset(rt, reader::lookup(file, at, key, Mode::Strict))
 }
 
 fn answer_body(rt: &impl Print, file: &[u8], at: usize) -> io::Result<()> {
@@ -112,59 +69,44 @@ fn answer_body(rt: &impl Print, file: &[u8], at: usize) -> io::Result<()> {
     print_bytes(rt, reader::body(file, at, Mode::Strict))
 }
 
-fn answer_check(rt: &impl Print, file: &[u8], starts: &mut [u32]) -> io::Result<()> {
+// With a table of n words.
+fn answer_check(rt: &impl Print, file: &[u8], n: usize) -> io::Result<()> {
+    let mut table = [JUNK_WORD; 32];
+    let starts = lend(&mut table, n);
     print_check(rt, checker::check(file, starts, Mode::Strict))?;
     print!(rt; ":")?;
     print_table(rt, starts)
 }
 
-// With a table of n words.
-fn answer_check_in(rt: &impl Print, file: &[u8], n: usize) -> io::Result<()> {
-    let mut starts = [JUNK_WORD; 32];
-    answer_check(rt, file, lend_words(&mut starts, n))
-}
-
-fn answer_depths(
-    rt: &impl Print,
-    file: &[u8],
-    starts: &mut [u32],
-    second: &mut [u32],
-) -> io::Result<()> {
-    print_check(rt, depths::depths(file, starts, second, Mode::Strict))?;
+// With tables of n and of m words.
+fn answer_depths(rt: &impl Print, file: &[u8], n: usize, m: usize) -> io::Result<()> {
+    let mut table = [JUNK_WORD; 32];
+    let mut second = [JUNK_WORD; 32];
+    let starts = lend(&mut table, n);
+    let depths = lend(&mut second, m);
+    print_check(rt, depths::depths(file, starts, depths, Mode::Strict))?;
     print!(rt; ":")?;
     print_table(rt, starts)?;
     print!(rt; " /")?;
-    print_table(rt, second)
-}
-
-// With tables of n and of m words.
-fn answer_depths_in(rt: &impl Print, file: &[u8], n: usize, m: usize) -> io::Result<()> {
-    let mut starts = [JUNK_WORD; 32];
-    let mut second = [JUNK_WORD; 32];
-    answer_depths(
-        rt,
-        file,
-        lend_words(&mut starts, n),
-        lend_words(&mut second, m),
-    )
+    print_table(rt, depths)
 }
 
 // Prints the answer to a query with these arguments.
-fn answer_query(rt: &impl Print, q: Query, args: &[u8], file: &[u8]) -> io::Result<()> {
+fn answer_query(rt: &impl Print, name: &[u8], args: &[u8], file: &[u8]) -> io::Result<()> {
     let n = parse_number(args);
     let rest = skip_word(args);
-    match q {
-        Query::Tokens => answer_tokens(rt, file),
-        Query::Read => print_read(rt, reader::read(file, n, Mode::Strict)),
-        Query::Skip => print_offset(rt, reader::skip(file, n, Mode::Strict)),
-        Query::Item => print_offset(rt, reader::item(file, n, parse_number(rest), Mode::Strict)),
-        Query::Follow => print_follow(rt, reader::follow(file, n, Mode::Strict)),
-        Query::Lookup => answer_lookup(rt, file, n, first_word(rest)),
-        Query::Body => answer_body(rt, file, n),
-        Query::Check => answer_check_in(rt, file, n),
-        Query::Depths => answer_depths_in(rt, file, n, parse_number(rest)),
-        Query::Write => call_all_in(rt, n, parse_number(rest), skip_word(rest)),
-        Query::Unknown => print!(rt; " ?"),
+    match name {
+        b"tokens" => answer_tokens(rt, file),
+        b"read" => print_read(rt, reader::read(file, n, Mode::Strict)),
+        b"skip" => print_offset(rt, reader::skip(file, n, Mode::Strict)),
+        b"item" => print_offset(rt, reader::item(file, n, parse_number(rest), Mode::Strict)),
+        b"follow" => print_follow(rt, reader::follow(file, n, Mode::Strict)),
+        b"lookup" => answer_lookup(rt, file, n, first_word(rest)),
+        b"body" => answer_body(rt, file, n),
+        b"check" => answer_check(rt, file, n),
+        b"depths" => answer_depths(rt, file, n, parse_number(rest)),
+        b"write" => call_all(rt, n, parse_number(rest), skip_word(rest)),
+        _ => print!(rt; " ?"),
     }
 }
 
@@ -173,49 +115,28 @@ fn answer_query(rt: &impl Print, q: Query, args: &[u8], file: &[u8]) -> io::Resu
 // Prints the answer to a line, whose last word is the file.
 fn answer_line(rt: &impl Print, line: &[u8]) -> io::Result<()> {
     let mut space = [0u8; 16384];
-    let start = find_last_word(line);
-    let n = parse_hex(&line[start..], &mut space);
+    let file = parse_hex(last_word(line), &mut space);
     print!(rt; ":")?;
-    answer_query(rt, query_of(first_word(line)), skip_word(line), &space[..n])
+    answer_query(rt, first_word(line), skip_word(line), file)
 }
 
 fn run_line(rt: &impl Print, line: &[u8]) -> io::Result<()> {
     rt.write_all(line)?;
-    if 0 < line.len() {
-        if line[0] != b'#' {
-            answer_line(rt, line)?;
-        }
+    match line {
+        [] | [b'#', ..] => {}
+        _ => answer_line(rt, line)?,
     }
     println!(rt)
 }
 
 fn run_lines(rt: &impl Print, s: &[u8]) -> io::Result<()> {
-    let mut at: usize = 0;
-    while at < s.len() {
-        let end = find_byte(s, at, b'\n');
-        run_line(rt, &s[at..end])?;
-        at = end + 1;
+    for line in s.split_inclusive(|b| *b == b'\n') {
+        run_line(rt, line.strip_suffix(b"\n").unwrap_or(line))?;
     }
     Ok(())
 }
 
-// Reads until the buffer is full or the input ends, and returns how many bytes that were; or the error of a read that fails.
-fn read_full(input: &mut impl Read, buffer: &mut [u8]) -> io::Result<usize>
-    ensures { ReadsAtMost result buffer.new }
-{
-    let mut done = 0;
-    while done < buffer.len() {
-        let n = input.read(&mut buffer[done..])?;
-        if n == 0 {
-            break;
-        }
-        done += n;
-    }
-    Ok(done)
-}
-
 fn main(rt: HostRuntime) -> io::Result<()> {
-    let mut input = [0u8; 65536];
-    let n = read_full(&mut rt.reader(), &mut input)?;
-    run_lines(&rt, &input[..n])
+    let mut buffer = [0u8; 65536];
+    run_lines(&rt, input::read_full(&mut rt.reader(), &mut buffer)?)
 }

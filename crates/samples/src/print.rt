@@ -5,8 +5,7 @@ use reader::{Followed, Place, Value};
 use scan::Head;
 use std::io;
 
-// ---- numbers, after a space each
-
+// The numbers of a table, after a space each.
 pub(crate) fn print_table(rt: &impl Print, t: &[u32]) -> io::Result<()> {
     for n in t {
         print!(rt; " {n}")?;
@@ -14,39 +13,15 @@ pub(crate) fn print_table(rt: &impl Print, t: &[u32]) -> io::Result<()> {
     Ok(())
 }
 
-// ---- bytes in hex
-
-fn print_digits(rt: &impl Print, part: &[u8]) -> io::Result<()> {
+// Bytes in hex, after a space; nothing if there are none.
+pub(crate) fn print_bytes(rt: &impl Print, part: &[u8]) -> io::Result<()> {
+    if !part.is_empty() {
+        print!(rt; " ")?;
+    }
     for b in part {
         print!(rt; "{b:02x}")?;
     }
     Ok(())
-}
-
-// After a space; nothing if there are none.
-pub(crate) fn print_bytes(rt: &impl Print, part: &[u8]) -> io::Result<()> {
-    if 0 < part.len() {
-        print!(rt; " ")?;
-        print_digits(rt, part)?;
-    }
-    Ok(())
-}
-
-// ---- errors
-
-fn print_name(rt: &impl Print, kind: ErrorKind) -> io::Result<()> {
-    let name = error::name(kind);
-    let text = name.text;
-    let len = name.len;
-    print!(rt; " ")?;
-    rt.write_all(&text[..len])
-}
-
-pub(crate) fn print_error(rt: &impl Print, e: Error) -> io::Result<()> {
-    let kind = e.kind;
-    let place = e.place;
-    print_name(rt, kind)?;
-    print!(rt; " {place}")
 }
 
 // ---- values and tokens
@@ -93,46 +68,46 @@ fn print_value(rt: &impl Print, v: Value) -> io::Result<()> {
 
 // ---- answers
 
-pub(crate) fn print_read(rt: &impl Print, r: Result<Value, Error>) -> io::Result<()> {
-    match r {
+pub(crate) fn print_read(rt: &impl Print, answer: Result<Value, Error>) -> io::Result<()> {
+    match answer {
         Ok(v) => print_value(rt, v),
-        Err(e) => print_error(rt, e),
+        Err(e) => print!(rt; " {e}"),
     }
 }
 
 // The answer of `skip`, `item` and `lookup`.
-pub(crate) fn print_offset(rt: &impl Print, r: Result<usize, Error>) -> io::Result<()> {
-    match r {
+pub(crate) fn print_offset(rt: &impl Print, answer: Result<usize, Error>) -> io::Result<()> {
+    match answer {
         Ok(at) => print!(rt; " {at}"),
-        Err(e) => print_error(rt, e),
+        Err(e) => print!(rt; " {e}"),
     }
 }
 
-pub(crate) fn print_follow(rt: &impl Print, r: Result<Followed, Error>) -> io::Result<()> {
-    match r {
+pub(crate) fn print_follow(rt: &impl Print, answer: Result<Followed, Error>) -> io::Result<()> {
+    match answer {
         Ok(Followed { at, hops }) => print!(rt; " {at} {hops}"),
-        Err(e) => print_error(rt, e),
+        Err(e) => print!(rt; " {e}"),
     }
 }
 
-pub(crate) fn print_body_place(rt: &impl Print, r: Result<Place, Error>) -> io::Result<()> {
-    match r {
+pub(crate) fn print_body_place(rt: &impl Print, answer: Result<Place, Error>) -> io::Result<()> {
+    match answer {
         Ok(Place { first, len }) => print!(rt; " {first} {len}"),
-        Err(e) => print_error(rt, e),
+        Err(e) => print!(rt; " {e}"),
     }
 }
 
 // The answer of `check` and `depths`.
-pub(crate) fn print_check(rt: &impl Print, r: Result<Summary, Error>) -> io::Result<()> {
-    match r {
+pub(crate) fn print_check(rt: &impl Print, answer: Result<Summary, Error>) -> io::Result<()> {
+    match answer {
         Ok(Summary { count, entry }) => print!(rt; " ok {count} {entry}"),
-        Err(e) => print_error(rt, e),
+        Err(e) => print!(rt; " {e}"),
     }
 }
 
 pub(crate) fn print_write(rt: &impl Print, answer: Result<(), ErrorKind>) -> io::Result<()> {
     match answer {
         Ok(()) => print!(rt; " ok"),
-        Err(e) => print_name(rt, e),
+        Err(e) => print!(rt; " {e}"),
     }
 }

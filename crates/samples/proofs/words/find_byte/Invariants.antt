@@ -1,9 +1,0 @@
--- `find_byte` is safe, ends, and returns an offset of s.
-use Rattle.std.proofs.Common.{◌-◌, ◌≤◌, length}
-use Rattle.samples.proofs.words.find_byte.Given as goal
-
-abbrev pub invariant-loop-i : goal.invariant-loop-i
-invariant-loop-i l = (l.at ≤ l.i) × (l.i ≤ length l.s)
-
-abbrev pub decreases-loop-i : goal.decreases-loop-i
-decreases-loop-i l = length l.s - l.i
