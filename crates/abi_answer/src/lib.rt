@@ -7,7 +7,7 @@ ghost use Rattle.reader_region.specs.Internal.{Peeked};
 ghost use Rattle.reader_follow.specs.Answers.{follow_answer};
 ghost use Rattle.reader_body.specs.Answers.{body_answer};
 ghost use Rattle.checker.specs.Answers.{check_answer};
-ghost use Rattle.abi_error.specs.Reply.{reply};
+ghost use Rattle.abi_error.specs.Reply.{reply, answer_c};
 ghost use Rattle.abi_answer.specs.Answers.{mode_of, offset_c, pair_c};
 ghost use Rattle.abi_answer.specs.Read.{float_bits, row_of, read_c};
 
@@ -32,28 +32,40 @@ pub fn mode_of(n: u32) -> Mode
 pub fn answer_offset(answer: Result<usize, Error>, out: &mut [u64; 2]) -> u32
     ensures { reply result out.new ≡ offset_c (offset_answer answer) }
 {
-    abi_error::answer(answer.map(|at| [at as u64, 0]), out)
+    match answer {
+        Ok(at) => abi_error::answer(Ok([at as u64, 0]), out),
+        Err(e) => abi_error::answer(Err(e), out),
+    }
 }
 
 // Count and entry.
 pub fn answer_entry(answer: Result<Summary, Error>, out: &mut [u64; 2]) -> u32
     ensures { reply result out.new ≡ pair_c (check_answer answer) }
 {
-    abi_error::answer(answer.map(|r| [r.count as u64, r.entry as u64]), out)
+    match answer {
+        Ok(Summary { count, entry }) => abi_error::answer(Ok([count as u64, entry as u64]), out),
+        Err(e) => abi_error::answer(Err(e), out),
+    }
 }
 
 // Offset and hops.
 pub fn answer_follow(answer: Result<Followed, Error>, out: &mut [u64; 2]) -> u32
     ensures { reply result out.new ≡ pair_c (follow_answer answer) }
 {
-    abi_error::answer(answer.map(|r| [r.at as u64, r.hops as u64]), out)
+    match answer {
+        Ok(Followed { at, hops }) => abi_error::answer(Ok([at as u64, hops as u64]), out),
+        Err(e) => abi_error::answer(Err(e), out),
+    }
 }
 
 // First offset and length.
 pub fn answer_body(answer: Result<Place, Error>, out: &mut [u64; 2]) -> u32
     ensures { reply result out.new ≡ pair_c (body_answer answer) }
 {
-    abi_error::answer(answer.map(|r| [r.first as u64, r.len as u64]), out)
+    match answer {
+        Ok(Place { first, len }) => abi_error::answer(Ok([first as u64, len as u64]), out),
+        Err(e) => abi_error::answer(Err(e), out),
+    }
 }
 
 // ---- one value
@@ -77,6 +89,7 @@ fn float_bits(file: &[u8], h: Head) -> u64
 }
 
 // The row for a value with head h at `at`; kinds 9 and 13 are reserved.
+#[tactic(auto, unfolding(crate::specs::Read::row_of, kind::specs::Kind::rule))]
 fn row_of(file: &[u8], at: usize, h: Head) -> Row
     requires { Peeked file.now at h }
     ensures { result ≡ row_of file.now at h }
@@ -96,13 +109,18 @@ fn row_of(file: &[u8], at: usize, h: Head) -> Row
     Row { number, count }
 }
 
+// The four words of the value at `at`.
+fn words_of(file: &[u8], at: usize, mode: Mode) -> Result<[u64; 4], Error>
+    ensures { answer_c 4 result ≡ read_c mode file.now at }
+{
+    let h = reader_region::peek(file, at, mode)?;
+    let row = row_of(file, at, h);
+    Ok([h.kind as u64, row.number, h.first as u64, row.count])
+}
+
 // Kind, number, the offset just after the numbers, and count; an error's place and zeros.
 pub fn read(file: &[u8], at: usize, out: &mut [u64; 4], mode: Mode) -> u32
     ensures { reply result out.new ≡ read_c mode file.now at }
 {
-    let words = reader_region::peek(file, at, mode).map(|h| {
-        let Row { number, count } = row_of(file, at, h);
-        [h.kind as u64, number, h.first as u64, count]
-    });
-    abi_error::answer(words, out)
+    abi_error::answer(words_of(file, at, mode), out)
 }

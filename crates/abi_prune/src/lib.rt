@@ -6,6 +6,7 @@ ghost use Rattle.abi_error.specs.Reply.{reply};
 ghost use Rattle.prune.specs.Answers.{prune_answer};
 ghost use Rattle.abi_prune.specs.Prune.{pruned_c};
 
+use error::Error;
 use prune::{NewFile, PruneError};
 
 // Length, count and entry of the new file; an error's place, or 0 if it has none, and zeros.
@@ -19,18 +20,8 @@ pub fn answer_prune(answer: Result<NewFile, PruneError>, told: &mut [u64; 3]) ->
                 count,
                 entry,
             },
-        ) => {
-            *told = [length as u64, count as u64, entry as u64];
-            0
-        }
-        Err(PruneError::BadFile(e)) => {
-            let kind = e.kind;
-            *told = [e.place as u64, 0, 0];
-            error::number(kind)
-        }
-        Err(PruneError::NoFit(kind)) => {
-            *told = [0, 0, 0];
-            error::number(kind)
-        }
+        ) => abi_error::answer(Ok([length as u64, count as u64, entry as u64]), told),
+        Err(PruneError::BadFile(e)) => abi_error::answer(Err(e), told),
+        Err(PruneError::NoFit(kind)) => abi_error::answer(Err(Error { kind, place: 0 }), told),
     }
 }
