@@ -12,17 +12,12 @@ use mir.Val.{Fits}
 use lib.ListN.{length, take, drop, get_or, replicate, length-take}
 use lib.Seq.{get_or-take, length-take-le}
 use Rattle.prelude.specs.Answer.{ok, error}
-use Rattle.error.specs.Error as errors
-use Rattle.error.specs.Error.{fault, LIMIT, FULL}
-use Rattle.error.specs.declared.Error.{Error}
+use Rattle.error.specs.Error.{Fault, fault, LIMIT, FULL}
 use Rattle.leb128.specs.declared.Mode.{Mode}
 use Rattle.table.specs.Blocks.{Below}
 use Rattle.depths_value.specs.Depth.{depths_to}
 use Rattle.depths_value.specs.Internal.{Starts}
-use Rattle.checker.specs.declared.CheckResult.{CheckResult}
-use Rattle.checker.specs.declared.CheckResult.TheVariants as checks-are
 use Rattle.checker.specs.Check.{checked, check_of}
-use Rattle.checker.specs.Answers.{check_answer}
 use Rattle.checker.proofs.Checks.{zeros_after}
 use Rattle.checker.proofs.Found.{Found, accepted as check-accepted, refused as check-refused}
 use Rattle.depths.specs.Depths.{deepened, depths_of}
@@ -32,10 +27,10 @@ starts_below s ss b st h k i = omega (arith, st.inside k i)
 
 -- ---- what check found
 
-module _ (mode : Mode) (file t : List ℕ) (cap : ℕ) (r : CheckResult) (left : checked (check_answer r) t ≡ check_of mode file cap) where
-  module _ (count entry : ℕ) (is : r ≡ checks-are.Ok count entry) where
+module _ (mode : Mode) (file t : List ℕ) (cap : ℕ) where
+  module _ (count entry : ℕ) (left : checked (ok (count, entry)) t ≡ check_of mode file cap) where
     accepted : Found mode file t cap count entry
-    accepted = check-accepted mode file t cap r left count entry is
+    accepted = check-accepted mode file t cap count entry left
 
     pub accepted_some : 1 ≤ length file
     accepted_some = accepted.some
@@ -79,7 +74,7 @@ module _ (mode : Mode) (file t : List ℕ) (cap : ℕ) (r : CheckResult) (left :
           ap (λ x. deepened (ok (count, entry)) x (put_mid count (length d - count) d z)) f.table
           ∙ rw (f.found, length-take-le count t f.fits, le-ltb room count h, ez, zeros_after d count (omega arith), e, long)
 
-  pub depths_of_refused : (f : Error) → r ≡ checks-are.Err f → (room : ℕ) (z : List ℕ) → z ≡ replicate room 0
-      → deepened (error (errors.fault_of f)) t z ≡ depths_of mode file cap room
+  pub depths_of_refused : (f : Fault) → checked (error f) t ≡ check_of mode file cap → (room : ℕ) (z : List ℕ) → z ≡ replicate room 0
+      → deepened (error f) t z ≡ depths_of mode file cap room
   unfolding depths_of
-  depths_of_refused f is room z zeros = let e = check-refused mode file t cap r left f is in rw (e.0, e.1, zeros)
+  depths_of_refused f left room z zeros = let e = check-refused mode file t cap f left in rw (e.0, e.1, zeros)

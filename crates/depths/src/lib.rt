@@ -5,7 +5,7 @@ ghost use Rattle.std.specs.Prelude.{◌≡◌, ◌*◌, ◌≤◌, length, take}
 ghost use Rattle.error.specs.Error.{LIMIT};
 ghost use Rattle.table.specs.Blocks.{BLOCK, Below};
 ghost use Rattle.depths_value.specs.Depth.{depths_to};
-ghost use Rattle.depths_value.specs.Internal.{Starts};
+ghost use Rattle.depths_value.specs.Internal.{Starts as AreStarts};
 ghost use Rattle.checker.specs.Answers.{check_answer};
 ghost use Rattle.depths.specs.Depths.{deepened, depths_of};
 
@@ -16,9 +16,9 @@ use scan::Region;
 
 // Computes the depths of all values into the first words of the table, with the blocks as an index of their starts.
 fn depths_to_by(region: Region, starts: &[u32], blocks: &mut [u32], depths: &mut [u32])
-    requires { (length starts.now ≤ length depths.old) × (Starts region.bytes.now starts.now) × (Below (length blocks.old * BLOCK) starts.now) }
+    requires { (length starts.now ≤ length depths.old) × (AreStarts region.bytes.now starts.now) × (Below (length blocks.old * BLOCK) starts.now) }
     ensures { take (length starts.now) depths.new
-        ≡ depths_to region.mode region.bytes.now starts.now (length starts.now) }
+        ≡ depths_to region.entry.mode region.entry.bytes.now starts.now (length starts.now) }
 {
     let known = table::index(starts, blocks);
     let indexed = table_search::Starts {
@@ -33,9 +33,9 @@ fn depths_to_by(region: Region, starts: &[u32], blocks: &mut [u32], depths: &mut
 // Computes the depths of all values into the first words of the table. A short region has few blocks, as in
 // `checker_starts::list_starts`.
 fn depths_to(region: Region, starts: &[u32], depths: &mut [u32])
-    requires { (length starts.now ≤ length depths.old) × (Starts region.bytes.now starts.now) }
+    requires { (length starts.now ≤ length depths.old) × (AreStarts region.bytes.now starts.now) }
     ensures { take (length starts.now) depths.new
-        ≡ depths_to region.mode region.bytes.now starts.now (length starts.now) }
+        ≡ depths_to region.entry.mode region.entry.bytes.now starts.now (length starts.now) }
 {
     if region.bytes.len() < table::LONG {
         let mut few = [0u32; table::FEW];
@@ -61,7 +61,7 @@ pub fn depths(
         ≡ depths_of mode file.now (length starts.old) (length depths.old) }
 {
     let found = match checker::check(file, starts, mode) {
-        Ok(found) => found,
+        Ok(summary) => summary,
         Err(e) => {
             depths.fill(0);
             return Err(e);

@@ -1,6 +1,5 @@
 -- `depths::depths_to_by` meets its contract.
-use mathlib.Core.Path.{refl, sym}
-use lib.Seq.{length-take-le}
+use mathlib.Core.Path.{refl}
 use borrow.Author.Rules.{rules}
 use native.Mathlib.Omega.{arith}
 use Rattle.depths_value.specs.Depth.{depths_to}
@@ -10,10 +9,6 @@ use Rattle.depths.proofs.depths_to_by.Goals as goal
 pub loop-i-init : goal.loop-i-init
 unfolding depths_to
 loop-i-init c = (omega arith, refl, refl)
-
-pub slice_bounds-depth_at-end-in-loop-i : goal.slice_bounds-depth_at-end-in-loop-i
-unfolding depths_to
-slice_bounds-depth_at-end-in-loop-i c = sym (length-take-le _ _ (search rules))
 
 pub loop-i-preserved : goal.loop-i-preserved
 unfolding depths_to
