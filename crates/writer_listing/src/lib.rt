@@ -11,10 +11,7 @@ fn until(t: &[u32], i: usize, x: u32) -> usize
     requires { i < length t.now }
     ensures { result ≤ 1 }
 {
-    if t[i] <= x {
-        return 1;
-    }
-    0
+    usize::from(t[i] <= x)
 }
 
 // Where to look first: 64 words before the end, if the word there is at most x, since most targets are near; else at
@@ -23,13 +20,10 @@ fn near(t: &[u32], x: u32) -> usize
     requires { 0 < length t.now }
     ensures { result < length t.now }
 {
-    let n = t.len();
-    if 64 < n {
-        if t[n - 64] <= x {
-            return n - 64;
-        }
+    match t.len().checked_sub(64) {
+        Some(i) if t[i] <= x => i,
+        _ => 0,
     }
-    0
 }
 
 // The index at which a rising table would have x; for any other table, some index. Each step looks at three words and
@@ -43,42 +37,23 @@ fn guess(t: &[u32], x: u32) -> usize
     let mut size = t.len() - lo;
     while 4 <= size {
         let q = size / 4;
-        lo = lo + q * (until(t, lo + q, x) + until(t, lo + 2 * q, x) + until(t, lo + 3 * q, x));
-        size = size - 3 * q;
+        lo += q * (until(t, lo + q, x) + until(t, lo + 2 * q, x) + until(t, lo + 3 * q, x));
+        size -= 3 * q;
     }
-    while 1 < size {
-        lo = lo + until(t, lo + 1, x);
-        size = size - 1;
+    for _k in 1..size {
+        lo += until(t, lo + 1, x);
     }
     lo
-}
-
-// Whether a table has x, word by word.
-fn is_among_each(t: &[u32], x: u32) -> bool
-    ensures { result ≡ among x t.now }
-{
-    let mut k: usize = 0;
-    while k < t.len() {
-        if t[k] == x {
-            return true;
-        }
-        k += 1;
-    }
-    false
 }
 
 // Whether a table has x: it is first looked for where a rising table would have it.
 fn is_among(t: &[u32], x: u32) -> bool
     ensures { result ≡ among x t.now }
 {
-    if t.len() == 0 {
+    if t.is_empty() {
         return false;
     }
-    let i = guess(t, x);
-    if t[i] == x {
-        return true;
-    }
-    is_among_each(t, x)
+    t[guess(t, x)] == x || t.contains(&x)
 }
 
 // Whether `at` is below the bytes written and among the first `count` words of a table, which are listed; the answer means nothing if more bytes are
@@ -105,10 +80,8 @@ pub fn is_listed_near(written: usize, count: usize, starts: &[u32], at: usize, n
     if starts.len() < count {
         return false;
     }
-    if near < count {
-        if starts[near] as usize == at {
-            return at < written;
-        }
+    if near < count && starts[near] as usize == at {
+        return at < written;
     }
     is_listed(written, count, starts, at)
 }

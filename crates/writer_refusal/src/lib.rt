@@ -10,7 +10,7 @@ ghost use Rattle.writer_refusal.specs.Refusal.{limit, room, bad_state, is_ok, re
 use error::ErrorKind;
 use kind::Rule;
 
-// A writer's state.
+// A writer's state. That no value is open is not a None: C passes any four words and a flag, and each call is defined for all of them.
 #[derive(Clone, Copy)]
 pub struct State {
     // The bytes written.
@@ -43,10 +43,7 @@ pub struct CallFlags {
 fn limit(n: u64) -> u64
     ensures { result ≡ limit n }
 {
-    if n < error::LIMIT as u64 {
-        return n;
-    }
-    error::LIMIT as u64
+    n.min(error::LIMIT as u64)
 }
 
 // How many bytes may be written into an output of that many.
@@ -70,30 +67,24 @@ pub fn left(before: u64, rule: Rule, n: u64, args: u64) -> u64
     ensures { result ≡ due before (limit (pending rule n args)) }
 {
     if before == 0 {
-        return items(rule, n, args);
+        items(rule, n, args)
+    } else {
+        before - 1
     }
-    before - 1
 }
 
 // The bytes left for tokens: one is held back for the delta.
 fn room(state: State, bytes: usize) -> usize
     ensures { result ≡ room state bytes }
 {
-    let end = end(bytes);
-    if end <= state.written {
-        return 0;
-    }
-    end - 1 - state.written
+    end(bytes).saturating_sub(1).saturating_sub(state.written)
 }
 
 // Whether a token of `size` bytes, with a byte for each item left after it, exceeds the room.
 fn exceeds(room: usize, size: usize, left: u64) -> bool
     ensures { result ≡ ltb room (size + left) }
 {
-    if room < size {
-        return true;
-    }
-    ((room - size) as u64) < left
+    room < size || ((room - size) as u64) < left
 }
 
 // Whether the output has no room for a token and the items left after it.

@@ -1,5 +1,5 @@
 -- `emit::put` meets its contract: it asks for the kind and the room first.
-use mathlib.Core.Path.{◌≡◌, refl}
+use mathlib.Core.Path.{◌≡◌}
 use mathlib.Core.List.{List}
 use Prim.Native.Nat.{ℕ, ◌≤◌, ◌<◌}
 use native.Mathlib.Omega.{arith}
@@ -8,6 +8,7 @@ use borrow.Author.Tests.{lt-ltb, le-ltb}
 use Rattle.prelude.specs.Bytes.{stored, Put}
 use Rattle.prelude.proofs.Parts.{store_none, store_put}
 use Rattle.token.specs.Token.{Token, emit, emit_into}
+use Rattle.emit.proofs.Numbers.{is_some_then, emit_second}
 use Rattle.emit.proofs.put.Goals as goal
 
 -- a token of a kind, whose bytes are k
@@ -28,7 +29,7 @@ pub returns-then-rest-size : goal.returns-then-rest-size
 returns-then-rest-size c = search emit_into_none
 
 pub put_within-requires : goal.put_within-requires
-put_within-requires c = (omega arith, rw c.rule_of-rule.ensures refl, omega arith)
+put_within-requires c = rw (c.then_some.ensures, c.rule_of-rule.ensures, emit_second) (omega arith, is_some_then _ _, omega arith)
 
 pub returns : goal.returns
-returns c = search emit_into_put
+returns c = emit_into_put _ _ _ (omega arith) c.size.ensures _ _ c.if-rest-size.false (rw (c.then_some.ensures, c.rule_of-rule.ensures, emit_second) at c.put_within.ensures)

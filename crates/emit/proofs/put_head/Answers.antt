@@ -5,11 +5,13 @@ use Prim.Native.Nat.{ℕ, ◌+◌, ◌-◌, ◌*◌, ◌≤◌, min}
 use native.Mathlib.Omega.{arith}
 use lib.Dec.{leb}
 use lib.ListN.{length, set, length-set}
+use Rattle.std.specs.Prelude.{unwrap_or}
 use Rattle.prelude.specs.Bytes.{Put, PutAt}
 use Rattle.prelude.proofs.Parts.{put_append, put_at_same}
 use Rattle.kind.specs.Kind.{rule}
 use Rattle.token.specs.Token.{token, put_if, emit}
 use Rattle.token.proofs.Laws.{length_emit}
+use Rattle.emit.proofs.Numbers.{number_is, second_is}
 use Rattle.emit.proofs.put_head.Goals as goal
 
 headed : (k n a x : ℕ) (d d₁ d₂ : List ℕ) (r₁ r₂ : ℕ) → x ≡ min n 15 → PutAt (put_if (leb 15 n) (n - 15)) (set d 0 (k * 16 + x)) 1 d₁ r₁
@@ -28,19 +30,16 @@ pub bounds-out-0 : goal.bounds-out-0
 bounds-out-0 c = omega (arith, room _ _ _ _ c.requires.2)
 
 pub put_if-number-requires : goal.put_if-number-requires
-put_if-number-requires c = rw (length-set, c.above_15-more.ensures) (omega (arith, room _ _ _ _ c.requires.2))
+put_if-number-requires c = rw (length-set, number_is c.checked_sub.result c.args.n c.checked_sub.ensures) (omega (arith, room _ _ _ _ c.requires.2))
 
 pub put_if-requires : goal.put_if-requires
 put_if-requires c =
     let a = c.args in
-    let one : PutAt (put_if (leb 15 a.n) (a.n - 15)) _ 1 _ _ = rw c.above_15-more.ensures at c.put_if-number.ensures in
+    let one : PutAt (put_if (leb 15 a.n) (a.n - 15)) _ 1 _ _ = rw (number_is c.checked_sub.result c.args.n c.checked_sub.ensures) at c.put_if-number.ensures in
     let same : length c.put_if-number.new.out ≡ length a.out.now = put_at_same _ _ _ _ _ one ∙ simp length-set in
-    rw c.requires.1 (omega (arith, room _ _ _ _ c.requires.2, one.after, same))
-
-pub shape_of-out : goal.shape_of-out
-shape_of-out c = put_at_same _ _ _ _ _ c.put_if.ensures ∙ put_at_same _ _ _ _ _ c.put_if-number.ensures ∙ simp length-set
+    rw (second_is _ _ c.requires.1) (omega (arith, room _ _ _ _ c.requires.2, one.after, same))
 
 pub returns : goal.returns
 returns c =
-    headed c.args.kind c.args.n c.args.args _ _ _ _ _ _ c.nibble.ensures.0
-    (rw c.above_15-more.ensures at c.put_if-number.ensures) (rw c.requires.1 at c.put_if.ensures)
+    headed c.args.kind c.args.n (unwrap_or c.args.second 0) _ _ _ _ _ _ c.min.ensures
+    (rw (number_is c.checked_sub.result c.args.n c.checked_sub.ensures) at c.put_if-number.ensures) (rw (second_is _ _ c.requires.1) at c.put_if.ensures)

@@ -9,8 +9,5 @@ invariant-loop-size l = (l.lo + l.size ≤ length l.t) × (1 ≤ l.size)
 abbrev pub decreases-loop-size : goal.decreases-loop-size
 decreases-loop-size l = l.size
 
-abbrev pub invariant-loop-size-2 : goal.invariant-loop-size-2
-invariant-loop-size-2 l = (l.lo + l.size ≤ length l.t) × (1 ≤ l.size)
-
-abbrev pub decreases-loop-size-2 : goal.decreases-loop-size-2
-decreases-loop-size-2 l = l.size
+abbrev pub invariant-loop-k : goal.invariant-loop-k
+invariant-loop-k l = l.lo + 1 ≤ l.initial.lo + l._k

@@ -1,5 +1,5 @@
 -- `writer_refusal::exceeds` meets its contract.
-use mathlib.Core.Path.{◌≡◌, sym}
+use mathlib.Core.Path.{◌≡◌}
 use Prim.Native.Nat.{ℕ, ◌+◌, ◌-◌, ◌≤◌}
 use native.Mathlib.Omega.{arith}
 use lib.Dec.{ltb}
@@ -15,7 +15,7 @@ ltb_sub a b c h =
     (λ l. rw (le-ltb (a - b) c l, le-ltb a (b + c) (omega arith)))
 
 pub returns-then-room-size : goal.returns-then-room-size
-returns-then-room-size c = let a = c.args in sym (lt-ltb a.room (a.size + a.left) (omega arith))
+returns-then-room-size c = let a = c.args in rw (lt-ltb _ _ c.if-room-size.true, lt-ltb a.room (a.size + a.left) (omega arith))
 
-pub returns : goal.returns
-returns c = ltb_sub _ _ _ c.if-room-size.false
+pub returns-else-room-size : goal.returns-else-room-size
+returns-else-room-size c = ltb_sub _ _ _ c.if-room-size.false

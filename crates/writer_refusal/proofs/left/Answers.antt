@@ -5,5 +5,5 @@ use Rattle.writer_refusal.proofs.left.Goals as goal
 pub returns-then-before-eq0 : goal.returns-then-before-eq0
 returns-then-before-eq0 c = rw (eq-eqb _ _ c.if-before-eq0.true) c.items.ensures
 
-pub returns : goal.returns
-returns c = rw (ne_eqb _ _ c.if-before-eq0.false)
+pub returns-else-before-eq0 : goal.returns-else-before-eq0
+returns-else-before-eq0 c = rw (ne_eqb _ _ c.if-before-eq0.false)

@@ -5,5 +5,5 @@ use Rattle.writer_target.proofs.moved_number.Goals as goal
 pub returns-then-kind-lt-KIND_REFERENCE : goal.returns-then-kind-lt-KIND_REFERENCE
 returns-then-kind-lt-KIND_REFERENCE c = rw (lt-leb 14 _ c.if-kind-lt-KIND_REFERENCE.true)
 
-pub returns : goal.returns
-returns c = rw (le-leb 14 _ c.if-kind-lt-KIND_REFERENCE.false) c.distance.ensures
+pub returns-else-kind-lt-KIND_REFERENCE : goal.returns-else-kind-lt-KIND_REFERENCE
+returns-else-kind-lt-KIND_REFERENCE c = rw (le-leb 14 _ c.if-kind-lt-KIND_REFERENCE.false) c.distance.ensures

@@ -1,0 +1,2 @@
+-- what only private functions cite
+pub mod Internal
