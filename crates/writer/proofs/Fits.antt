@@ -7,6 +7,8 @@ use native.Mathlib.Omega.{arith}
 use lib.Dec.{eqb, ltb, leb}
 use lib.ListN.{length}
 use borrow.Author.Tests.{leb-true, ne_eqb}
+use Rattle.std.specs.Prelude.{Option}
+use Rattle.std.specs.Bool.{then_some}
 use Rattle.error.specs.Error.{LIMIT}
 use Rattle.utf8.specs.Text.{is_text}
 use Rattle.kind.specs.Kind.{rule, pending, due}
@@ -69,11 +71,12 @@ module _ (k n a : ℕ) (b : List ℕ) (x : ℕ) (s : State) (out table : List �
   refusal_is = rw (i, size_is, l, r, room_limit s asked (length out)) (flags_same asked x s out table g h)
 
   module _ (may : Bool) (m : may ≡ is_ok (refusal_of q (ltb (room s (length out)) (size + left)) s (length out) (length table))) where
-    pub fits : k < 16 → may ≡ true → Fits asked x s out table (record { second = row.args; size = size; left = left })
-    fits small e = record {
+    pub fits : k < 16 → may ≡ true → (o : Option ℕ) → o ≡ then_some row.args a
+        → Fits asked x s out table (record { second = o; size = size; left = left })
+    fits small e o y = record {
       kind = small;
       accepted = sym refusal_is ∙ ok_of_is_ok _ (sym m ∙ e);
-      second = rw r refl;
+      second = rw (y, r);
       size = size_is;
       left = rw (l, r);
     }

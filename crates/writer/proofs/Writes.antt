@@ -1,19 +1,22 @@
 -- What a token leaves, as the code computes it: one that fits, and one that is refused.
 use mathlib.Core.Path.{◌≡◌, ◌∙◌}
-use mathlib.Core.List.{List, []}
+use mathlib.Core.List.{List}
 use Prim.Native.Nat.{ℕ, ◌+◌, ◌-◌, ◌≤◌, ◌<◌, ◌^◌}
 use native.Mathlib.Omega.{arith}
 use lib.Dec.{leb}
 use lib.ListN.{length, take, drop, get_or}
 use borrow.Rule.Slice.PartMut.{put_mid}
 use Rattle.std.specs.Prelude as code
+use Rattle.std.specs.Prelude.{is_some, unwrap_or}
 use Rattle.prelude.specs.Pick.{pick}
 use Rattle.prelude.specs.Answer.{ok, error}
 use Rattle.prelude.specs.Bytes.{Put}
 use Rattle.prelude.proofs.Parts.{put_at_part, length_part}
 use Rattle.error.specs.Error.{number_of}
 use Rattle.error.specs.declared.ErrorKind.{ErrorKind}
+use Rattle.kind.specs.Kind.{rule}
 use Rattle.token.specs.Token.{Token, token, emit}
+use Rattle.emit.proofs.Numbers.{is_some_then, emit_second}
 use Rattle.writer_refusal.specs.declared.State.{State}
 use Rattle.writer.specs.Step.{opens, token_refusal, start_of, Result, result, write, put_token, moved_to, put_moved}
 use Rattle.writer.specs.Answers.{wrote}
@@ -30,7 +33,7 @@ module _ (t : Token) (x : ℕ) (s : State) (out table : List ℕ) where
     pub inside : s.written ≤ length out
     inside = omega (arith, room_after (opens t) t x s out table accepted)
 
-    pub fits_rest : (w : ℕ) → w ≤ s.written → length (emit t) ≤ length (take (length out - w) (drop w out))
+    fits_rest : (w : ℕ) → w ≤ s.written → length (emit t) ≤ length (take (length out - w) (drop w out))
     fits_rest w h = rw length_part (omega (arith, room_after (opens t) t x s out table accepted))
 
     -- what `advance` requires
@@ -43,7 +46,7 @@ module _ (t : Token) (x : ℕ) (s : State) (out table : List ℕ) where
     pub end_word : s.written + r.size < 2 ^ 64
     end_word = omega (arith, room_after (opens t) t x s out table accepted, a.size)
 
-    pub put_ok : (o : List ℕ) (n : ℕ) → Put (emit t) (take (length out - s.written) (drop s.written out)) o n
+    put_ok : (o : List ℕ) (n : ℕ) → Put (emit t) (take (length out - s.written) (drop s.written out)) o n
         → (next : State) (words : List ℕ) → Advanced r s table next words
         → result (ok tt) next (put_mid s.written (length out - s.written) out o) words ≡ put_token t x s out table
     unfolding put_token write
@@ -62,13 +65,19 @@ module _ (t : Token) (x : ℕ) (s : State) (out table : List ℕ) where
   unfolding put_token
   put_refused a e i k = rw (i, k)
 
--- what a call writes, by the number or the body that a callee made of its argument
-module _ (k x : ℕ) (s : State) (out table : List ℕ) (r : Result) where
-  pub put_number : (n m a : ℕ) → r ≡ put_token (token k n a []) x s out table → n ≡ m → r ≡ put_token (token k m a []) x s out table
-  put_number n m a e h = rw h at e
+-- a token as `write` hands it on, with its second number as an `Option`
+module _ (k n a : ℕ) (b : List ℕ) (x : ℕ) (s : State) (out table : List ℕ) (r : Fit) (f : Fits (token k n a b) x s out table r) where
+  second_same : emit (token k n (unwrap_or r.second 0) b) ≡ emit (token k n a b)
+  second_same = rw f.second (emit_second k n a b)
 
-  pub put_bytes : (n : ℕ) (b c : List ℕ) → r ≡ put_token (token k n 0 b) x s out table → b ≡ c → r ≡ put_token (token k n 0 c) x s out table
-  put_bytes n b c e h = rw h at e
+  pub within_room : (w : ℕ) → w ≤ s.written
+      → (k < 16) × (is_some r.second ≡ (rule k).args) × (length (emit (token k n (unwrap_or r.second 0) b)) ≤ length (take (length out - w) (drop w out)))
+  within_room w h = (f.kind, rw f.second (is_some_then (rule k).args a), rw second_same (fits_rest (token k n a b) x s out table r f w h))
+
+  pub within_ok : (p : List ℕ) (m : ℕ) → Put (emit (token k n (unwrap_or r.second 0) b)) (take (length out - s.written) (drop s.written out)) p m
+      → (next : State) (words : List ℕ) → Advanced r s table next words
+      → result (ok tt) next (put_mid s.written (length out - s.written) out p) words ≡ put_token (token k n a b) x s out table
+  within_ok p m h next words d = put_ok (token k n a b) x s out table r f p m (rw second_same at h) next words d
 
 -- a token that names the offset in word number i of the table
 pub puts_moved : (k n a : ℕ) (b : List ℕ) (i x m : ℕ) (s : State) (out table : List ℕ) (r : Result) → x ≡ pick (leb 14 k) (get_or table i 0) 0

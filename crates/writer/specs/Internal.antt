@@ -22,6 +22,7 @@
 --                         a close at e by a pointer of that distance and its delta byte, written or refused
 use Rattle.std.specs.Prelude.{◌≡◌, Bool, true, false, not, ◌&&◌, List, [], ℕ, ◌+◌, ◌≤◌, ◌<◌, eqb, leb, length, set}
 use Rattle.std.specs.Prelude as code
+use Rattle.std.specs.Bool.{then_some}
 use Rattle.prelude.specs.Pick.{pick}
 use Rattle.prelude.specs.Answer.{ok, error}
 use Rattle.error.specs.Error.{LIMIT, number_of}
@@ -52,7 +53,7 @@ token_flags_by row k g = record { alone = not (immediate row); nontext = eqb k 4
 pub record Fits (t : Token) (x : ℕ) (s : State) (out table : List ℕ) (f : Fit) : Type 0 where
   pub kind : t.kind < 16
   pub accepted : token_refusal (opens t) t x s out table ≡ ok tt
-  pub second : f.second ≡ (rule t.kind).args
+  pub second : f.second ≡ then_some (rule t.kind).args t.args
   pub size : f.size ≡ length (emit t)
   pub left : f.left ≡ due s.pending (limit (pending_of t))
 

@@ -3,7 +3,6 @@
 
 ghost use Rattle.std.specs.Prelude.{◌≡◌, [], ◌+◌, ◌-◌, ◌<◌, ◌^◌, length};
 ghost use Rattle.prelude.specs.Answer.{ok};
-ghost use Rattle.kind.specs.Kind.{rule};
 ghost use Rattle.token.specs.Token.{token};
 ghost use Rattle.writer.specs.Call.{Call};
 ghost use Rattle.writer.specs.Step.{scalar_of, integer_of, start_of, result as outcome, put_token, put_moved, fresh, step};
@@ -30,8 +29,8 @@ pub enum Scalar {
 // What `fit` finds about a token that is accepted, before it is written.
 #[derive(Clone, Copy)]
 struct Fit {
-    // Whether its kind has a second number.
-    second: bool,
+    // Its second number, if its kind has one.
+    second: Option<u64>,
     // Its bytes.
     size: usize,
     // The items pending after it; its own count as LIMIT if they are more.
@@ -56,19 +55,17 @@ fn sign(z: i64) -> u8
     ensures { (result ≡ (integer_of z).kind) × (result < 4) }
 {
     if z < 0 {
-        return kind::KIND_NEGATIVE;
+        kind::KIND_NEGATIVE
+    } else {
+        kind::KIND_INTEGER
     }
-    kind::KIND_INTEGER
 }
 
 // The number of an integer: z, or -z - 1 if it is negative.
 fn magnitude(z: i64) -> u64
     ensures { result ≡ (integer_of z).n }
 {
-    if z < 0 {
-        return (-1 - z) as u64;
-    }
-    z as u64
+    if z < 0 { (-1 - z) as u64 } else { z as u64 }
 }
 
 // The flags of a token. `good`: its text or target is right; `row`: the rule of its kind.
@@ -88,11 +85,10 @@ impl Writer {
     // ---- a token
 
     // Whether a token that names the offset `target` is accepted, and what it takes; or why it is refused. `good`: its text or target
-    // is right; `row`: the rule of its kind.
+    // is right.
     fn fit(
         &self,
         good: bool,
-        row: Rule,
         kind: u8,
         n: u64,
         args: u64,
@@ -101,9 +97,10 @@ impl Writer {
         out: &[u8],
         starts: &[u32],
     ) -> Result<Fit, ErrorKind>
-        requires { (kind < 16) × (row ≡ rule kind) × ArgumentTest good kind body.now target self.now.state starts.now }
+        requires { (kind < 16) × ArgumentTest good kind body.now target self.now.state starts.now }
         ensures { FitOf (token kind n args body.now) target self.now.state out.now starts.now result }
     {
+        let row = kind::rule_of(kind);
         let request = token_flags(row, kind, good);
         let size = emit::size_by(row, n, args, body);
         let left = writer_refusal::left(self.state.pending, row, n, args);
@@ -111,7 +108,7 @@ impl Writer {
         let words = starts.len();
         if writer_refusal::may_write(self.state, request, size, left, bytes, words) {
             return Ok(Fit {
-                second: row.args,
+                second: row.args.then_some(args),
                 size,
                 left,
             });
@@ -138,28 +135,8 @@ impl Writer {
         };
     }
 
-    // Writes a token that has no body.
-    fn put_token(
-        &mut self,
-        fit: Fit,
-        kind: u8,
-        n: u64,
-        args: u64,
-        target: usize,
-        out: &mut [u8],
-        starts: &mut [u32],
-    )
-        requires { Fits (token kind n args []) target self.old.state out.old starts.old fit }
-        ensures { outcome (ok tt) self.new.state out.new starts.new
-            ≡ put_token (token kind n args []) target self.old.state out.old starts.old }
-    {
-        let written = self.state.written;
-        emit::put_head(&mut out[written..], kind, n, fit.second, args);
-        self.advance(fit, starts);
-    }
-
-    // Writes a token that has a body.
-    fn put_body(
+    // Writes a token that is accepted.
+    fn write(
         &mut self,
         fit: Fit,
         kind: u8,
@@ -175,8 +152,29 @@ impl Writer {
             ≡ put_token (token kind n args body.now) target self.old.state out.old starts.old }
     {
         let written = self.state.written;
-        emit::put_within(&mut out[written..], kind, n, fit.second, args, body);
+        emit::put_within(&mut out[written..], kind, n, fit.second, body);
         self.advance(fit, starts);
+    }
+
+    // Writes or refuses a token that names the offset `target`. `good`: its text or target is right.
+    fn put(
+        &mut self,
+        good: bool,
+        kind: u8,
+        n: u64,
+        args: u64,
+        body: &[u8],
+        target: usize,
+        out: &mut [u8],
+        starts: &mut [u32],
+    ) -> Result<(), ErrorKind>
+        requires { (kind < 16) × ArgumentTest good kind body.now target self.old.state starts.old }
+        ensures { wrote result self.new.state out.new starts.new
+            ≡ put_token (token kind n args body.now) target self.old.state out.old starts.old }
+    {
+        let fit = self.fit(good, kind, n, args, body, target, out, starts)?;
+        self.write(fit, kind, n, args, body, target, out, starts);
+        Ok(())
     }
 
     // ---- a token of another file
@@ -218,11 +216,8 @@ impl Writer {
     {
         let target = writer_target::named(kind, starts, number);
         let moved = writer_target::moved_number(kind, n, self.state.written, target);
-        let rule = kind::rule_of(kind);
         let good = self.is_good(kind, body, target, number, starts);
-        let fit = self.fit(good, rule, kind, moved, args, body, target, out, starts)?;
-        self.put_body(fit, kind, moved, args, body, target, out, starts);
-        Ok(())
+        self.put(good, kind, moved, args, body, target, out, starts)
     }
 
     // ---- the close
@@ -284,9 +279,8 @@ impl Writer {
             return Err(writer_refusal::refusal(self.state, request, out.len(), starts.len()));
         }
         let kind = kind::KIND_POINTER;
-        let rule = kind::rule_of(kind);
-        let fit = self.fit(good, rule, kind, back, 0, b"", at, out, starts)?;
-        self.put_token(fit, kind, back, 0, at, out, starts);
+        let fit = self.fit(good, kind, back, 0, b"", at, out, starts)?;
+        self.write(fit, kind, back, 0, b"", at, out, starts);
         self.write_delta((fit.size - 1) as u8, out);
         Ok(())
     }
@@ -294,7 +288,6 @@ impl Writer {
 
 // ---- the calls
 
-#[tactic(auto, using(crate::proofs::Writes::put_refused))]
 impl Writer {
     // A writer that has written nothing.
     pub fn new() -> Self
@@ -319,12 +312,8 @@ impl Writer {
     ) -> Result<(), ErrorKind>
         ensures { wrote result self.new.state out.new starts.new ≡ step (Call.scalar value) self.old.state out.old starts.old }
     {
-        let kind = kind::KIND_SCALAR;
-        let rule = kind::rule_of(kind);
         let n = number(value);
-        let fit = self.fit(true, rule, kind, n, 0, b"", 0, out, starts)?;
-        self.put_token(fit, kind, n, 0, 0, out, starts);
-        Ok(())
+        self.put(true, kind::KIND_SCALAR, n, 0, b"", 0, out, starts)
     }
 
     pub fn integer(
@@ -335,12 +324,7 @@ impl Writer {
     ) -> Result<(), ErrorKind>
         ensures { wrote result self.new.state out.new starts.new ≡ step (Call.integer value) self.old.state out.old starts.old }
     {
-        let kind = sign(value);
-        let rule = kind::rule_of(kind);
-        let n = magnitude(value);
-        let fit = self.fit(true, rule, kind, n, 0, b"", 0, out, starts)?;
-        self.put_token(fit, kind, n, 0, 0, out, starts);
-        Ok(())
+        self.put(true, sign(value), magnitude(value), 0, b"", 0, out, starts)
     }
 
     // Takes the bits, which are never computed with.
@@ -352,12 +336,8 @@ impl Writer {
     ) -> Result<(), ErrorKind>
         ensures { wrote result self.new.state out.new starts.new ≡ step (Call.float32 bits) self.old.state out.old starts.old }
     {
-        let kind = kind::KIND_FLOAT;
-        let rule = kind::rule_of(kind);
         let body = little_endian::bytes4(bits);
-        let fit = self.fit(true, rule, kind, 0, 0, &body, 0, out, starts)?;
-        self.put_body(fit, kind, 0, 0, &body, 0, out, starts);
-        Ok(())
+        self.put(true, kind::KIND_FLOAT, 0, 0, &body, 0, out, starts)
     }
 
     pub fn float64(
@@ -368,25 +348,17 @@ impl Writer {
     ) -> Result<(), ErrorKind>
         ensures { wrote result self.new.state out.new starts.new ≡ step (Call.float64 bits) self.old.state out.old starts.old }
     {
-        let kind = kind::KIND_FLOAT;
-        let rule = kind::rule_of(kind);
         let body = little_endian::bytes8(bits);
-        let fit = self.fit(true, rule, kind, 1, 0, &body, 0, out, starts)?;
-        self.put_body(fit, kind, 1, 0, &body, 0, out, starts);
-        Ok(())
+        self.put(true, kind::KIND_FLOAT, 1, 0, &body, 0, out, starts)
     }
 
     pub fn text(&mut self, body: &[u8], out: &mut [u8], starts: &mut [u32]) -> Result<(), ErrorKind>
         ensures { wrote result self.new.state out.new starts.new
             ≡ step (Call.text body.now) self.old.state out.old starts.old }
     {
-        let kind = kind::KIND_TEXT;
-        let rule = kind::rule_of(kind);
         let good = utf8::is_text(body);
         let n = body.len() as u64;
-        let fit = self.fit(good, rule, kind, n, 0, body, 0, out, starts)?;
-        self.put_body(fit, kind, n, 0, body, 0, out, starts);
-        Ok(())
+        self.put(good, kind::KIND_TEXT, n, 0, body, 0, out, starts)
     }
 
     pub fn bytes(
@@ -398,12 +370,8 @@ impl Writer {
         ensures { wrote result self.new.state out.new starts.new
             ≡ step (Call.bytes body.now) self.old.state out.old starts.old }
     {
-        let kind = kind::KIND_BYTES;
-        let rule = kind::rule_of(kind);
         let n = body.len() as u64;
-        let fit = self.fit(true, rule, kind, n, 0, body, 0, out, starts)?;
-        self.put_body(fit, kind, n, 0, body, 0, out, starts);
-        Ok(())
+        self.put(true, kind::KIND_BYTES, n, 0, body, 0, out, starts)
     }
 
     // A variant with no argument.
@@ -415,11 +383,8 @@ impl Writer {
     ) -> Result<(), ErrorKind>
         ensures { wrote result self.new.state out.new starts.new ≡ step (Call.variant index) self.old.state out.old starts.old }
     {
-        let kind = kind::KIND_VARIANT;
-        let rule = kind::rule_of(kind);
-        let fit = self.fit(true, rule, kind, index as u64, 0, b"", 0, out, starts)?;
-        self.put_token(fit, kind, index as u64, 0, 0, out, starts);
-        Ok(())
+        let n = u64::from(index);
+        self.put(true, kind::KIND_VARIANT, n, 0, b"", 0, out, starts)
     }
 
     // A reference to the value that starts at `at`.
@@ -431,13 +396,9 @@ impl Writer {
     ) -> Result<(), ErrorKind>
         ensures { wrote result self.new.state out.new starts.new ≡ step (Call.reference at) self.old.state out.old starts.old }
     {
-        let kind = kind::KIND_REFERENCE;
-        let rule = kind::rule_of(kind);
         let n = writer_target::distance(self.state.written, at);
         let good = writer_listing::is_listed(self.state.written, self.state.count, starts, at);
-        let fit = self.fit(good, rule, kind, n, 0, b"", at, out, starts)?;
-        self.put_token(fit, kind, n, 0, at, out, starts);
-        Ok(())
+        self.put(good, kind::KIND_REFERENCE, n, 0, b"", at, out, starts)
     }
 
     // A pointer to the value that starts at `at`.
@@ -449,13 +410,9 @@ impl Writer {
     ) -> Result<(), ErrorKind>
         ensures { wrote result self.new.state out.new starts.new ≡ step (Call.pointer at) self.old.state out.old starts.old }
     {
-        let kind = kind::KIND_POINTER;
-        let rule = kind::rule_of(kind);
         let n = writer_target::distance(self.state.written, at);
         let good = writer_listing::is_listed(self.state.written, self.state.count, starts, at);
-        let fit = self.fit(good, rule, kind, n, 0, b"", at, out, starts)?;
-        self.put_token(fit, kind, n, 0, at, out, starts);
-        Ok(())
+        self.put(good, kind::KIND_POINTER, n, 0, b"", at, out, starts)
     }
 
     // An array of n items, which are the next immediates.
@@ -467,22 +424,14 @@ impl Writer {
     ) -> Result<(), ErrorKind>
         ensures { wrote result self.new.state out.new starts.new ≡ step (Call.open_array n) self.old.state out.old starts.old }
     {
-        let kind = kind::KIND_ARRAY;
-        let rule = kind::rule_of(kind);
-        let fit = self.fit(true, rule, kind, n, 0, b"", 0, out, starts)?;
-        self.put_token(fit, kind, n, 0, 0, out, starts);
-        Ok(())
+        self.put(true, kind::KIND_ARRAY, n, 0, b"", 0, out, starts)
     }
 
     // A map of n pairs, whose keys and values, alternating, are the next immediates.
     pub fn open_map(&mut self, n: u64, out: &mut [u8], starts: &mut [u32]) -> Result<(), ErrorKind>
         ensures { wrote result self.new.state out.new starts.new ≡ step (Call.open_map n) self.old.state out.old starts.old }
     {
-        let kind = kind::KIND_MAP;
-        let rule = kind::rule_of(kind);
-        let fit = self.fit(true, rule, kind, n, 0, b"", 0, out, starts)?;
-        self.put_token(fit, kind, n, 0, 0, out, starts);
-        Ok(())
+        self.put(true, kind::KIND_MAP, n, 0, b"", 0, out, starts)
     }
 
     // A tag of the next immediate.
@@ -494,11 +443,7 @@ impl Writer {
     ) -> Result<(), ErrorKind>
         ensures { wrote result self.new.state out.new starts.new ≡ step (Call.open_tag tag) self.old.state out.old starts.old }
     {
-        let kind = kind::KIND_TAG;
-        let rule = kind::rule_of(kind);
-        let fit = self.fit(true, rule, kind, tag, 0, b"", 0, out, starts)?;
-        self.put_token(fit, kind, tag, 0, 0, out, starts);
-        Ok(())
+        self.put(true, kind::KIND_TAG, tag, 0, b"", 0, out, starts)
     }
 
     // A variant whose one argument is the next immediate.
@@ -511,11 +456,8 @@ impl Writer {
         ensures { wrote result self.new.state out.new starts.new
             ≡ step (Call.open_variant1 index) self.old.state out.old starts.old }
     {
-        let kind = kind::KIND_VARIANT1;
-        let rule = kind::rule_of(kind);
-        let fit = self.fit(true, rule, kind, index as u64, 0, b"", 0, out, starts)?;
-        self.put_token(fit, kind, index as u64, 0, 0, out, starts);
-        Ok(())
+        let n = u64::from(index);
+        self.put(true, kind::KIND_VARIANT1, n, 0, b"", 0, out, starts)
     }
 
     // A variant whose n arguments are the next immediates.
@@ -529,11 +471,8 @@ impl Writer {
         ensures { wrote result self.new.state out.new starts.new
             ≡ step (Call.open_variant_n index n) self.old.state out.old starts.old }
     {
-        let kind = kind::KIND_VARIANTN;
-        let rule = kind::rule_of(kind);
-        let fit = self.fit(true, rule, kind, index as u64, n, b"", 0, out, starts)?;
-        self.put_token(fit, kind, index as u64, n, 0, out, starts);
-        Ok(())
+        let index = u64::from(index);
+        self.put(true, kind::KIND_VARIANTN, index, n, b"", 0, out, starts)
     }
 
     // Closes at the value that starts at `at`: the file's entry is that value, or, if one delta byte does not reach back to it,

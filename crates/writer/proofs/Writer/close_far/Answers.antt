@@ -12,19 +12,19 @@ returns-in_err-fit c = search (rules, far_error)
 
 pub overflow_sub-fit : goal.overflow_sub-fit
 overflow_sub-fit c =
-    let room = far_room _ _ _ _ _ c.if-self-gt0.false _ c.in_ok-fit.ensures _ _ _ c.put_token.ensures in
+    let room = far_room _ _ _ _ _ c.if-self-gt0.false _ c.in_ok-fit.ensures _ _ _ c.write.ensures in
     omega arith
 
 pub overflow_cast-fit : goal.overflow_cast-fit
 overflow_cast-fit c =
-    let room = far_room _ _ _ _ _ c.if-self-gt0.false _ c.in_ok-fit.ensures _ _ _ c.put_token.ensures in
+    let room = far_room _ _ _ _ _ c.if-self-gt0.false _ c.in_ok-fit.ensures _ _ _ c.write.ensures in
     omega arith
 
 pub write_delta-requires : goal.write_delta-requires
 write_delta-requires c =
-    let room = far_room _ _ _ _ _ c.if-self-gt0.false _ c.in_ok-fit.ensures _ _ _ c.put_token.ensures in
+    let room = far_room _ _ _ _ _ c.if-self-gt0.false _ c.in_ok-fit.ensures _ _ _ c.write.ensures in
     room.room
 
 pub returns : goal.returns
 returns c =
-    far_ok _ _ _ _ _ c.if-self-gt0.false _ c.in_ok-fit.ensures _ _ _ c.put_token.ensures _ _ c.write_delta.ensures
+    far_ok _ _ _ _ _ c.if-self-gt0.false _ c.in_ok-fit.ensures _ _ _ c.write.ensures _ _ c.write_delta.ensures

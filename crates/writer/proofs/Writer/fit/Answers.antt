@@ -7,7 +7,7 @@ use Rattle.writer.proofs.Writer.fit.Goals as goal
 pub left-left-requires : goal.left-left-requires
 left-left-requires c =
     let r = rule_row c.args.kind in
-    rw c.requires.1 (r.single, omega (arith, r.unit))
+    rw c.rule_of-row.ensures (r.single, omega (arith, r.unit))
 
 pub returns-then-may_write : goal.returns-then-may_write
 returns-then-may_write c = search fits

@@ -1,1 +1,0 @@
--- `writer_target::named` meets its contract.
