@@ -24,7 +24,6 @@ use Rattle.leb128.specs.declared.Mode.{Mode}
 use Rattle.token.specs.Token.{Token, emit, Fits}
 use Rattle.token.proofs.Laws.{emit_pos}
 use Rattle.scan.specs.Answers.{scan_at}
-use Rattle.scan.specs.declared.ScanResult.TheVariants.{Ok}
 use Rattle.scan.proofs.Places.{head_at, scan_at_emit, scan_at_item}
 use Rattle.values.specs.Values.{Value, tokens, bytes, region, starts, Item, Formed, HasTargets, HasTarget, TargetsEarlier, Values, WellFormed}
 use Rattle.values.specs.Paths.{targets, targets_of, deepest, depths_from, Depth}
@@ -102,8 +101,7 @@ module _ (mode : Mode) (ss ds : List ℕ) where
         → deepest_from mode (p ++ (emit t ++ rest)) ss ds end (depth_state (length p + length (emit t)) (max deep (aim ss ds (length p) t)))
         ≡ deepest_from mode (p ++ (emit t ++ rest)) ss ds end (depth_state (length p) deep)
     token_deep inner done p t rest deep f r lt =
-        deepest_token mode (p ++ (emit t ++ rest)) ss ds end (length p) deep _ refl lt (Ok (head_at (length p) t)) (by_cases inner f)
-        (head_at (length p) t) refl _ _
+        deepest_token mode (p ++ (emit t ++ rest)) ss ds end (length p) deep _ refl lt (head_at (length p) t) (by_cases inner f) _ _
         (sym (target_depth_is done (length p) t r)) refl
       where
         by_cases : (inner : Bool) → Fits mode inner t rest → ok (head_at (length p) t) ≡ scan_at mode false (p ++ (emit t ++ rest)) (length p)
