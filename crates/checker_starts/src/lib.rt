@@ -45,7 +45,8 @@ fn walk(region: Region, starts: &mut [u32], blocks: &mut [u32]) -> Result<usize,
 }
 
 // Lists the starts of a region's values in the first words of the table, and returns how many they are. A short region has few
-// blocks: for a small file, clearing the large array would take longer than the walk.
+// blocks: for a small file, clearing the large array would take longer than the walk. No function lends blocks to a closure: a
+// proof would know nothing of what the closure leaves in `starts`.
 pub fn list_starts(region: Region, starts: &mut [u32]) -> Result<usize, Error>
     requires { length region.bytes.now < LIMIT }
     ensures { (list_answer result starts.new ≡ starts_from region.entry.mode region.entry.bytes.now (length starts.old) (between 0 []))

