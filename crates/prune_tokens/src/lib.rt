@@ -9,9 +9,5 @@ pub fn target(at: usize, n: u64) -> u32
     requires { at < LIMIT }
     ensures { (result ≡ at - n - 1) × (result < LIMIT) }
 {
-    let q = at as u64;
-    if n < q {
-        return (q - n - 1) as u32;
-    }
-    0
+    (at as u64).saturating_sub(n).saturating_sub(1) as u32
 }
