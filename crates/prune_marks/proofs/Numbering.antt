@@ -10,8 +10,13 @@ use native.Mathlib.Numerals.{add-one}
 use native.Mathlib.Omega.{arith}
 use borrow.Author.Tests.{eq-eqb, ne_eqb}
 use lib.Dec.{eqb, leb}
-use lib.ListN.{length, take, drop, get_or, set, length-map, get_or-map}
-use lib.Seq.{map-set_same, take-suc, length-take-le, get_or-drop, drop_at, get_or-set_other, sets, sets-eq}
+use lib.ListN.{length, take, drop, get_or, set, length-map, length-take, get_or-map}
+use Rattle.std.specs.Prelude.{cond}
+use Rattle.std.specs.List.{count_by}
+use Rattle.std.proofs.lemmas.List.{take-map}
+use Rattle.std.proofs.lemmas.List.Recursion.{is_count_by}
+use Rattle.std.proofs.lemmas.List.Sums.{sum_by-append, count_by-le-length}
+use lib.Seq.{map-set_same, take-suc, take-add, length-take-le, get_or-drop, drop_at, get_or-set_other, sets, sets-eq}
 use Rattle.prelude.specs.Pick.{pick}
 use Rattle.prelude.proofs.Tests.{split}
 use Rattle.prune_marks.specs.Marks.{starts_in, is_marked, marks_in, kept, digit, four, NumberedTo, Numbers}
@@ -37,6 +42,29 @@ pub kept_on : (t : List ℕ) (i : ℕ) → i < length t → kept (take (i + 1) (
 kept_on t i h =
     rw (add-one i, take-suc (marks_in t) i false (rw (length-map t is_marked) h), mark_at t i)
     (kept_snoc (take i (marks_in t)) (is_marked (get_or t i 0)) ∙ ap (λ n. kept (take i (marks_in t)) + n) (mark_bit (get_or t i 0)))
+
+kept_by : (b : Bool) (n : ℕ) → pick b 1 0 + n ≡ cond b (1 + n) n
+kept_by true n = refl
+kept_by false n = omega arith
+
+kept_is : (t : List ℕ) → kept (marks_in t) ≡ count_by is_marked t
+unfolding kept
+kept_is t = is_count_by (λ u. kept (marks_in u)) is_marked refl (λ w u. kept_by (is_marked w) (kept (marks_in u))) t
+
+pub kept_first : (t : List ℕ) (i n : ℕ) → n ≡ count_by is_marked (take i t) → n ≡ kept (take i (marks_in t))
+kept_first t i n e = e ∙ rw take-map (sym (kept_is (take i t)))
+
+-- n of the words from number i on, before number j, are marked
+module _ (t : List ℕ) (i j n : ℕ) (between : i ≤ j) (e : n ≡ count_by is_marked (take (j - i) (drop i t))) where
+  pub kept_to : kept (take i (marks_in t)) + n ≡ kept (take j (marks_in t))
+  kept_to =
+      let all : i + (j - i) ≡ j = omega arith in
+      let words : take j t ≡ take i t ++ take (j - i) (drop i t) = rw all at (take-add i (j - i) t) in
+      rw (take-map is_marked i t, take-map is_marked j t, kept_is (take i t), kept_is (take j t), words, e)
+      (sym (sum_by-append (λ w. cond (is_marked w) 1 0) (take i t) (take (j - i) (drop i t))))
+
+  pub count_le : n ≤ j - i
+  count_le = rw e (omega (arith, count_by-le-length is_marked (take (j - i) (drop i t)), length-take {A = ℕ}))
 
 -- ---- digits stored
 

@@ -7,51 +7,27 @@ use mathlib.Core.Bool.{true, false}
 use mathlib.Core.List.{List, [], ◌∷◌, ◌++◌, map, append-nil}
 use Prim.Native.Nat.{ℕ, zero, suc, ◌+◌, ◌-◌, ◌*◌, ◌/◌, ◌%◌, ◌^◌, ◌≤◌, ◌<◌}
 use native.Mathlib.Nat.{mul-le-mul}
-use native.Mathlib.Numerals.{add-one}
 use native.Mathlib.Omega.{arith}
 use borrow.Author.Tests.{eq-eqb, ne_eqb}
-use lib.ListN.{length, take, drop, get_or, set, replicate, length-set, length-drop, length-map, drop_of_length-le, get_or-map}
+use lib.ListN.{length, take, drop, get_or, set, replicate, length-drop, length-map, drop_of_length-le, get_or-map}
 use lib.Seq.{map-set_same, length-take-le, take_all, get_or-take, get_or-drop}
+use Rattle.std.proofs.lemmas.List.{get_or_default}
+use Rattle.std.proofs.lemmas.List.Edits.{map_over_more}
 use Rattle.prelude.specs.Search.{rank, Rising}
 use Rattle.prelude.proofs.Searches.{rank_le, rank_is, rank_below, rank_above}
-use Rattle.table.specs.Blocks.{BLOCK, Counted, Below}
-use Rattle.prune_marks.specs.Marks.{starts_in, is_marked, marks_in}
+use Rattle.table.specs.Blocks.{Below}
+use Rattle.table.proofs.Blocks.{low_block, high_block}
+use Rattle.prune_marks.specs.Marks.{starts_in, is_marked, marks_in, Indexed}
 
 -- ---- every word changed
 
 -- t is d with its first i words changed by f
-pub record Changed (f : ℕ → ℕ) (d t : List ℕ) (i : ℕ) : Type 0 where
-  pub inside : i ≤ length d
-  pub long : length t ≡ length d
-  pub words : t ≡ map f (take i d) ++ drop i d
+module _ (f : ℕ → ℕ) (d t : List ℕ) (i : ℕ) (e : t ≡ map f (take i d) ++ drop i d) where
+  pub changed_on : i < length d → length t ≡ length d → set t i (f (get_or t i 0)) ≡ map f (take (i + 1) d) ++ drop (i + 1) d
+  changed_on h long = map_over_more f d t i (get_or t i 0) h e (get_or_default t i 0 (get_or t i 0) (omega arith))
 
-pub changed_none : (f : ℕ → ℕ) (d : List ℕ) → Changed f d d 0
-changed_none f d = record { inside = omega arith; long = refl; words = refl }
-
-module _ (f : ℕ → ℕ) where
-  get_d_changed : (i : ℕ) (d : List ℕ) → get_or (map f (take i d) ++ drop i d) i 0 ≡ get_or d i 0
-  get_d_changed zero d = refl
-  get_d_changed (suc i) [] = refl
-  get_d_changed (suc i) (x ∷ d) = get_d_changed i d
-
-  set_changed : (i : ℕ) (d : List ℕ) → i < length d → set (map f (take i d) ++ drop i d) i (f (get_or d i 0)) ≡ map f (take (suc i) d) ++ drop (suc i) d
-  set_changed i [] h = absurd (omega arith)
-  set_changed zero (x ∷ d) h = refl
-  set_changed (suc i) (x ∷ d) h = ap (λ l. f x ∷ l) (set_changed i d (omega arith))
-
-module _ (f : ℕ → ℕ) (d t : List ℕ) (i : ℕ) (c : Changed f d t i) where
-  pub unchanged : get_or t i 0 ≡ get_or d i 0
-  unchanged = rw c.words (get_d_changed f i d)
-
-  pub changed_on : i < length t → Changed f d (set t i (f (get_or t i 0))) (i + 1)
-  changed_on h = record {
-    inside = omega (arith, c.long);
-    long = length-set t i _ ∙ c.long;
-    words = rw (unchanged, c.words, add-one i) (set_changed f i d (omega (arith, c.long)));
-  }
-
-  pub changed_all : length t ≤ i → t ≡ map f d
-  changed_all h = let all : length d ≤ i = omega (arith, c.long) in c.words ∙ rw (take_all i d all, drop_of_length-le d all, append-nil)
+  pub changed_all : length d ≤ i → t ≡ map f d
+  changed_all h = e ∙ rw (take_all i d h, drop_of_length-le d h, append-nil)
 
 -- ---- starts packed; a mark set
 
@@ -90,33 +66,49 @@ start_le m t i r e below h = omega (arith, below i (omega (arith, length-map t (
 pub rank_fits : (x : ℕ) (t : List ℕ) → rank x (starts_in t) ≤ length t
 rank_fits x t = rw (← length-map t (λ w. w / 256)) (rank_le x (starts_in t))
 
-pub start_fits : (blocks t : List ℕ) (b : ℕ) → Counted blocks (starts_in t) → b < length blocks → get_or blocks b 0 ≤ length t
-start_fits blocks t b counted h = rw (counted b h) (rank_fits (b * BLOCK) t)
+-- the rank is one of lo to hi
+pub record Between (blocks t : List ℕ) (x lo hi : ℕ) : Type 0 where
+  pub rising : Rising (starts_in t)
+  pub low : lo ≤ rank x (starts_in t)
+  pub high : rank x (starts_in t) ≤ hi
+  pub order : lo ≤ hi
+  pub fits : hi ≤ length t
+
+-- by the blocks that count the starts
+pub between : (blocks t : List ℕ) (x lo hi : ℕ) → Indexed t blocks → lo ≡ get_or blocks (x / 4096) 0 → hi ≡ get_or blocks (x / 4096 + 1) (length t)
+    → Between blocks t x lo hi
+between blocks t x lo hi i e g =
+    let n = length-map t (λ w. w / 256) in
+    let l = low_block blocks (starts_in t) x i.rising i.counted in
+    let h = high_block blocks (starts_in t) x i.rising i.counted in
+    let top : hi ≡ get_or blocks (x / 4096 + 1) (length (starts_in t)) = rw n g in
+    record { rising = i.rising; low = omega arith; high = omega arith; order = omega arith; fits = omega arith }
 
 -- by the words from lo to hi
-module _ (t : List ℕ) (lo hi : ℕ) (up : Rising (starts_in t)) (fits : hi ≤ length t) where
+module _ (blocks t : List ℕ) (x lo hi : ℕ) (b : Between blocks t x lo hi) where
   abbrev pub part : List ℕ
   part = take (hi - lo) (drop lo t)
 
-  part_long : lo ≤ hi → length part ≡ hi - lo
-  part_long h = length-take-le (hi - lo) (drop lo t) (omega (arith, length-drop lo t))
+  part_long : length part ≡ hi - lo
+  part_long = length-take-le (hi - lo) (drop lo t) (omega (arith, length-drop lo t))
 
   part_at : (k : ℕ) → k < hi - lo → get_or part k 0 ≡ get_or t (lo + k) 0
   part_at k h = get_or-take (hi - lo) (drop lo t) k 0 h ∙ get_or-drop lo t k 0
 
-  pub part_rising : lo ≤ hi → Rising part
-  part_rising h i j l m =
-      let n = part_long h in
-      let r = up (lo + i) (lo + j) (omega arith) (omega (arith, length-map t (λ w. w / 256))) in
+  pub part_rising : Rising part
+  part_rising i j l m =
+      let n = part_long in
+      let order = b.order in
+      let r = b.rising (lo + i) (lo + j) (omega arith) (omega (arith, length-map t (λ w. w / 256))) in
       omega (arith, part_at i (omega arith), part_at j (omega arith), start_at t (lo + i), start_at t (lo + j))
 
-  pub rank_part : (x r : ℕ) → r ≡ rank (256 * x) part → lo ≤ rank x (starts_in t) → rank x (starts_in t) ≤ hi → lo + r ≡ rank x (starts_in t)
-  rank_part x r e l h =
-      let n = part_long (omega arith) in
+  pub rank_part : (r : ℕ) → r ≡ rank (256 * x) part → lo + r ≡ rank x (starts_in t)
+  rank_part r e =
+      let n = part_long in
       let same = length-map t (λ w. w / 256) in
       let is = rank_is (256 * x) part (rank x (starts_in t) - lo) (omega arith)
-      (λ k m. omega (arith, part_at k (omega arith), start_at t (lo + k), rank_below x (starts_in t) up (lo + k) (omega arith)))
-      (λ k m b. omega (arith, part_at k (omega arith), start_at t (lo + k), rank_above x (starts_in t) up (lo + k) (omega arith) (omega arith))) in
+      (λ k m. omega (arith, part_at k (omega arith), start_at t (lo + k), rank_below x (starts_in t) b.rising (lo + k) (omega arith)))
+      (λ k m q. omega (arith, part_at k (omega arith), start_at t (lo + k), rank_above x (starts_in t) b.rising (lo + k) (omega arith) (omega arith))) in
       omega (arith, is)
 
 -- an offset in a block, times the starts in it

@@ -2,11 +2,11 @@
 // 1 if it is marked. The digits of four words keep how many words are marked up to them and with them.
 #![tactic(auto)]
 
-ghost use Rattle.std.specs.Prelude.{◌≡◌, true, false, [], ◌∷◌, suc, ◌+◌, ◌*◌, ◌%◌, ◌≤◌, ◌<◌, ◌^◌, leb, length, take, get_or, set, replicate};
+ghost use Rattle.std.specs.Prelude.{◌≡◌, true, false, [], ◌∷◌, suc, ◌+◌, ◌*◌, ◌%◌, ◌≤◌, ◌<◌, ◌^◌, leb, length, take, get_or, set, replicate, count_by};
 ghost use Rattle.prelude.specs.Pick.{pick};
 ghost use Rattle.prelude.specs.Search.{rank, Rising};
 ghost use Rattle.table.specs.Blocks.{Counted, Below};
-ghost use Rattle.prune_marks.specs.Marks.{starts_in, marks_in, kept, digit, four, NumberedTo, Indexed, Numbers};
+ghost use Rattle.prune_marks.specs.Marks.{starts_in, is_marked, marks_in, kept, digit, four, NumberedTo, Indexed, Numbers};
 ghost use Rattle.prune_marks.specs.Internal.{digits_of, Digits};
 
 // Makes each start a word without a mark.
@@ -14,10 +14,8 @@ pub fn pack(t: &mut [u32])
     requires { Below (2 ^ 24) t.old }
     ensures { (starts_in t.new ≡ t.old) × (marks_in t.new ≡ replicate (length t.old) false) }
 {
-    let mut i = 0;
-    while i < t.len() {
-        t[i] = t[i] * 256;
-        i += 1;
+    for word in t.iter_mut() {
+        *word *= 256;
     }
 }
 
@@ -25,10 +23,8 @@ pub fn pack(t: &mut [u32])
 pub fn unpack(t: &mut [u32])
     ensures { t.new ≡ starts_in t.old }
 {
-    let mut i = 0;
-    while i < t.len() {
-        t[i] = t[i] / 256;
-        i += 1;
+    for word in t.iter_mut() {
+        *word /= 256;
     }
 }
 
@@ -45,11 +41,10 @@ pub fn end_of(t: &[u32], i: usize, len: usize) -> usize
     requires { i < length t.now }
     ensures { result ≡ get_or (starts_in t.now) (suc i) len }
 {
-    let next = i + 1;
-    if next < t.len() {
-        return start_of(t, next);
+    match t.get(i + 1) {
+        Some(&next) => (next / 256) as usize,
+        None => len,
     }
-    len
 }
 
 // Whether word number i is marked.
@@ -64,34 +59,10 @@ pub fn is_marked(t: &[u32], i: usize) -> bool
 pub fn set_mark(t: &mut [u32], i: usize)
     ensures { (starts_in t.new ≡ starts_in t.old) × (marks_in t.new ≡ set (marks_in t.old) i true) }
 {
-    if t.len() <= i {
-        return;
+    // not `get_mut`, after which a proof knows the table's length alone
+    if i < t.len() {
+        t[i] = t[i] / 2 * 2 + 1;
     }
-    t[i] = t[i] / 2 * 2 + 1;
-}
-
-// An index at most the rank: how many starts come before x's block, if that is counted, else the beginning.
-fn low(t: &[u32], blocks: &[u32], x: u32) -> usize
-    requires { (Rising (starts_in t.now)) × (Counted blocks.now (starts_in t.now)) }
-    ensures { result ≤ rank x (starts_in t.now) }
-{
-    let b = (x / table::BLOCK_WORD) as usize;
-    if b < blocks.len() {
-        return blocks[b] as usize;
-    }
-    0
-}
-
-// An index at least the rank: how many starts come before the block after x's, if that is counted, else the end.
-fn high(t: &[u32], blocks: &[u32], x: u32) -> usize
-    requires { (Rising (starts_in t.now)) × (Counted blocks.now (starts_in t.now)) }
-    ensures { (rank x (starts_in t.now) ≤ result) × (result ≤ length t.now) }
-{
-    let b = (x / table::BLOCK_WORD) as usize + 1;
-    if b < blocks.len() {
-        return blocks[b] as usize;
-    }
-    t.len()
 }
 
 // Where x would be among the n starts of its block, if they were as far from each other.
@@ -108,23 +79,16 @@ pub fn find(t: &[u32], blocks: &[u32], x: u32) -> usize
     requires { (Indexed t.now blocks.now) × (x < 2 ^ 24) }
     ensures { result ≡ rank x (starts_in t.now) }
 {
-    let lo = low(t, blocks, x);
-    let hi = high(t, blocks, x);
+    let lo = table_search::low(blocks, x);
+    let hi = table_search::high(blocks, t.len(), x);
     lo + table_search::rank_near(&t[lo..hi], guess(hi - lo, x), 256 * x)
 }
 
-// How many words are marked from number `from` on, before number `to`.
-fn count(t: &[u32], from: usize, to: usize) -> usize
-    requires { (from ≤ to) × (to ≤ length t.now) }
-    ensures { (kept (take from (marks_in t.now)) + result ≡ kept (take to (marks_in t.now))) × (from + result ≤ to) }
+// How many words are marked.
+fn count(words: &[u32]) -> usize
+    ensures { result ≡ count_by is_marked words.now }
 {
-    let mut r: usize = 0;
-    let mut i = from;
-    while i < to {
-        r = r + (t[i] % 2) as usize;
-        i += 1;
-    }
-    r
+    words.iter().filter(|word| **word % 2 == 1).count()
 }
 
 // Stores the digit d in word number i.
@@ -151,13 +115,11 @@ pub fn number(t: &mut [u32])
     requires { length t.old < 2 ^ 28 }
     ensures { Numbers t.old t.new }
 {
-    let groups = t.len() / 4;
-    let mut g: usize = 0;
     let mut k: usize = 0;
-    while g < groups {
-        k = k + count(t, 4 * g, 4 * g + 4);
+    // not `chunks_exact_mut`, after which a proof knows the table's length alone
+    for g in 0..t.len() / 4 {
+        k += count(&t[4 * g..4 * g + 4]);
         set_four(t, 4 * g, k as u32);
-        g += 1;
     }
 }
 
@@ -180,22 +142,12 @@ fn number_at(t: &[u32], i: usize) -> usize
         + 2097152 * digit_at(t, i + 3)
 }
 
-// 1 if j is at least r, else 0.
-fn at_least(j: usize, r: usize) -> usize
-    ensures { (result ≡ pick (leb r j) 1 0) × (result ≤ 1) }
-{
-    if j < r {
-        return 0;
-    }
-    1
-}
-
 // 1 if word number i is marked and j is at least r, else 0: a product, so that nothing depends on a branch prediction.
 fn mark_from(t: &[u32], i: usize, j: usize, r: usize) -> usize
     requires { i < length t.now }
     ensures { (result ≡ get_or t.now i 0 % 2 * pick (leb r j) 1 0) × (result ≤ 1) }
 {
-    (t[i] % 2) as usize * at_least(j, r)
+    (t[i] % 2) as usize * usize::from(r <= j)
 }
 
 // How many of the four words from number i on are marked, without the first r.
@@ -216,10 +168,10 @@ fn place_at_end(t: &[u32], i: usize) -> usize
     ensures { result ≡ kept (take i (marks_in t.now)) }
 {
     if i < 4 {
-        return count(t, 0, i);
+        return count(&t[..i]);
     }
     let g = i / 4;
-    number_at(t, 4 * (g - 1)) + count(t, 4 * g, i)
+    number_at(t, 4 * (g - 1)) + count(&t[4 * g..i])
 }
 
 // How many words are marked before number i: the number that i's own four words keep, less their marks from i on.

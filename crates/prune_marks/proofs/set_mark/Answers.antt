@@ -7,8 +7,8 @@ use Rattle.prune_marks.specs.Marks.{is_marked}
 use Rattle.prune_marks.proofs.Words.{same_starts, set_marks}
 use Rattle.prune_marks.proofs.set_mark.Goals as goal
 
-pub returns-then-t-i : goal.returns-then-t-i
-returns-then-t-i c = (refl, sym (set_out _ _ _ (rw (length-map _ is_marked) (omega arith))))
+pub returns-then-i-t : goal.returns-then-i-t
+returns-then-i-t c = let t = c.args.t.now in (same_starts t _ _ (omega arith), set_marks t _ _ (omega arith))
 
-pub returns : goal.returns
-returns c = let t = c.args.t.now in (same_starts t _ _ (omega arith), set_marks t _ _ (omega arith))
+pub returns-else-i-t : goal.returns-else-i-t
+returns-else-i-t c = (refl, sym (set_out _ _ _ (rw (length-map _ is_marked) (omega arith))))
