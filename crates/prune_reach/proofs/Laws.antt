@@ -18,8 +18,7 @@ use Rattle.table.specs.Blocks.{Below}
 use Rattle.leb128.specs.declared.Mode.TheVariants.{Strict}
 use Rattle.scan.specs.Answers.{answer_of, scan_at}
 use Rattle.scan.specs.declared.Head.{Head}
-use Rattle.scan.specs.declared.ScanResult.{ScanResult}
-use Rattle.scan.specs.declared.ScanResult.TheVariants.{Ok, Err}
+use Rattle.std.specs.Prelude.{Result, Ok, Err}
 use Rattle.prune_tokens.specs.Tokens.{heads, heads_of}
 use Rattle.prune_tokens.proofs.Heads.{heads_end, heads_error, heads_token}
 use Rattle.prune_marks.specs.Marks.{starts_in, marks_in, Indexed}
@@ -48,7 +47,7 @@ module _ (s ss : List ℕ) (end at : ℕ) (ms x : List Bool) (so : marked (aims 
   unfolding marked aims
   marks_end h = rw (heads_end s end at h) at so
 
-  module _ (more : at < end) (r : ScanResult) (reported : answer_of r ≡ scan_at Strict false s at) where
+  module _ (more : at < end) (r : Result Head Error) (reported : answer_of r ≡ scan_at Strict false s at) where
     pub marks_error : (f : Error) → r ≡ Err f → ms ≡ x
     unfolding marked aims
     marks_error f is = let e : scan_at Strict false s at ≡ error (errors.fault_of f) = sym (rw is at reported) in rw (heads_error s end at _ more e) at so

@@ -26,6 +26,8 @@ fn mark_target(t: &mut [u32], blocks: &[u32], at: usize, h: Head)
 }
 
 // Marks what the tokens from `start` to `end` name.
+// The table is written between reads of it. A struct that held it would be no plainer: each method would have to ensure that it still holds the
+// same table. So region, table and blocks are parameters.
 fn mark_targets(region: &[u8], t: &mut [u32], blocks: &[u32], start: usize, end: usize)
     requires { (Indexed t.old blocks.now) × (start ≤ length region.now) × (length region.now < LIMIT) }
     ensures { (starts_in t.new ≡ starts_in t.old)
