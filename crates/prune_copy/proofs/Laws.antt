@@ -23,14 +23,12 @@ use Rattle.token.specs.Token.{Token, token}
 use Rattle.scan.specs.Answers as scans
 use Rattle.scan.specs.Answers.{scan_at, body_on}
 use Rattle.scan.specs.declared.Head.{Head}
-use Rattle.scan.specs.declared.ScanResult.{ScanResult}
-use Rattle.scan.specs.declared.ScanResult.TheVariants.{Ok, Err}
+use Rattle.std.specs.Prelude.{Result, Ok, Err}
 use Rattle.scan.proofs.Places.{scan_within}
 use Rattle.writer_refusal.specs.declared.State.{State}
-use Rattle.writer.specs.Step.{Result, result, put_moved}
+use Rattle.writer.specs.Step as step
+use Rattle.writer.specs.Step.{result, put_moved}
 use Rattle.writer.specs.Answers.{wrote}
-use Rattle.writer.specs.declared.WriteAnswer.TheVariants as answers
-use Rattle.writer.specs.declared.WriteResult.{WriteResult}
 use Rattle.prune_tokens.specs.Tokens.{heads, heads_of}
 use Rattle.prune_tokens.proofs.Heads.{heads_end, heads_error, heads_token}
 use Rattle.prune_marks.specs.Marks.{starts_in, marks_in, kept}
@@ -57,14 +55,14 @@ moved_any t k w out table = by_cases (leb 14 t.kind) refl
     by_cases true e = refl
     by_cases false e = rw e
 
-pub token_copied : (s : List ℕ) (h : Head) (a : ℕ) (b : List ℕ) (j k : ℕ) (w : State) (out table : List ℕ) (r : Result)
+pub token_copied : (s : List ℕ) (h : Head) (a : ℕ) (b : List ℕ) (j k : ℕ) (w : State) (out table : List ℕ) (r : step.Result)
     → a ≡ pick (rule h.kind).args h.items 0 → b ≡ body_on s h → j ≡ pick (leb 14 h.kind) k 0
     → r ≡ put_moved (token h.kind h.n a b) j w out table → r ≡ put_moved (token_of s h) k w out table
 token_copied s h a b j k w out table r ea eb ej e = (rw (ea, eb, ej) at e) ∙ moved_any (token_of s h) k w out table
 
 -- ---- the tokens of a value
 
-module _ (s : List ℕ) (at : ℕ) (r : ScanResult) (reported : scans.answer_of r ≡ scan_at Strict false s at) (h : Head) (is : r ≡ Ok h) where
+module _ (s : List ℕ) (at : ℕ) (r : Result Head Error) (reported : scans.answer_of r ≡ scan_at Strict false s at) (h : Head) (is : r ≡ Ok h) where
   pub head_in : HeadIn s h
   head_in = let w = scan_within Strict false s at h (rw is at reported) in record { kind = used_lt h.kind w.used; body = w.body; end = w.end }
 
@@ -72,36 +70,36 @@ module _ (s : List ℕ) (at : ℕ) (r : ScanResult) (reported : scans.answer_of 
   head_before short = let w = scan_within Strict false s at h (rw is at reported) in omega (arith, w.numbers, w.body, w.end)
 
 -- x is the result that is looked for
-module _ (s ss : List ℕ) (ms : List Bool) (end at : ℕ) (w : State) (out table : List ℕ) (x : Result)
+module _ (s ss : List ℕ) (ms : List Bool) (end at : ℕ) (w : State) (out table : List ℕ) (x : step.Result)
     (so : copy_tokens s ss ms (heads s end at) w out table ≡ x) where
   pub copy_end : end ≤ at → result (ok tt) w out table ≡ x
   unfolding copy_tokens
   copy_end h = rw (heads_end s end at h) at so
 
-  module _ (more : at < end) (r : ScanResult) (reported : scans.answer_of r ≡ scan_at Strict false s at) where
+  module _ (more : at < end) (r : Result Head Error) (reported : scans.answer_of r ≡ scan_at Strict false s at) where
     pub copy_error : (f : Error) → r ≡ Err f → result (ok tt) w out table ≡ x
     unfolding copy_tokens
     copy_error f is = let e : scan_at Strict false s at ≡ error (errors.fault_of f) = sym (rw is at reported) in rw (heads_error s end at _ more e) at so
 
-    module _ (h : Head) (is : r ≡ Ok h) (v : WriteResult) (o t : List ℕ)
-        (e : wrote v o t ≡ put_moved (token_of s h) (kept (take (rank (at - h.n - 1) ss) ms)) w out table) where
-      copied : and_on (wrote v o t) (copy_tokens s ss ms (heads s end h.end)) ≡ x
+    module _ (h : Head) (is : r ≡ Ok h) (v : Result (Unit {0}) ErrorKind) (next : State) (o t : List ℕ)
+        (e : wrote v next o t ≡ put_moved (token_of s h) (kept (take (rank (at - h.n - 1) ss) ms)) w out table) where
+      copied : and_on (wrote v next o t) (copy_tokens s ss ms (heads s end h.end)) ≡ x
       unfolding copy_tokens
       copied =
           let read : ok h ≡ scan_at Strict false s at = rw is at reported in
           ap (λ q. and_on q (copy_tokens s ss ms (heads s end h.end))) e ∙ (rw (heads_token s end at h more read) at so)
 
-      pub copy_refused : (f : ErrorKind) → v.answer ≡ answers.Err f → wrote v o t ≡ x
-      copy_refused f last = rw last (rw last at copied)
+      pub copy_refused : (f : ErrorKind) → v ≡ Err f → wrote (Err f) next o t ≡ x
+      copy_refused f last = rw last at copied
 
-      pub copy_on : v.answer ≡ answers.Ok → copy_tokens s ss ms (heads s end h.end) v.writer.state o t ≡ x
-      copy_on accepted = rw accepted at copied
+      pub copy_on : (u : Unit {0}) → v ≡ Ok u → copy_tokens s ss ms (heads s end h.end) next o t ≡ x
+      copy_on u accepted = rw accepted at copied
 
 -- ---- a value
 
 module _ (s t : List ℕ) (i : ℕ) where
-  module _ (b : Bool) (is : b ≡ get_or (marks_in t) i false) (w : State) (out table : List ℕ) (r : Result) where
-    abbrev value_copied : Result
+  module _ (b : Bool) (is : b ≡ get_or (marks_in t) i false) (w : State) (out table : List ℕ) (r : step.Result) where
+    abbrev value_copied : step.Result
     value_copied = pick (get_or (marks_in t) i false) (copy_tokens s (starts_in t) (marks_in t) (heads_of s (starts_in t) i) w out table) (result (ok tt) w out table)
 
     pub value_is_copied : b ≡ true → (start end : ℕ) → start ≡ get_or (starts_in t) i 0 → end ≡ get_or (starts_in t) (suc i) (length s)
@@ -115,19 +113,19 @@ module _ (s t : List ℕ) (i : ℕ) where
 -- ---- values
 
 -- a value that is passed over leaves what was there
-and_pick : (b : Bool) (r : Result) (w : State) (out table : List ℕ) (f : State → List ℕ → List ℕ → Result)
+and_pick : (b : Bool) (r : step.Result) (w : State) (out table : List ℕ) (f : State → List ℕ → List ℕ → step.Result)
     → and_on (pick b r (result (ok tt) w out table)) f ≡ pick b (and_on r f) (f w out table)
 and_pick true r w out table f = refl
 and_pick false r w out table f = refl
 
-module _ (s ss : List ℕ) (ms : List Bool) (n i : ℕ) (w : State) (out table : List ℕ) (x : Result) (so : copy_values s ss ms (n - i) i w out table ≡ x) where
+module _ (s ss : List ℕ) (ms : List Bool) (n i : ℕ) (w : State) (out table : List ℕ) (x : step.Result) (so : copy_values s ss ms (n - i) i w out table ≡ x) where
   pub values_end : n ≤ i → result (ok tt) w out table ≡ x
   unfolding copy_values
   values_end h = let none : n - i ≡ 0 = omega arith in rw none at so
 
-  module _ (more : i < n) (v : WriteResult) (o t : List ℕ)
-      (e : wrote v o t ≡ pick (get_or ms i false) (copy_tokens s ss ms (heads_of s ss i) w out table) (result (ok tt) w out table)) where
-    copied_value : and_on (wrote v o t) (copy_values s ss ms (n - (i + 1)) (i + 1)) ≡ x
+  module _ (more : i < n) (v : Result (Unit {0}) ErrorKind) (next : State) (o t : List ℕ)
+      (e : wrote v next o t ≡ pick (get_or ms i false) (copy_tokens s ss ms (heads_of s ss i) w out table) (result (ok tt) w out table)) where
+    copied_value : and_on (wrote v next o t) (copy_values s ss ms (n - (i + 1)) (i + 1)) ≡ x
     unfolding copy_values
     copied_value =
         let left : n - i ≡ suc (n - (i + 1)) = omega arith in
@@ -135,8 +133,8 @@ module _ (s ss : List ℕ) (ms : List Bool) (n i : ℕ) (w : State) (out table :
         ∙ and_pick (get_or ms i false) (copy_tokens s ss ms (heads_of s ss i) w out table) w out table (copy_values s ss ms (n - (i + 1)) (i + 1))
         ∙ (rw (left, ← add-one i) at so)
 
-    pub values_refused : (f : ErrorKind) → v.answer ≡ answers.Err f → wrote v o t ≡ x
-    values_refused f last = rw last (rw last at copied_value)
+    pub values_refused : (f : ErrorKind) → v ≡ Err f → wrote (Err f) next o t ≡ x
+    values_refused f last = rw last at copied_value
 
-    pub values_on : v.answer ≡ answers.Ok → copy_values s ss ms (n - (i + 1)) (i + 1) v.writer.state o t ≡ x
-    values_on accepted = rw accepted at copied_value
+    pub values_on : (u : Unit {0}) → v ≡ Ok u → copy_values s ss ms (n - (i + 1)) (i + 1) next o t ≡ x
+    values_on u accepted = rw accepted at copied_value

@@ -20,16 +20,16 @@ use leb128::Mode;
 use scan::Head;
 use writer::Writer;
 
-// The number that the target of the token with head h at `at` gets; 0 if it has none.
-fn new_number(t: &[u32], blocks: &[u32], at: usize, h: Head) -> usize
-    requires { (Ready t.now blocks.now) × (at < LIMIT) }
-    ensures { result ≡ pick (leb 14 h.kind) (kept (take (rank (at - h.n - 1) (starts_in t.now)) (marks_in t.now))) 0 }
-{
-    if kind::KIND_REFERENCE <= h.kind {
-        let i = prune_marks::find(t, blocks, prune_tokens::target(at, h.n));
-        return prune_marks::place(t, i);
-    }
-    0
+// The values of a region, ready to be written again: `words` keep where they start and which are marked, and are numbered; `blocks` count
+// the starts.
+#[derive(Clone, Copy)]
+pub struct Values<'a> {
+    pub region: &'a [u8],
+    pub words: &'a [u32],
+    pub blocks: &'a [u32],
+    ghost ready: { Ready words.now blocks.now },
+    ghost inside: { Below (length region.now) (starts_in words.now) },
+    ghost short: { length region.now < LIMIT },
 }
 
 // The argument count of a token with head h; 0 if its kind has none.
@@ -37,100 +37,109 @@ fn argument_count(h: Head) -> u64
     requires { h.kind < 16 }
     ensures { result ≡ pick (rule h.kind).args h.items 0 }
 {
-    let rule = kind::rule_of(h.kind);
-    if rule.args {
+    if kind::rule_of(h.kind).args {
         return h.items;
     }
     0
 }
 
-// Writes or refuses the token with head h at `at`.
-fn copy_token(
-    region: &[u8],
-    t: &[u32],
-    blocks: &[u32],
-    at: usize,
-    h: Head,
-    writer: &mut Writer,
-    out: &mut [u8],
-    new: &mut [u32],
-) -> Result<(), ErrorKind>
-    requires { (Ready t.now blocks.now) × (at < LIMIT) × (HeadIn region.now h) }
-    ensures { wrote result writer.new.state out.new new.new ≡ put_moved (token_of region.now h)
-        (kept (take (rank (at - h.n - 1) (starts_in t.now)) (marks_in t.now))) writer.old.state out.old new.old }
-{
-    let number = new_number(t, blocks, at, h);
-    let args = argument_count(h);
-    writer.put_moved(h.kind, h.n, args, &region[h.first..h.end], number, out, new)
-}
-
-// Writes the tokens from `start` to `end`, up to the first that is refused.
-fn copy_tokens(
-    region: &[u8],
-    t: &[u32],
-    blocks: &[u32],
-    start: usize,
-    end: usize,
-    writer: &mut Writer,
-    out: &mut [u8],
-    new: &mut [u32],
-) -> Result<(), ErrorKind>
-    requires { (Ready t.now blocks.now) × (start ≤ length region.now) × (length region.now < LIMIT) }
-    ensures { wrote result writer.new.state out.new new.new ≡ copy_tokens region.now (starts_in t.now) (marks_in t.now)
-        (heads region.now end start) writer.old.state out.old new.old }
-{
-    let mut at = start;
-    while at < end {
-        let Ok(h) = scan::scan(region, at, false, Mode::Strict) else {
-            return Ok(());
-        };
-        copy_token(region, t, blocks, at, h, writer, out, new)?;
-        at = h.end;
+// Writer, output and new table are parameters of each method, as of the writer's own calls (document 01, "Writer"). A struct that held them would
+// be no plainer: each method would have to ensure that it still holds the same memory.
+impl Values<'_> {
+    // The number that the target of the token with head h at `at` gets; 0 if it has none.
+    fn new_number(&self, at: usize, h: Head) -> usize
+        requires { at < LIMIT }
+        ensures { result ≡ pick (leb 14 h.kind) (kept (take (rank (at - h.n - 1) (starts_in self.now.words.now)) (marks_in self.now.words.now))) 0 }
+    {
+        if kind::KIND_REFERENCE <= h.kind {
+            let i = prune_marks::find(self.words, self.blocks, prune_tokens::target(at, h.n));
+            return prune_marks::place(self.words, i);
+        }
+        0
     }
-    Ok(())
-}
 
-// Writes value number i if it is marked.
-fn copy_value(
-    region: &[u8],
-    t: &[u32],
-    blocks: &[u32],
-    i: usize,
-    writer: &mut Writer,
-    out: &mut [u8],
-    new: &mut [u32],
-) -> Result<(), ErrorKind>
-    requires { (i < length t.now) × (Ready t.now blocks.now) × (Below (length region.now) (starts_in t.now)) × (length region.now < LIMIT) }
-    ensures { wrote result writer.new.state out.new new.new ≡ pick (get_or (marks_in t.now) i false)
-        (copy_tokens region.now (starts_in t.now) (marks_in t.now)
-        (heads_of region.now (starts_in t.now) i) writer.old.state out.old new.old)
-        (outcome (ok tt) writer.old.state out.old new.old) }
-{
-    if prune_marks::is_marked(t, i) {
-        let start = prune_marks::start_of(t, i);
-        let end = prune_marks::end_of(t, i, region.len());
-        return copy_tokens(region, t, blocks, start, end, writer, out, new);
+    // Writes or refuses the token with head h at `at`.
+    fn copy_token(
+        &self,
+        at: usize,
+        h: Head,
+        writer: &mut Writer,
+        out: &mut [u8],
+        new: &mut [u32],
+    ) -> Result<(), ErrorKind>
+        requires { (at < LIMIT) × (HeadIn self.now.region.now h) }
+        ensures { wrote result writer.new.state out.new new.new ≡ put_moved (token_of self.now.region.now h)
+            (kept (take (rank (at - h.n - 1) (starts_in self.now.words.now)) (marks_in self.now.words.now))) writer.old.state out.old new.old }
+    {
+        let number = self.new_number(at, h);
+        let args = argument_count(h);
+        let body = &self.region[h.first..h.end];
+        writer.put_moved(h.kind, h.n, args, body, number, out, new)
     }
-    Ok(())
-}
 
-// Writes the marked ones of the first n values, up to the first call that is refused. `t` keeps where the values start and which are
-// marked, and is numbered; `blocks` count the starts.
-pub fn copy_values(
-    region: &[u8],
-    t: &[u32],
-    blocks: &[u32],
-    n: usize,
-    writer: &mut Writer,
-    out: &mut [u8],
-    new: &mut [u32],
-) -> Result<(), ErrorKind>
-    requires { (n ≤ length t.now) × (Ready t.now blocks.now) × (Below (length region.now) (starts_in t.now)) × (length region.now < LIMIT) }
-    ensures { wrote result writer.new.state out.new new.new ≡ copy_values region.now (starts_in t.now) (marks_in t.now)
-        n 0 writer.old.state out.old new.old }
-{
-    for i in 0..n {
-        copy_value(region, t, blocks, i, writer, out, new)?;
+    // Writes the tokens from `start` to `end`, up to the first that is refused.
+    fn copy_tokens(
+        &self,
+        start: usize,
+        end: usize,
+        writer: &mut Writer,
+        out: &mut [u8],
+        new: &mut [u32],
+    ) -> Result<(), ErrorKind>
+        requires { start ≤ length self.now.region.now }
+        ensures { wrote result writer.new.state out.new new.new
+            ≡ copy_tokens self.now.region.now (starts_in self.now.words.now) (marks_in self.now.words.now)
+            (heads self.now.region.now end start) writer.old.state out.old new.old }
+    {
+        let mut at = start;
+        while at < end {
+            let Ok(h) = scan::scan(self.region, at, false, Mode::Strict) else {
+                return Ok(());
+            };
+            self.copy_token(at, h, writer, out, new)?;
+            at = h.end;
+        }
+        Ok(())
     }
-    Ok(())
+
+    // Writes value number i if it is marked.
+    fn copy_value(
+        &self,
+        i: usize,
+        writer: &mut Writer,
+        out: &mut [u8],
+        new: &mut [u32],
+    ) -> Result<(), ErrorKind>
+        requires { i < length self.now.words.now }
+        ensures { wrote result writer.new.state out.new new.new ≡ pick (get_or (marks_in self.now.words.now) i false)
+            (copy_tokens self.now.region.now (starts_in self.now.words.now) (marks_in self.now.words.now)
+            (heads_of self.now.region.now (starts_in self.now.words.now) i) writer.old.state out.old new.old)
+            (outcome (ok tt) writer.old.state out.old new.old) }
+    {
+        if prune_marks::is_marked(self.words, i) {
+            let start = prune_marks::start_of(self.words, i);
+            let end = prune_marks::end_of(self.words, i, self.region.len());
+            return self.copy_tokens(start, end, writer, out, new);
+        }
+        Ok(())
+    }
+
+    // Writes the marked ones of the first n values, up to the first call that is refused.
+    pub fn copy_values(
+        &self,
+        n: usize,
+        writer: &mut Writer,
+        out: &mut [u8],
+        new: &mut [u32],
+    ) -> Result<(), ErrorKind>
+        requires { n ≤ length self.now.words.now }
+        ensures { wrote result writer.new.state out.new new.new
+            ≡ copy_values self.now.region.now (starts_in self.now.words.now) (marks_in self.now.words.now)
+            n 0 writer.old.state out.old new.old }
+    {
+        for i in 0..n {
+            self.copy_value(i, writer, out, new)?;
+        }
+        Ok(())
+    }
 }

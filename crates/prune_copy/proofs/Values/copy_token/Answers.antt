@@ -1,7 +1,7 @@
--- `prune_copy::copy_token` meets its contract.
+-- `prune_copy::Values::copy_token` meets its contract.
 use native.Mathlib.Omega.{arith}
 use Rattle.prune_copy.proofs.Laws.{token_copied}
-use Rattle.prune_copy.proofs.copy_token.Goals as goal
+use Rattle.prune_copy.proofs.Values.copy_token.Goals as goal
 
 pub returns : goal.returns
 returns c = search (token_copied, arith)
