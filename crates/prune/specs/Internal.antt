@@ -3,23 +3,27 @@
 --   Row s ss entry     the values of the region s start at ss, and one of them at `entry`
 --   Marked s ss blocks entry t e
 --                      value number e starts at `entry`; the table t keeps the starts ss, marks what that value reaches, and is numbered
+--   Made, made a out table
+--                      an answer, and the output and the table that it comes with
+--   told k r           the answer and the memory after the calls that write the new file left r, if its entry is value number k
 --   Rebuilt s ss entry out table ss' out' table' r
---                      r is the result of writing what the value at `entry` reaches, and its new number; the starts, the output and the table are then
---                      ss', out' and table'
---   settled k r old    the answer and the memory after the calls that write the new file gave r, if its entry is value number k and the old table is `old`
-use Rattle.std.specs.Prelude.{ℕ, ◌<◌, ◌≡◌, true, List, length, take, get_or}
-use Rattle.prelude.specs.Answer.{ok, error}
+--                      r is the answer to writing what the value at `entry` reaches; the starts, the output and the table are then ss', out' and table'
+--   cleared a out old new
+--                      the answer a with the memory that prune leaves: on an error 0 in all of it
+use Rattle.std.specs.Prelude.{ℕ, ◌<◌, ◌≡◌, true, List, Result, length, take, get_or}
+use Rattle.prelude.specs.Answer.{Answer, ok, error}
 use Rattle.prelude.specs.Search.{among, rank, Rising}
 use Rattle.error.specs.Error.{LIMIT}
+use Rattle.error.specs.declared.ErrorKind.{ErrorKind}
 use Rattle.table.specs.Blocks.{Below}
 use Rattle.writer_refusal.specs.Refusal.{Verdict}
-use Rattle.writer.specs.Step.{Result}
-use Rattle.writer.specs.Answers.{wrote}
+use Rattle.writer.specs.Step as step
 use Rattle.prune_marks.specs.Marks.{starts_in, marks_in, kept}
 use Rattle.prune_reach.specs.Reach.{reached}
 use Rattle.prune_copy.specs.Internal.{Ready}
-use Rattle.prune.specs.Prune.{Pruned, pruned, no_fit, refused, new_file}
-use Rattle.prune.specs.declared.Written.{Written}
+use Rattle.prune.specs.Prune.{Refusal, Pruned, pruned, refused, new_file}
+use Rattle.prune.specs.Answers.{file_answer}
+use Rattle.prune.specs.declared.NewFile.{NewFile}
 
 pub record Row (s ss : List ℕ) (entry : ℕ) : Type 0 where
   pub short : length s < LIMIT
@@ -34,14 +38,25 @@ pub record Marked (s ss blocks : List ℕ) (entry : ℕ) (t : List ℕ) (e : ℕ
   pub marks : marks_in t ≡ reached s ss e
   pub ready : Ready t blocks
 
-pub record Rebuilt (s ss : List ℕ) (entry : ℕ) (out table ss' out' table' : List ℕ) (r : Written) : Type 0 where
+pub record Made : Type 0 where
+  pub answer : Answer ℕ (ℕ × ℕ × ℕ)
+  pub out : List ℕ
+  pub table : List ℕ
+
+abbrev pub made : Answer ℕ (ℕ × ℕ × ℕ) → List ℕ → List ℕ → Made
+made a out table = record { answer = a; out = out; table = table }
+
+abbrev pub told_by : Verdict → ℕ → step.Result → Made
+told_by (ok u) k r = made (ok (r.writer.written, r.writer.count, get_or r.table k 0)) r.out r.table
+told_by (error f) k r = made (error f) r.out r.table
+
+abbrev pub told : ℕ → step.Result → Made
+told k r = told_by r.answer k r
+
+pub record Rebuilt (s ss : List ℕ) (entry : ℕ) (out table ss' out' table' : List ℕ) (r : Result NewFile ErrorKind) : Type 0 where
   pub same : ss' ≡ ss
-  pub wrote : wrote r.result r.writer.state out' table' ≡ new_file s ss (rank entry ss) out table
-  pub number : r.number ≡ kept (take (rank entry ss) (reached s ss (rank entry ss)))
+  pub made : made (file_answer r) out' table' ≡ told (kept (take (rank entry ss) (reached s ss (rank entry ss)))) (new_file s ss (rank entry ss) out table)
 
-abbrev pub settled_by : Verdict → ℕ → Result → List ℕ → Pruned
-settled_by (ok u) k r old = pruned (ok (r.writer.written, r.writer.count, get_or r.table k 0)) r.out old r.table
-settled_by (error f) k r old = refused r.out (length old) (length r.table) (no_fit f)
-
-abbrev pub settled : ℕ → Result → List ℕ → Pruned
-settled k r old = settled_by r.answer k r old
+abbrev pub cleared : Answer Refusal (ℕ × ℕ × ℕ) → List ℕ → List ℕ → List ℕ → Pruned
+cleared (ok f) out old new = pruned (ok f) out old new
+cleared (error e) out old new = refused out (length old) (length new) e

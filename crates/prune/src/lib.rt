@@ -1,19 +1,18 @@
 // Prune: the values that a file's entry reaches, as a new file (document 02, W-204).
 #![tactic(auto)]
 
-ghost use Rattle.std.specs.Prelude.{◌≡◌, ◌-◌, ◌*◌, ◌≤◌, ◌<◌, length, take, get_or, replicate};
+ghost use Rattle.std.specs.Prelude.{◌≡◌, suc, ◌-◌, ◌*◌, ◌≤◌, ◌<◌, length, take, get_or, replicate};
 ghost use Rattle.table.specs.Blocks.{BLOCK, Counted, Below};
-ghost use Rattle.error.specs.Error.{LIMIT};
-ghost use Rattle.writer.specs.Answers.{wrote};
-ghost use Rattle.prune_marks.specs.Marks.{starts_in, marks_in};
+ghost use Rattle.writer.specs.Step.{fresh};
+ghost use Rattle.prune_marks.specs.Marks.{starts_in, marks_in, kept};
 ghost use Rattle.prune_copy.specs.Copy.{and_on, copy_values};
-ghost use Rattle.prune_copy.specs.Internal.{Ready};
 ghost use Rattle.prune.specs.Prune.{close_number, pruned, prune_of};
-ghost use Rattle.prune.specs.Answers.{prune_answer};
-ghost use Rattle.prune.specs.Internal.{Row, Marked, Rebuilt, settled};
+ghost use Rattle.prune.specs.Answers.{file_answer, prune_answer};
+ghost use Rattle.prune.specs.Internal.{Row, Marked, Rebuilt, made, told, cleared};
 
 use error::{Error, ErrorKind};
 use leb128::Mode;
+use prune_copy::Values;
 use writer::Writer;
 
 // The new file: its length, how many values it has, and the offset of its entry.
@@ -33,12 +32,26 @@ pub enum PruneError {
     NoFit(ErrorKind),
 }
 
-// The new file's number of its entry, the writer after the last call, and what that returned.
-#[derive(Clone, Copy)]
-struct Written {
-    result: Result<(), ErrorKind>,
-    writer: Writer,
-    number: usize,
+impl From<Error> for PruneError {
+    ghost use Rattle.std.specs.Prelude.{◌≡◌};
+    ghost use Rattle.prune.specs.declared.PruneError.TheVariants.{BadFile};
+
+    ghost from_gives = { λ e f. f ≡ BadFile e };
+
+    fn from(e: Error) -> PruneError {
+        PruneError::BadFile(e)
+    }
+}
+
+impl From<ErrorKind> for PruneError {
+    ghost use Rattle.std.specs.Prelude.{◌≡◌};
+    ghost use Rattle.prune.specs.declared.PruneError.TheVariants.{NoFit};
+
+    ghost from_gives = { λ e f. f ≡ NoFit e };
+
+    fn from(e: ErrorKind) -> PruneError {
+        PruneError::NoFit(e)
+    }
 }
 
 // Word number i of a table; 0 if it has no such word.
@@ -49,26 +62,6 @@ fn word(t: &[u32], i: usize) -> usize
         Some(&word) => word as usize,
         None => 0,
     }
-}
-
-// Writes the marked ones of the first n values, and closes at the value that is then number k.
-fn write_new(
-    region: &[u8],
-    t: &[u32],
-    blocks: &[u32],
-    n: usize,
-    k: usize,
-    writer: &mut Writer,
-    out: &mut [u8],
-    new: &mut [u32],
-) -> Result<(), ErrorKind>
-    requires { (n ≤ length t.now) × (Ready t.now blocks.now) × (Below (length region.now) (starts_in t.now)) × (length region.now < LIMIT) }
-    ensures { wrote result writer.new.state out.new new.new
-        ≡ and_on (copy_values region.now (starts_in t.now) (marks_in t.now) n 0 writer.old.state out.old new.old)
-        (close_number k) }
-{
-    prune_copy::copy_values(region, t, blocks, n, writer, out, new)?;
-    writer.close(word(new, k), out, new)
 }
 
 // Marks what the value that starts at `entry` reaches, of the values that start at `starts`, and numbers the marks; returns the
@@ -84,7 +77,33 @@ fn mark(region: &[u8], starts: &mut [u32], blocks: &[u32], entry: usize) -> usiz
     e
 }
 
+// Writes the marked ones of the values up to number e, and closes at that one.
+fn write_new(
+    values: Values,
+    e: usize,
+    out: &mut [u8],
+    new: &mut [u32],
+) -> Result<NewFile, ErrorKind>
+    requires { e < length values.words.now }
+    ensures { let s = values.entry.region.now in
+        let t = values.entry.words.now in
+        let k = kept (take e (marks_in t)) in
+        made (file_answer result) out.new new.new
+        ≡ told k (and_on (copy_values s (starts_in t) (marks_in t) (suc e) 0 fresh out.old new.old) (close_number k)) }
+{
+    let k = prune_marks::place(values.words, e);
+    let mut writer = Writer::new();
+    values.copy_values(e + 1, &mut writer, out, new)?;
+    writer.close(word(new, k), out, new)?;
+    Ok(NewFile {
+        length: writer.state.written,
+        count: writer.state.count,
+        entry: word(new, k),
+    })
+}
+
 // Writes what the value that starts at `entry` reaches. The words of `starts` are as they were when it returns; `blocks` count them.
+// Parameters and no struct, as in prune_reach: the table is written and given back.
 fn rebuild_by(
     region: &[u8],
     starts: &mut [u32],
@@ -92,21 +111,19 @@ fn rebuild_by(
     entry: usize,
     out: &mut [u8],
     new: &mut [u32],
-) -> Written
+) -> Result<NewFile, ErrorKind>
     requires { (Row region.now starts.old entry) × (Counted blocks.now starts.old) }
-    ensures { Rebuilt region.now starts.old entry out.old new.old
-        starts.new out.new new.new result }
+    ensures { Rebuilt region.now starts.old entry out.old new.old starts.new out.new new.new result }
 {
     let e = mark(region, starts, blocks, entry);
-    let number = prune_marks::place(starts, e);
-    let mut writer = Writer::new();
-    let result = write_new(region, starts, blocks, e + 1, number, &mut writer, out, new);
+    let values = Values {
+        region,
+        words: &*starts,
+        blocks,
+    };
+    let answer = write_new(values, e, out, new);
     prune_marks::unpack(starts);
-    Written {
-        result,
-        writer,
-        number,
-    }
+    answer
 }
 
 // The same, with the blocks to be filled.
@@ -117,26 +134,25 @@ fn rebuild_with(
     entry: usize,
     out: &mut [u8],
     new: &mut [u32],
-) -> Written
+) -> Result<NewFile, ErrorKind>
     requires { (Row region.now starts.old entry) × (Below (length blocks.old * BLOCK) starts.old) }
-    ensures { Rebuilt region.now starts.old entry out.old new.old
-        starts.new out.new new.new result }
+    ensures { Rebuilt region.now starts.old entry out.old new.old starts.new out.new new.new result }
 {
     let known = table::index(starts, blocks);
     rebuild_by(region, starts, &blocks[..known], entry, out, new)
 }
 
 // Writes what the value that starts at `entry` reaches. A short region has few blocks, as in `checker_starts::list_starts`.
+// No function lends blocks to a closure: a proof would know nothing of what the closure leaves in `starts`.
 fn rebuild(
     region: &[u8],
     starts: &mut [u32],
     entry: usize,
     out: &mut [u8],
     new: &mut [u32],
-) -> Written
+) -> Result<NewFile, ErrorKind>
     requires { Row region.now starts.old entry }
-    ensures { Rebuilt region.now starts.old entry out.old new.old
-        starts.new out.new new.new result }
+    ensures { Rebuilt region.now starts.old entry out.old new.old starts.new out.new new.new result }
 {
     if region.len() < table::LONG {
         let mut few = [0u32; table::FEW];
@@ -155,7 +171,7 @@ fn rebuild_file(
     new: &mut [u32],
     count: usize,
     entry: usize,
-) -> Written
+) -> Result<NewFile, ErrorKind>
     requires { (1 ≤ length file.now) × (count ≤ length old.old) × (Row (take (length file.now - 1) file.now) (take count old.old) entry) }
     ensures { (old.new ≡ old.old)
         × (Rebuilt (take (length file.now - 1) file.now) (take count old.old) entry
@@ -166,27 +182,19 @@ fn rebuild_file(
     rebuild(&file[..p], &mut old[..count], entry, out, new)
 }
 
-// The answer; if the new file does not fit, 0 in all memory.
-fn settle(
-    w: Written,
+// Prunes, and leaves memory as it is at the error that decides.
+fn try_prune(
+    file: &[u8],
     out: &mut [u8],
     old: &mut [u32],
     new: &mut [u32],
 ) -> Result<NewFile, PruneError>
-    ensures { pruned (prune_answer result) out.new old.new new.new
-        ≡ settled w.number (wrote w.result w.writer.state out.old new.old) old.old }
+    ensures { cleared (prune_answer result) out.new old.new new.new
+        ≡ prune_of file.now out.old (length old.old) (length new.old) }
 {
-    if let Err(e) = w.result {
-        out.fill(0);
-        old.fill(0);
-        new.fill(0);
-        return Err(PruneError::NoFit(e));
-    }
-    Ok(NewFile {
-        length: w.writer.state.written,
-        count: w.writer.state.count,
-        entry: word(new, w.number),
-    })
+    let found = checker::check(file, old, Mode::Strict)?;
+    let answer = rebuild_file(file, out, old, new, found.count, found.entry)?;
+    Ok(answer)
 }
 
 // Writes into the output a new file with exactly the values of a file that some path from its entry meets, each once and in their old order,
@@ -203,15 +211,12 @@ pub fn prune(
     ensures { pruned (prune_answer result) out.new old.new new.new
         ≡ prune_of file.now out.old (length old.old) (length new.old) }
 {
-    match checker::check(file, old, Mode::Strict) {
-        Ok(found) => {
-            let w = rebuild_file(file, out, old, new, found.count, found.entry);
-            settle(w, out, old, new)
-        }
-        Err(e) => {
-            out.fill(0);
-            new.fill(0);
-            Err(PruneError::BadFile(e))
-        }
+    let answer = try_prune(file, out, old, new);
+    if answer.is_ok() {
+        return answer;
     }
+    out.fill(0);
+    old.fill(0);
+    new.fill(0);
+    answer
 }
