@@ -1,5 +1,5 @@
 -- Laws of items one after the other.
-use Rattle.std.proofs.Common.{◌≡◌, ℕ, zero, suc, ◌+◌, ◌-◌, ◌≤◌, ◌<◌, true, List, refl, arith}
+use Rattle.std.proofs.Common.{◌≡◌, ℕ, suc, ◌+◌, ◌-◌, ◌≤◌, ◌<◌, true, List, arith}
 use Rattle.prelude.specs.Answer.{ok, error, bind}
 use Rattle.error.specs.Error.{Fault}
 use Rattle.leb128.specs.declared.Mode.{Mode}

@@ -1,5 +1,5 @@
 -- Laws of lookup: bytes compared with each other, which decides equality (`same_is`); pairs one after the other.
-use Rattle.std.proofs.Common.{◌≡◌, ◌↔◌, ℕ, zero, suc, ◌+◌, ◌-◌, ◌≤◌, ◌<◌, Bool, true, false, ◌&&◌, List, [], ◌∷◌, refl, ap, eqb, arith}
+use Rattle.std.proofs.Common.{◌≡◌, ◌↔◌, ℕ, suc, ◌+◌, ◌-◌, ◌≤◌, ◌<◌, Bool, true, false, ◌&&◌, List, [], ◌∷◌, refl, ap, eqb, arith}
 use lib.Pointwise.{pointwise, bytes_decides}
 use Rattle.prelude.specs.Pick.{pick}
 use Rattle.prelude.specs.Loop.{Turn, go, stop, follow}
