@@ -9,7 +9,7 @@ use lib.ListN.{length, drop, get_or}
 use borrow.Author.Tests.{ltb-true}
 use Rattle.prelude.specs.Answer.{ok}
 use Rattle.prelude.proofs.Parts.{part_from}
-use Rattle.prelude.proofs.Tests.{le_of_flag, and_l, and_r}
+use Rattle.prelude.proofs.Tests.{and_l, and_r}
 use Rattle.leb128.specs.declared.Mode.{Mode}
 use Rattle.kind.specs.Kind.{rule, immediate}
 use Rattle.kind.specs.declared.Rule.{Rule}
