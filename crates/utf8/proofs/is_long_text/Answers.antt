@@ -1,4 +1,5 @@
 -- `utf8::is_long_text` meets its contract. The invariant: whether the bytes from i on are a text is the answer.
+use mathlib.Core.Path.{◌∙◌}
 use native.Mathlib.Omega.{arith}
 use Rattle.utf8_plain.proofs.Laws.{skip_plain}
 use Rattle.utf8.proofs.Steps.{text_after_plain, plain_next, plain_last}
@@ -16,5 +17,6 @@ loop-i-preserved-then-is_plain_at c =
 -- the last word is plain
 pub returns-then-is_plain_at-2 : goal.returns-then-is_plain_at-2
 returns-then-is_plain_at-2 c =
-    plain_last c.args.s.now c.loop-i.i c.loop-i.invariant.1 (omega arith) (omega arith)
+    c.if-is_plain_at-2.true
+    ∙ plain_last c.args.s.now c.loop-i.i c.loop-i.invariant.1 (omega arith) (omega arith)
     (c.is_plain_at-2.ensures.plain.0 c.if-is_plain_at-2.true)

@@ -1,12 +1,9 @@
--- `utf8::is_text_from` meets its contract. The invariant: whether the bytes from i on are a text is the answer.
-use native.Mathlib.Omega.{arith}
-use Rattle.utf8.proofs.Steps.{character_none, text_all}
+-- `utf8::is_text_from` meets its contract. The invariant: whether the rest is a text is the answer.
+use mathlib.Core.Path.{sym}
+use borrow.Author.Tests.{eqb-true}
+use Rattle.utf8.proofs.Steps.{text_all}
 use Rattle.utf8.proofs.is_text_from.Goals as goal
-
--- no character
-pub returns-then-size-eq0 : goal.returns-then-size-eq0
-returns-then-size-eq0 c = search (character_none, arith)
 
 -- after the last character
 pub returns : goal.returns
-returns c = search (text_all, arith)
+returns c = text_all c.loop-rest.rest.now c.loop-rest.invariant (eqb-true _ _ (sym c.loop-rest-test.ensures))

@@ -1,12 +1,11 @@
--- `utf8::is_text_from` meets its contract. The invariant: whether the bytes from i on are a text is the answer.
+-- `utf8::is_text_from` meets its contract. The invariant: whether the rest is a text is the answer.
 use mathlib.Core.Path.{◌≡◌}
-use Prim.Native.Nat.{◌-◌, ◌≤◌}
 use lib.ListN.{length, drop}
 use Rattle.utf8.specs.Text.{is_text}
 use Rattle.utf8.proofs.is_text_from.Given as goal
 
-abbrev pub invariant-loop-i : goal.invariant-loop-i
-invariant-loop-i l = (l.i ≤ length l.s) × (is_text (drop l.i l.s) ≡ is_text (drop l.from l.s))
+abbrev pub invariant-loop-rest : goal.invariant-loop-rest
+invariant-loop-rest l = is_text l.rest ≡ is_text (drop l.from l.s)
 
-abbrev pub decreases-loop-i : goal.decreases-loop-i
-decreases-loop-i l = length l.s - l.i
+abbrev pub decreases-loop-rest : goal.decreases-loop-rest
+decreases-loop-rest l = length l.rest
