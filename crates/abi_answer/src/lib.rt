@@ -14,6 +14,7 @@ ghost use Rattle.abi_answer.specs.Read.{float_bits, row_of, read_c};
 use checker::Summary;
 use error::Error;
 use leb128::Mode;
+use little_endian::Word;
 use reader_body::Place;
 use reader_follow::Followed;
 use scan::Head;
@@ -83,8 +84,8 @@ fn float_bits(file: &[u8], h: Head) -> u64
 {
     let bytes = &file[h.first..];
     match h.n {
-        0 => little_endian::load4(bytes) as u64,
-        _ => little_endian::load8(bytes),
+        0 => u32::load(bytes) as u64,
+        _ => u64::load(bytes),
     }
 }
 

@@ -1,15 +1,22 @@
 // Numbers as little-endian bytes: the bits of floats (document 01, "Row of a file", the body of kind 3), and words of texts (W-205).
 #![tactic(auto)]
 
-ghost use Rattle.std.specs.Prelude.{◌≡◌, ℕ, ◌≤◌, length, take};
+ghost use Rattle.std.specs.Prelude.{◌≡◌, ℕ, ◌≤◌, List, length, take};
 ghost use Rattle.little_endian.specs.LittleEndian.{little, load};
 
-// A number of some width, and the bytes that hold it, the lowest first. std's `to_le_bytes` gives them.
+// A number of some width, and the bytes that hold it, the lowest first.
 pub trait Word {
+    type Bytes;
+
     // how many bytes
     ghost width: { ℕ };
 
     ghost number: { Self → ℕ };
+
+    ghost list: { Self.Bytes → List ℕ };
+
+    fn bytes(self) -> Self::Bytes
+        ensures { list result ≡ little width (number self) };
 
     // The number that the bytes at the front of s hold; 0 if s is shorter.
     fn load(s: &[u8]) -> Self
@@ -19,9 +26,17 @@ pub trait Word {
 
 // The bits of an f32.
 impl Word for u32 {
+    type Bytes = [u8; 4];
+
     ghost width = { 4 };
 
     ghost number = { λ n. n };
+
+    ghost list = { λ b. b };
+
+    fn bytes(self) -> [u8; 4] {
+        u32::to_le_bytes(self)
+    }
 
     fn load(s: &[u8]) -> u32 {
         match s.first_chunk() {
@@ -33,9 +48,17 @@ impl Word for u32 {
 
 // The bits of an f64, or eight bytes of a text.
 impl Word for u64 {
+    type Bytes = [u8; 8];
+
     ghost width = { 8 };
 
     ghost number = { λ n. n };
+
+    ghost list = { λ b. b };
+
+    fn bytes(self) -> [u8; 8] {
+        u64::to_le_bytes(self)
+    }
 
     fn load(s: &[u8]) -> u64 {
         match s.first_chunk() {
@@ -43,32 +66,4 @@ impl Word for u64 {
             None => 0,
         }
     }
-}
-
-// The bytes of an f32 with these bits.
-pub fn bytes4(single: u32) -> [u8; 4]
-    ensures { result ≡ little 4 single }
-{
-    single.to_le_bytes()
-}
-
-// The bytes of an f64 with these bits.
-pub fn bytes8(double: u64) -> [u8; 8]
-    ensures { result ≡ little 8 double }
-{
-    double.to_le_bytes()
-}
-
-pub fn load4(s: &[u8]) -> u32
-    ensures value { result ≡ load 4 s.now }
-    ensures bytes { 4 ≤ length s.now → little 4 result ≡ take 4 s.now }
-{
-    u32::load(s)
-}
-
-pub fn load8(s: &[u8]) -> u64
-    ensures value { result ≡ load 8 s.now }
-    ensures bytes { 8 ≤ length s.now → little 8 result ≡ take 8 s.now }
-{
-    u64::load(s)
 }

@@ -9,6 +9,7 @@ ghost use Rattle.reader_value.specs.Answers.{read_answer, row_answer};
 
 use error::Error;
 use leb128::Mode;
+use little_endian::Word;
 use scan::Head;
 
 // One value. Items and text bytes are not looked at.
@@ -84,9 +85,9 @@ fn float_of(region: &[u8], h: Head) -> Value
 {
     let body = &region[h.first..];
     if h.n == 0 {
-        Value::Float32(little_endian::load4(body))
+        Value::Float32(u32::load(body))
     } else {
-        Value::Float64(little_endian::load8(body))
+        Value::Float64(u64::load(body))
     }
 }
 

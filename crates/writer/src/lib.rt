@@ -11,6 +11,7 @@ ghost use Rattle.writer.specs.Internal.{ListedTest, ArgumentTest, token_flags_by
 
 use error::ErrorKind;
 use kind::Rule;
+use little_endian::Word;
 use writer_refusal::{CallFlags, State};
 
 // A writer of a file. Output and table are lent to each call; one that is refused leaves writer, output and table as they were.
@@ -336,7 +337,7 @@ impl Writer {
     ) -> Result<(), ErrorKind>
         ensures { wrote result self.new.state out.new starts.new ≡ step (Call.float32 bits) self.old.state out.old starts.old }
     {
-        let body = little_endian::bytes4(bits);
+        let body = bits.bytes();
         self.put(true, kind::KIND_FLOAT, 0, 0, &body, 0, out, starts)
     }
 
@@ -348,7 +349,7 @@ impl Writer {
     ) -> Result<(), ErrorKind>
         ensures { wrote result self.new.state out.new starts.new ≡ step (Call.float64 bits) self.old.state out.old starts.old }
     {
-        let body = little_endian::bytes8(bits);
+        let body = bits.bytes();
         self.put(true, kind::KIND_FLOAT, 1, 0, &body, 0, out, starts)
     }
 
