@@ -2,7 +2,7 @@
 // its kind does not allow is written as it is, and may not read back. `args` matters only for a kind with a second number.
 #![tactic(auto)]
 
-ghost use Rattle.std.specs.Prelude.{◌≡◌, [], ◌+◌, ◌-◌, ◌≤◌, ◌<◌, leb, length, is_some, unwrap_or};
+ghost use Rattle.std.specs.Prelude.{◌≡◌, [], ◌+◌, ◌-◌, ◌≤◌, ◌<◌, leb, length, is_some, unwrap_or, ◌↔◌, IsSome};
 ghost use Rattle.prelude.specs.Bytes.{stored, Put, PutAt};
 ghost use Rattle.kind.specs.Kind.{rule};
 ghost use Rattle.token.specs.Token.{token, put_if, emit, emit_into};
@@ -75,16 +75,17 @@ pub fn put_within(out: &mut [u8], kind: u8, n: u64, second: Option<u64>, body: &
 }
 
 // Writes a token at the front of rest and returns how many bytes that took; if it does not fit, or its kind is over 15,
-// writes nothing and returns 0. The 0 is not a `None`: the contract, which stays, counts the bytes stored.
-pub fn put(rest: &mut [u8], kind: u8, n: u64, args: u64, body: &[u8]) -> usize
-    ensures { stored result rest.new ≡ emit_into (token kind n args body.now) rest.old }
+// writes nothing.
+pub fn put(rest: &mut [u8], kind: u8, n: u64, args: u64, body: &[u8]) -> Option<usize>
+    ensures fits { IsSome result ↔ ((kind < 16) × (length (emit (token kind n args body.now)) ≤ length rest.old)) }
+    ensures stores { stored (unwrap_or result 0) rest.new ≡ emit_into (token kind n args body.now) rest.old }
 {
     if 16 <= kind {
-        return 0;
+        return None;
     }
     if rest.len() < size(kind, n, args, body) {
-        return 0;
+        return None;
     }
     let rule = kind::rule_of(kind);
-    put_within(rest, kind, n, rule.args.then_some(args), body)
+    Some(put_within(rest, kind, n, rule.args.then_some(args), body))
 }

@@ -21,15 +21,15 @@ module _ (t : Token) (d : List ℕ) (k : ℕ) (kind : t.kind < 16) (sized : k �
   unfolding emit_into
   emit_into_put e r h put = rw (lt-ltb t.kind 16 kind) (store_put (emit t) d e r (omega arith) put)
 
-pub returns-then-kind-ge16 : goal.returns-then-kind-ge16
+pub returns-then-kind-ge16-clause-stores : goal.returns-then-kind-ge16-clause-stores
 unfolding emit_into
-returns-then-kind-ge16 c = rw (le-ltb _ _ c.if-kind-ge16.true)
+returns-then-kind-ge16-clause-stores c = rw (le-ltb _ _ c.if-kind-ge16.true)
 
-pub returns-then-rest-size : goal.returns-then-rest-size
-returns-then-rest-size c = search emit_into_none
+pub returns-then-rest-size-clause-stores : goal.returns-then-rest-size-clause-stores
+returns-then-rest-size-clause-stores c = search emit_into_none
 
 pub put_within-requires : goal.put_within-requires
 put_within-requires c = rw (c.then_some.ensures, c.rule_of-rule.ensures, emit_second) (omega arith, is_some_then _ _, omega arith)
 
-pub returns : goal.returns
-returns c = emit_into_put _ _ _ (omega arith) c.size.ensures _ _ c.if-rest-size.false (rw (c.then_some.ensures, c.rule_of-rule.ensures, emit_second) at c.put_within.ensures)
+pub returns-clause-stores : goal.returns-clause-stores
+returns-clause-stores c = emit_into_put _ _ _ (omega arith) c.size.ensures _ _ c.if-rest-size.false (rw (c.then_some.ensures, c.rule_of-rule.ensures, emit_second) at c.put_within.ensures)
