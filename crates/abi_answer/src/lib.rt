@@ -29,6 +29,9 @@ pub fn mode_of(n: u32) -> Mode
     }
 }
 
+// Each answer of two words is turned into them here; `abi_error::answer` is the one function of all. By `Result::map` with a closure no
+// proof of what is returned was found.
+
 // An offset and 0.
 pub fn answer_offset(answer: Result<usize, Error>, out: &mut [u64; 2]) -> u32
     ensures { reply result out.new ≡ offset_c (offset_answer answer) }

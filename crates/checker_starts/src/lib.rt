@@ -20,6 +20,7 @@ fn walk(region: Region, starts: &mut [u32], blocks: &mut [u32]) -> Result<usize,
 {
     let mut at: usize = 0;
     let mut count: usize = 0;
+    // from value to value, by the offsets where they end, and not by an index
     while at < region.bytes.len() {
         // FULL: a new value without a word
         if starts.len() <= count {

@@ -31,7 +31,7 @@ fn depths_to_by(region: Region, starts: &[u32], blocks: &mut [u32], depths: &mut
 }
 
 // Computes the depths of all values into the first words of the table. A short region has few blocks, as in
-// `checker_starts::list_starts`.
+// `checker_starts::list_starts`. No function lends blocks to a closure: a proof would know nothing of what the closure leaves in `depths`.
 fn depths_to(region: Region, starts: &[u32], depths: &mut [u32])
     requires { (length starts.now ≤ length depths.old) × (AreStarts region.bytes.now starts.now) }
     ensures { take (length starts.now) depths.new

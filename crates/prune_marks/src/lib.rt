@@ -36,7 +36,8 @@ pub fn start_of(t: &[u32], i: usize) -> usize
     (t[i] / 256) as usize
 }
 
-// Where value number i ends, in a region of len bytes: where the next one starts; the last one, at the region's end.
+// Where value number i ends, in a region of len bytes: where the next one starts; the last one, at the region's end. `depths_value`
+// has the same of a table whose words are the starts themselves; one function for both would take the start of a word as a closure.
 pub fn end_of(t: &[u32], i: usize, len: usize) -> usize
     requires { i < length t.now }
     ensures { result ≡ get_or (starts_in t.now) (suc i) len }

@@ -59,6 +59,7 @@ fn answer_tokens(rt: &impl Print, region: &[u8]) -> io::Result<()> {
 
 // A lookup of the key that s spells in hex.
 fn answer_lookup(rt: &impl Print, file: &[u8], at: usize, s: &[u8]) -> io::Result<()> {
+    // fixed memory, as in all of the program: it takes no heap
     let mut space = [0u8; 16384];
     let key = parse_hex(s, &mut space);
     print_offset(rt, reader::lookup(file, at, key, Mode::Strict))

@@ -154,6 +154,8 @@ pub extern "C" fn twine_body(file: &[u8], mode: u32, at: usize, out: &mut [u64; 
 }
 
 // ---- the writer's calls: those of `writer::Writer`, on the state that the words stand for
+//
+// Three lines each: one function that takes the call as a closure would be lent the output and the table too, and its use be as long.
 
 #[unsafe(no_mangle)]
 pub extern "C" fn twine_writer_new(state: &mut [u64; 5]) -> u32

@@ -101,6 +101,7 @@ fn pass_characters(s: &[u8], from: usize) -> Option<usize>
     ensures rest { is_text_after result s.now ≡ is_text (drop from s.now) }
 {
     let mut i = from + utf8_plain::plain_before(s, from);
+    // from character to character, by their sizes; the offset is the answer
     while i < s.len() {
         if s[i] < 0x80 {
             i += 1;
@@ -138,6 +139,7 @@ fn is_long_text(s: &[u8]) -> bool
     ensures { result ≡ is_text s.now }
 {
     let mut i = utf8_plain::skip_plain(s);
+    // by words and by characters in turn, so no iterator over one of them
     while 8 <= s.len() - i {
         if utf8_plain::is_plain_at(s, i) {
             i += 8;

@@ -328,7 +328,7 @@ impl Writer {
         self.put(true, sign(value), magnitude(value), 0, b"", 0, out, starts)
     }
 
-    // Takes the bits, which are never computed with.
+    // Takes the bits, which are never computed with. C has a function for each width, `twine_write_float32` and `twine_write_float64`.
     pub fn float32(
         &mut self,
         bits: u32,
