@@ -41,9 +41,6 @@ use Rattle.prune_copy.specs.Internal.{HeadIn}
 pub number_fits : (t : List ℕ) (x i : ℕ) → i ≡ rank x (starts_in t) → i ≤ length t
 number_fits t x i e = omega (arith, rank_fits x t)
 
-pub number_is : (ss : List ℕ) (ms : List Bool) (r i x y : ℕ) → r ≡ kept (take i ms) → i ≡ rank x ss → x ≡ y → r ≡ kept (take (rank y ss) ms)
-number_is ss ms r i x y e is same = rw (is, same) at e
-
 -- ---- one token
 
 -- a token without a target is written the same whatever number it is given
@@ -106,9 +103,6 @@ module _ (s t : List ℕ) (i : ℕ) where
         → r ≡ copy_tokens s (starts_in t) (marks_in t) (heads s end start) w out table → r ≡ value_copied
     unfolding heads_of
     value_is_copied marked start end e₀ e₁ e = rw (← is, marked, ← e₀, ← e₁) e
-
-    pub value_passed : b ≡ false → r ≡ result (ok tt) w out table → r ≡ value_copied
-    value_passed unmarked e = rw (← is, unmarked) e
 
 -- ---- values
 

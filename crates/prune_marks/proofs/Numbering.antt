@@ -165,14 +165,6 @@ place_is t g n r i numbered is some inside e =
     let all : 4 * (g - 1) + 4 ≡ 4 * g = omega arith in
     omega (arith, numbered (g - 1) (omega arith), ap (λ m. kept (take m (marks_in t))) all)
 
--- a mark, taken or not
-pub mark_le : (w : ℕ) (b : Bool) (x : ℕ) → x ≡ pick b 1 0 → w % 2 * x ≤ 1
-mark_le w true x e = rw e (omega arith)
-mark_le w false x e = rw e (omega arith)
-
-pub mark_fits : (w : ℕ) (b : Bool) (x : ℕ) → x ≡ pick b 1 0 → w % 2 * x < 2 ^ 64
-mark_fits w b x e = omega (arith, mark_le w b x e)
-
 -- the marks of four words, without the first r
 module _ (t : List ℕ) (i : ℕ) (inside : i + 4 ≤ length t) where
   abbrev up_to : ℕ → ℕ
