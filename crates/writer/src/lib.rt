@@ -5,7 +5,7 @@ ghost use Rattle.std.specs.Prelude.{◌≡◌, [], ◌+◌, ◌-◌, ◌<◌, �
 ghost use Rattle.prelude.specs.Answer.{ok};
 ghost use Rattle.token.specs.Token.{token};
 ghost use Rattle.writer.specs.Call.{Call};
-ghost use Rattle.writer.specs.Step.{scalar_of, integer_of, start_of, result as outcome, put_token, put_moved, fresh, step};
+ghost use Rattle.writer.specs.Step.{integer_of, start_of, result as outcome, put_token, put_moved, fresh, step};
 ghost use Rattle.writer.specs.Answers.{wrote};
 ghost use Rattle.writer.specs.Internal.{ListedTest, ArgumentTest, token_flags_by, Fits, FitOf, Advanced, WroteDelta, close_near, close_far};
 
@@ -20,11 +20,12 @@ pub struct Writer {
     pub state: State,
 }
 
+// A scalar, with its number.
 #[derive(Clone, Copy)]
 pub enum Scalar {
-    False,
-    True,
-    Null,
+    False = 0,
+    True = 1,
+    Null = 2,
 }
 
 // What `fit` finds about a token that is accepted, before it is written.
@@ -39,17 +40,6 @@ struct Fit {
 }
 
 // ---- what a token holds
-
-// The number of a scalar.
-fn number(value: Scalar) -> u64
-    ensures { result ≡ scalar_of value }
-{
-    match value {
-        Scalar::False => 0,
-        Scalar::True => 1,
-        Scalar::Null => 2,
-    }
-}
 
 // The kind of an integer: 1, or 2 if it is negative.
 fn sign(z: i64) -> u8
@@ -313,7 +303,7 @@ impl Writer {
     ) -> Result<(), ErrorKind>
         ensures { wrote result self.new.state out.new starts.new ≡ step (Call.scalar value) self.old.state out.old starts.old }
     {
-        let n = number(value);
+        let n = value as u64;
         self.put(true, kind::KIND_SCALAR, n, 0, b"", 0, out, starts)
     }
 
