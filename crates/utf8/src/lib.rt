@@ -133,7 +133,8 @@ fn is_text_from(s: &[u8], from: usize) -> bool
 
 // Whether s, of eight bytes or more, is text. Plain bytes are passed by words; if a word has a byte that is not plain,
 // characters are passed, and then words again. If fewer than eight bytes remain, they are among the last eight, the last word: if
-// that is plain, so are they; if not, they are tested character by character.
+// that is plain, so are they; if not, they are tested character by character. A `while`, here and above: a step shows only then how far
+// it goes.
 fn is_long_text(s: &[u8]) -> bool
     requires { 8 ≤ length s.now }
     ensures { result ≡ is_text s.now }
