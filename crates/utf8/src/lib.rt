@@ -158,9 +158,11 @@ fn is_long_text(s: &[u8]) -> bool
 pub fn is_text(s: &[u8]) -> bool
     ensures { result ≡ is_text s.now }
 {
-    match s.len() {
-        8.. => is_long_text(s),
-        4.. if utf8_plain::is_short_plain(s) => true,
-        _ => is_text_from(s, 0),
+    if 8 <= s.len() {
+        return is_long_text(s);
     }
+    if 4 <= s.len() && utf8_plain::is_short_plain(s) {
+        return true;
+    }
+    is_text_from(s, 0)
 }

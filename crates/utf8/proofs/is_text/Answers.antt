@@ -2,5 +2,5 @@
 use Rattle.utf8.proofs.Steps.{plain_all}
 use Rattle.utf8.proofs.is_text.Goals as goal
 
-pub returns-in-4-to-max : goal.returns-in-4-to-max
-returns-in-4-to-max c = plain_all _ (c.is_short_plain.ensures.plain.0 c.if-is_short_plain.true)
+pub returns-then-is_short_plain : goal.returns-then-is_short_plain
+returns-then-is_short_plain c = plain_all _ (c.is_short_plain.ensures.plain.0 c.if-is_short_plain.true)
