@@ -18,9 +18,8 @@ pub fn abi() -> u32
 pub fn spell_error(number: u32, name: &mut [u8; 11]) -> u32
     ensures { reply result name.new ≡ reply 0 (name_c number) }
 {
-    let text = error::name_of(number).as_bytes();
     name.fill(0);
-    name[..text.len()].copy_from_slice(text);
+    emit::copy(name, error::name_of(number).as_bytes());
     0
 }
 

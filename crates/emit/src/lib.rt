@@ -45,13 +45,25 @@ fn put_if(out: &mut [u8], at: usize, number: Option<u64>) -> usize
     }
 }
 
+// Copies a body to the front of rest, which has room for it, and returns its length. By an index: std's `copy_from_slice` would have
+// the library call libc's `memmove`, and it calls `memset` alone (README.md, "Limits").
+pub fn copy(rest: &mut [u8], body: &[u8]) -> usize
+    requires { length body.now ≤ length rest.old }
+    ensures { Put body.now rest.old rest.new result }
+{
+    let mut i: usize = 0;
+    while i < body.len() {
+        rest[i] = body[i];
+        i += 1;
+    }
+    i
+}
+
 fn put_body(out: &mut [u8], at: usize, body: &[u8]) -> usize
     requires { at + length body.now ≤ length out.old }
     ensures { PutAt body.now out.old at out.new result }
 {
-    let end = at + body.len();
-    out[at..end].copy_from_slice(body);
-    end
+    at + copy(&mut out[at..], body)
 }
 
 // Writes the header and its numbers, for which there is room, and returns how many bytes that took. `second`: the second number, if

@@ -19,6 +19,7 @@ pub struct Followed {
 // From pointer to pointer, from `at` of a region to a value of another kind, which is returned with its head. A `loop`, since
 // only the token read says where it goes on.
 #[tactic(auto, using(crate::proofs::Laws::hops))]
+#[inline(always)]
 pub fn follow_from(region: &[u8], at: usize, mode: Mode) -> Result<(Followed, Head), Error>
     ensures { follow_head_answer result ≡ follow_from mode region.now (position at 0) }
 {
@@ -35,6 +36,7 @@ pub fn follow_from(region: &[u8], at: usize, mode: Mode) -> Result<(Followed, He
 
 // The same from an offset of a file.
 #[tactic(auto, using(reader_region::proofs::Laws::regions))]
+#[inline(always)]
 pub fn follow_head(file: &[u8], at: usize, mode: Mode) -> Result<(Followed, Head), Error>
     ensures { follow_head_answer result ≡ follow_head_of mode file.now at }
 {

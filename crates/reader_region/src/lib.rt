@@ -40,6 +40,7 @@ pub fn region_len(len: usize, at: usize) -> Result<usize, Error>
 // The head at `at` of a region, as a query looks at it; as an item's if `inner` is true. Region and mode come apart: this holds
 // for a region of any length, and `scan::Region`, which has the two, is for regions within the limit.
 #[tactic(auto, unfolding(crate::specs::Region::peek_in, prelude::specs::Answer::bind))]
+#[inline(always)]
 pub fn peek_in(region: &[u8], at: usize, inner: bool, mode: Mode) -> Result<Head, Error>
     ensures { scans.answer_of result ≡ peek_in mode inner region.now at }
 {
@@ -57,6 +58,7 @@ pub fn peek_in(region: &[u8], at: usize, inner: bool, mode: Mode) -> Result<Head
 // The head of the value at `at`, with the errors of `read`: its kind and numbers as they are, and where its body or
 // first item starts.
 #[tactic(auto, using(crate::proofs::Laws::regions))]
+#[inline(always)]
 pub fn peek(file: &[u8], at: usize, mode: Mode) -> Result<Head, Error>
     ensures { scans.answer_of result ≡ peek_of mode file.now at }
 {

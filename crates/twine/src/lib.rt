@@ -155,7 +155,8 @@ pub extern "C" fn twine_body(file: &[u8], mode: u32, at: usize, out: &mut [u64; 
 
 // ---- the writer's calls: those of `writer::Writer`, on the state that the words stand for
 //
-// Three lines each: one function that takes the call as a closure would be lent the output and the table too, and its use be as long.
+// Three lines each: a function that takes the call as a closure would have to promise, by values that it does not name, what the closure
+// leaves in the output and the table.
 
 #[unsafe(no_mangle)]
 pub extern "C" fn twine_writer_new(state: &mut [u64; 5]) -> u32

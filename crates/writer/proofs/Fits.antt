@@ -7,9 +7,10 @@ use native.Mathlib.Omega.{arith}
 use lib.Dec.{eqb, ltb, leb}
 use lib.ListN.{length}
 use borrow.Author.Tests.{leb-true, ne_eqb}
-use Rattle.std.specs.Prelude.{Option}
+use Rattle.std.specs.Prelude.{Option, Result, Ok, Err}
 use Rattle.std.specs.Bool.{then_some}
 use Rattle.error.specs.Error.{LIMIT}
+use Rattle.error.specs.declared.ErrorKind.{ErrorKind}
 use Rattle.utf8.specs.Text.{is_text}
 use Rattle.kind.specs.Kind.{rule, pending, due}
 use Rattle.kind.specs.declared.Rule.{Rule}
@@ -20,7 +21,9 @@ use Rattle.writer_refusal.specs.declared.State.{State}
 use Rattle.writer_refusal.specs.declared.CallFlags.{CallFlags}
 use Rattle.writer_refusal.proofs.Refusals.{sound, refusal_same, ok_of_is_ok, refusal_short}
 use Rattle.writer.specs.Step.{opens, bytes_needed, token_flags, token_refusal}
-use Rattle.writer.specs.Internal.{ListedTest, IfElse, ArgumentTest, token_flags_by, Fits}
+use Rattle.writer.specs.Internal.{ListedTest, IfElse, ArgumentTest, token_flags_by, Fits, FitOf}
+use Rattle.writer.specs.Answers.{answer_of}
+use Rattle.writer.specs.declared.Fit.{Fit}
 use Rattle.writer.proofs.Room.{room_limit}
 
 not_four : (k : ℕ) → leb 14 k ≡ true → eqb k 4 ≡ false
@@ -83,3 +86,20 @@ module _ (k n a : ℕ) (b : List ℕ) (x : ℕ) (s : State) (out table : List �
 
     pub refused : may ≡ false → (v : Verdict) → v ≡ refusal_of q true s (length out) (length table) → token_refusal (opens asked) asked x s out table ≡ v
     refused e v k = sym refusal_is ∙ sym (k ∙ refusal_short _ _ s _ _ (sym m ∙ e))
+
+  abbrev fitted : Result (Unit {0}) ErrorKind → Fit → Result Fit ErrorKind
+  fitted (Ok u) f = Ok f
+  fitted (Err e) f = Err e
+
+  -- both at once, by the answer
+  pub fit_is : k < 16 → (answer : Result (Unit {0}) ErrorKind)
+      → answer_of answer ≡ refusal_of q (ltb (room s (length out)) (size + left)) s (length out) (length table)
+      → FitOf asked x s out table (fitted answer (record { second = then_some row.args a; size = size; left = left }))
+  fit_is small (Ok u) f = record {
+    kind = small;
+    accepted = sym refusal_is ∙ sym f;
+    second = rw r refl;
+    size = size_is;
+    left = rw (l, r);
+  }
+  fit_is small (Err e) f = sym refusal_is ∙ sym f

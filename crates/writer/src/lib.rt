@@ -77,6 +77,7 @@ impl Writer {
 
     // Whether a token that names the offset `target` is accepted, and what it takes; or why it is refused. `good`: its text or target
     // is right.
+    #[inline(always)]
     fn fit(
         &self,
         good: bool,
@@ -108,6 +109,7 @@ impl Writer {
     }
 
     // Goes on after a token is written; lists the start of the value if the token finishes it.
+    #[inline(always)]
     fn advance(&mut self, fit: Fit, starts: &mut [u32])
         requires { (start_of self.old.state < 2 ^ 32) × (self.old.state.count < length starts.old) × (self.old.state.written + fit.size < 2 ^ 64) }
         ensures { Advanced fit self.old.state starts.old self.new.state starts.new }
@@ -127,6 +129,7 @@ impl Writer {
     }
 
     // Writes a token that is accepted.
+    #[inline(always)]
     fn write(
         &mut self,
         fit: Fit,
@@ -147,7 +150,9 @@ impl Writer {
         self.advance(fit, starts);
     }
 
-    // Writes or refuses a token that names the offset `target`. `good`: its text or target is right.
+    // Writes or refuses a token that names the offset `target`. `good`: its text or target is right. It is put into each call, in which its
+    // kind is a constant (docs/PERFORMANCE.md).
+    #[inline(always)]
     fn put(
         &mut self,
         good: bool,

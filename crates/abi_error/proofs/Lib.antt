@@ -1,0 +1,2 @@
+-- a name with zeros after it
+mod Names
