@@ -1,5 +1,5 @@
 // The words of a line, and the numbers and bytes that they spell.
-ghost use Rattle.std.specs.Prelude.{◌<◌};
+ghost use Rattle.std.specs.Prelude.{◌≤◌, ◌<◌, length};
 
 // ---- parts of a line
 
@@ -42,7 +42,9 @@ fn parse_digit(b: u8) -> u8
 }
 
 // The bytes that s spells in hex, as many as fit into the space.
-pub(crate) fn parse_hex<'a>(s: &[u8], space: &'a mut [u8]) -> &'a [u8] {
+pub(crate) fn parse_hex<'a>(s: &[u8], space: &'a mut [u8]) -> &'a [u8]
+    ensures { length result.now ≤ length space.old }
+{
     let n = space.len().min(s.len() / 2);
     for (byte, pair) in space.iter_mut().zip(s.chunks_exact(2)) {
         *byte = parse_digit(pair[0]) * 16 + parse_digit(pair[1]);
