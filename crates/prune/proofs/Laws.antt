@@ -4,9 +4,9 @@
 use mathlib.Core.Path.{◌≡◌, refl, sym, ap, ◌∙◌}
 use mathlib.Core.Bool.{Bool, true, false}
 use mathlib.Core.List.{List, ◌++◌}
-use Prim.Native.Nat.{ℕ, suc, ◌+◌, ◌-◌, ◌/◌, ◌^◌, ◌≤◌, ◌<◌}
+use Prim.Native.Nat.{ℕ, suc, ◌-◌, ◌/◌, ◌^◌, ◌≤◌, ◌<◌}
 use native.Mathlib.Omega.{arith}
-use lib.ListN.{length, take, drop, get_or, replicate, length-take, length-replicate, length-map, take-append-drop}
+use lib.ListN.{length, take, drop, get_or, replicate, length-take, length-map, take-append-drop}
 use Rattle.prelude.specs.Answer.{Answer, ok, error}
 use Rattle.prelude.specs.Search.{rank}
 use Rattle.prelude.proofs.Searches.{among_by, rank_at, rising_ge}
@@ -104,14 +104,16 @@ abbrev pub as_pruned : Answer ℕ (ℕ × ℕ × ℕ) → Answer Refusal (ℕ ×
 as_pruned (ok f) = ok f
 as_pruned (error n) = error (no_fit n)
 
+-- the old table after it: 0 on an error
+abbrev pub old_after : Answer ℕ (ℕ × ℕ × ℕ) → List ℕ → List ℕ
+old_after (ok f) t = t
+old_after (error n) t = replicate (length t) 0
+
 module _ (file t : List ℕ) (cap : ℕ) where
   pub file_refused : (f : Fault) → checked (error f) t ≡ check_of Strict file cap → (out u : List ℕ)
       → cleared (error (bad_file f)) out t u ≡ prune_of file out cap (length u)
   unfolding prune_of
-  file_refused f left out u =
-      let e = check-refused Strict file t cap f left in
-      let long : length t ≡ cap = ap length e.1 ∙ length-replicate cap 0 in
-      rw (e.0, long)
+  file_refused f left out u = let e = check-refused Strict file t cap f left in rw (e.0, e.1)
 
   module _ (count entry : ℕ) (left : checked (ok (count, entry)) t ≡ check_of Strict file cap) where
     facts : Found Strict file t cap count entry
@@ -129,7 +131,7 @@ module _ (file t : List ℕ) (cap : ℕ) where
         record { short = rw length-take (omega (arith, f.some, f.short)); rising = f.rising; inside = f.inside; start = f.start }
 
     -- the calls that write the new file leave memory of the same lengths
-    pub file_left : (out : List ℕ) (words : ℕ) (old u out' table' : List ℕ) (a : Result NewFile ErrorKind) → old ≡ t → length out' ≡ length out
+    pub file_left : (out : List ℕ) (words : ℕ) (old u out' table' : List ℕ) (a : Result NewFile ErrorKind) → old ≡ old_after (file_answer a) t → length out' ≡ length out
         → length table' ≡ words → Rebuilt (take (length file - 1) file) (take count t) entry out (replicate words 0) u out' table' a
         → cleared (as_pruned (file_answer a)) out' old table' ≡ prune_of file out cap words
     unfolding prune_of
@@ -139,12 +141,14 @@ module _ (file t : List ℕ) (cap : ℕ) where
             → cleared (as_pruned (file_answer a)) out' old table' ≡ pruned_by out cap words (take count t) k v n
         by_cases (ok z) k n q =
             let reported : file_answer a ≡ ok (n.writer.written, n.writer.count, get_or n.table k 0) = ap (λ (m : Made). m.answer) q in
-            rw (reported, ap (λ (m : Made). m.out) q, ap (λ (m : Made). m.table) q, same, ← facts.table) refl
+            let kept : old ≡ t = rw reported at same in
+            rw (reported, ap (λ (m : Made). m.out) q, ap (λ (m : Made). m.table) q, kept, ← facts.table) refl
         by_cases (error g) k n q =
             let reported : file_answer a ≡ error g = ap (λ (m : Made). m.answer) q in
-            rw (reported, bytes, long, same, facts.long) refl
+            let zeros : old ≡ replicate (length t) 0 = rw reported at same in
+            rw (reported, bytes, long, zeros, facts.long) refl
 
--- b is whether there is no error; on one, memory becomes 0
+-- b is whether there is no error; on one, output and new table become 0
 module _ (b : Bool) (r : Result NewFile PruneError) (is : b ≡ is_ok r) (out old new : List ℕ) (p : Pruned) (left : cleared (prune_answer r) out old new ≡ p) where
   pub memory_left : b ≡ true → pruned (prune_answer r) out old new ≡ p
   memory_left good = by_cases r (sym is ∙ good) left
@@ -153,11 +157,11 @@ module _ (b : Bool) (r : Result NewFile PruneError) (is : b ≡ is_ok r) (out ol
       by_cases (Ok f) e l = l
       by_cases (Err f) e l = cc
 
-  pub memory_cleared : b ≡ false → (o t u : List ℕ) → o ≡ replicate (length out) 0 → t ≡ replicate (length old) 0 → u ≡ replicate (length new) 0
-      → pruned (prune_answer r) o t u ≡ p
-  memory_cleared bad o t u eo et eu = by_cases r (sym is ∙ bad) left
+  pub memory_cleared : b ≡ false → (o u : List ℕ) → o ≡ replicate (length out) 0 → u ≡ replicate (length new) 0
+      → pruned (prune_answer r) o old u ≡ p
+  memory_cleared bad o u eo eu = by_cases r (sym is ∙ bad) left
     where
-      by_cases : (q : Result NewFile PruneError) → is_ok q ≡ false → cleared (prune_answer q) out old new ≡ p → pruned (prune_answer q) o t u ≡ p
+      by_cases : (q : Result NewFile PruneError) → is_ok q ≡ false → cleared (prune_answer q) out old new ≡ p → pruned (prune_answer q) o old u ≡ p
       by_cases (Ok f) e l = cc
-      by_cases (Err (BadFile f)) e l = rw (eo, et, eu) l
-      by_cases (Err (NoFit f)) e l = rw (eo, et, eu) l
+      by_cases (Err (BadFile f)) e l = rw (eo, eu) l
+      by_cases (Err (NoFit f)) e l = rw (eo, eu) l

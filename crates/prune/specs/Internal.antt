@@ -9,8 +9,8 @@
 --   Rebuilt s ss entry out table ss' out' table' r
 --                      r is the answer to writing what the value at `entry` reaches; the starts, the output and the table are then ss', out' and table'
 --   cleared a out old new
---                      the answer a with the memory that prune leaves: on an error 0 in all of it
-use Rattle.std.specs.Prelude.{ℕ, ◌<◌, ◌≡◌, true, List, Result, length, take, get_or}
+--                      the answer a with the memory that prune leaves if `old` is in the old table: on an error 0 in the output and in the new table
+use Rattle.std.specs.Prelude.{ℕ, ◌<◌, ◌≡◌, true, List, Result, length, take, get_or, replicate}
 use Rattle.prelude.specs.Answer.{Answer, ok, error}
 use Rattle.prelude.specs.Search.{among, rank, Rising}
 use Rattle.error.specs.Error.{LIMIT}
@@ -21,7 +21,7 @@ use Rattle.writer.specs.Step as step
 use Rattle.prune_marks.specs.Marks.{starts_in, marks_in, kept}
 use Rattle.prune_reach.specs.Reach.{reached}
 use Rattle.prune_copy.specs.Internal.{Ready}
-use Rattle.prune.specs.Prune.{Refusal, Pruned, pruned, refused, new_file}
+use Rattle.prune.specs.Prune.{Refusal, Pruned, pruned, new_file}
 use Rattle.prune.specs.Answers.{file_answer}
 use Rattle.prune.specs.declared.NewFile.{NewFile}
 
@@ -59,4 +59,4 @@ pub record Rebuilt (s ss : List ℕ) (entry : ℕ) (out table ss' out' table' : 
 
 abbrev pub cleared : Answer Refusal (ℕ × ℕ × ℕ) → List ℕ → List ℕ → List ℕ → Pruned
 cleared (ok f) out old new = pruned (ok f) out old new
-cleared (error e) out old new = refused out (length old) (length new) e
+cleared (error e) out old new = pruned (error e) (replicate (length out) 0) old (replicate (length new) 0)

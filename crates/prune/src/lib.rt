@@ -182,7 +182,7 @@ fn rebuild_file(
     rebuild(&file[..p], &mut old[..count], entry, out, new)
 }
 
-// Prunes, and leaves memory as it is at the error that decides.
+// Prunes, and leaves output and new table as they are at the error that decides; the old table is then 0, which check sees to if it refuses the file.
 fn try_prune(
     file: &[u8],
     out: &mut [u8],
@@ -193,8 +193,13 @@ fn try_prune(
         ≡ prune_of file.now out.old (length old.old) (length new.old) }
 {
     let found = checker::check(file, old, Mode::Strict)?;
-    let answer = rebuild_file(file, out, old, new, found.count, found.entry)?;
-    Ok(answer)
+    match rebuild_file(file, out, old, new, found.count, found.entry) {
+        Ok(made) => Ok(made),
+        Err(e) => {
+            old.fill(0);
+            Err(PruneError::from(e))
+        }
+    }
 }
 
 // Writes into the output a new file with exactly the values of a file that some path from its entry meets, each once and in their old order,
@@ -216,7 +221,6 @@ pub fn prune(
         return answer;
     }
     out.fill(0);
-    old.fill(0);
     new.fill(0);
     answer
 }
